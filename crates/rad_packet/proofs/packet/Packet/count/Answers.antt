@@ -1,0 +1,10 @@
+use Rattle.std.proofs.Common.{arith}
+use Rattle.rad_packet.proofs.AttributeLemmas.{count-size}
+use Rattle.rad_packet.proofs.packet.Packet.count.Goals as goal
+
+pub overflow_add-count : goal.overflow_add-count
+overflow_add-count c =
+    omega (arith, count-size c.args.kind c.args.self.now.attributes, c.loop-attribute.invariant, c.attributes-rest.ensures.packet_fits)
+
+pub returns-clause-bound : goal.returns-clause-bound
+returns-clause-bound c = omega (arith, count-size c.args.kind c.args.self.now.attributes, c.loop-attribute.invariant, c.attributes-rest.ensures.packet_fits)

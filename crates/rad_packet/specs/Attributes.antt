@@ -1,0 +1,65 @@
+-- Attributes (RFC 2865, section 5): Type, Length and Value. An octet is a number below 256, and octets in a row are a
+-- list of them.
+use Rattle.std.specs.Prelude.{◌≡◌, ℕ, zero, suc, ◌+◌, ◌-◌, ◌<◌, ◌≤◌, ◌==◌, ◌||◌, nat_lt, if◌then◌else◌, List, [], ◌∷◌, length, take, drop, Option, Some, None, option_map, unwrap_or, find, count_by}
+use Rattle.std.specs.List.{flat_map, AllByRecursion}
+
+-- An attribute has a Type, which the code calls kind, and a Value.
+pub record Attribute : Type 0 where
+  pub kind : ℕ
+  pub value : List ℕ
+
+-- the most octets that a Value has, since Length counts two more and is one octet
+abbrev pub value_max : ℕ
+value_max = 253
+
+-- a Type of one octet, and a Value that the Length octet can count
+pub record IsAttribute (a : Attribute) : Type 0 where
+  pub kind : a.kind < 256
+  pub value : length a.value ≤ value_max
+
+-- Type, Length, which counts Type and Length too, and Value
+abbrev pub attribute_octets : Attribute → List ℕ
+attribute_octets a = a.kind ∷ (length a.value + 2) ∷ a.value
+
+-- attributes one after the other
+abbrev pub attributes_octets : List Attribute → List ℕ
+attributes_octets list = flat_map attribute_octets list
+
+-- the size of attributes in octets
+abbrev pub size : List Attribute → ℕ
+size list = length (attributes_octets list)
+
+-- The grammar: these octets are these attributes, one after the other, and nothing else.
+pub record AreAttributes (octets : List ℕ) (list : List Attribute) : Type 0 where
+  pub spelled : octets ≡ attributes_octets list
+  pub each : AllByRecursion IsAttribute list
+
+-- The attributes at the front of octets, of which there are at most this many, where they fill the octets.
+unfoldable pub attributes_within : ℕ → List ℕ → Option (List Attribute)
+attributes_within most [] = Some []
+attributes_within zero (kind ∷ rest) = None
+attributes_within (suc most) (kind ∷ []) = None
+attributes_within (suc most) (kind ∷ len ∷ rest) =
+    if nat_lt len 2 || nat_lt (length rest + 2) len then None
+    else option_map (λ list. record { kind = kind; value = take (len - 2) rest } ∷ list) (attributes_within most (drop (len - 2) rest))
+
+-- the attributes that octets are, by the grammar, where they are any
+abbrev pub attributes_of : List ℕ → Option (List Attribute)
+attributes_of octets = attributes_within (length octets) octets
+
+-- The same for octets that are attributes; of other octets it says nothing of use.
+abbrev pub attributes_in : List ℕ → List Attribute
+attributes_in octets = unwrap_or (attributes_of octets) []
+
+-- the Value of the first attribute of a Type
+abbrev pub first_value : ℕ → List Attribute → Option (List ℕ)
+first_value kind list = option_map (λ a. a.value) (find (λ a. a.kind == kind) list)
+
+-- how many attributes of a Type there are
+abbrev pub count : ℕ → List Attribute → ℕ
+count kind list = count_by (λ a. a.kind == kind) list
+
+-- The octets are this attribute and then the attributes that the rest is.
+pub record IsFirst (octets : List ℕ) (a : Attribute) (rest : List ℕ) : Type 0 where
+  pub list : attributes_in octets ≡ a ∷ attributes_in rest
+  pub others : AreAttributes rest (attributes_in rest)

@@ -1,0 +1,4 @@
+pub mod AttributeViews
+pub mod Attributes
+pub mod Bodies
+pub mod Packets

@@ -1,0 +1,107 @@
+//! Attributes: Type, Length and Value. A Type is called `kind` in the code, since `type` is taken.
+ghost use Rattle.std.specs.Prelude.{◌≡◌, [], is_some, MatchOption};
+ghost use Rattle.std.specs.Iterator.{YieldsFirstBy, item_count};
+ghost use Rattle.rad_packet.specs.Attributes.{attributes_of, attributes_in, AreAttributes, IsFirst};
+ghost use Rattle.rad_packet.specs.AttributeViews.{attribute_of};
+
+use std::marker::Model;
+
+/// RFC 2865, section 5.1.
+pub const USER_NAME: u8 = 1;
+
+/// RFC 2865, section 5.2.
+pub const USER_PASSWORD: u8 = 2;
+
+/// RFC 2865, section 5.4.
+pub const NAS_IP_ADDRESS: u8 = 4;
+
+/// RFC 2865, section 5.5.
+pub const NAS_PORT: u8 = 5;
+
+/// RFC 2865, section 5.33.
+pub const PROXY_STATE: u8 = 33;
+
+/// RFC 2866, section 5.1.
+pub const ACCT_STATUS_TYPE: u8 = 40;
+
+/// RFC 3579, section 3.2.
+pub const MESSAGE_AUTHENTICATOR: u8 = 80;
+
+/// The most octets that a Value has.
+pub const VALUE_MAX: usize = 253;
+
+/// One attribute, borrowed from the octets that it stands in.
+#[derive(Clone, Copy, Debug, PartialEq, Eq)]
+pub struct Attribute<'a> {
+    pub kind: u8,
+    pub value: &'a [u8],
+}
+
+/// The attributes that some octets are, in their order. Contracts see the list of those that are left.
+#[derive(Drop)]
+pub struct Attributes<'a> {
+    rest: &'a [u8],
+}
+
+impl<'a> Model for Attributes<'a> {
+    ghost use Rattle.std.specs.Prelude.{List};
+    ghost use Rattle.rad_packet.specs.Attributes.{Attribute, AreAttributes, attributes_in};
+
+    ghost Value = { List Attribute };
+
+    ghost view = { λ s. attributes_in s.rest.now };
+
+    ghost invariant = { λ s. AreAttributes s.rest.now (attributes_in s.rest.now) };
+}
+
+impl<'a> Attributes<'a> {
+    /// The attributes that these octets are.
+    pub(crate) fn of(octets: &'a [u8]) -> Attributes<'a>
+        requires { AreAttributes octets.now (attributes_in octets.now) }
+        ensures { result ≡ attributes_in octets.now }
+    {
+        Attributes { rest: octets }
+    }
+}
+
+impl<'a> Iterator for Attributes<'a> {
+    type Item = Attribute<'a>;
+
+    ghost next_gives = { YieldsFirstBy attribute_of (λ s. s) };
+
+    ghost remaining = { item_count (λ s. s) };
+
+    fn next(&mut self) -> Option<Attribute<'a>> {
+        let (attribute, rest) = split_first(self.rest)?;
+        self.rest = rest;
+        Some(attribute)
+    }
+}
+
+// The first attribute, and the octets of the others.
+fn split_first(octets: &[u8]) -> Option<(Attribute<'_>, &[u8])>
+    requires { AreAttributes octets.now (attributes_in octets.now) }
+    ensures { MatchOption result (attributes_in octets.now ≡ []) (λ parts. IsFirst octets.now (attribute_of parts.0) parts.1.now) }
+{
+    let [kind, len, ..] = octets else {
+        return None;
+    };
+    let (first, rest) = octets.split_at(*len as usize);
+    let (_, value) = first.split_at(2);
+    Some((Attribute { kind: *kind, value }, rest))
+}
+
+/// Whether the octets are attributes, one after the other, and nothing else.
+pub(crate) fn are_attributes(octets: &[u8]) -> bool
+    ensures { result ≡ is_some (attributes_of octets.now) }
+{
+    let mut rest = octets;
+    while let [_, len, ..] = rest {
+        let len = *len as usize;
+        if len < 2 || rest.len() < len {
+            return false;
+        }
+        rest = &rest[len..];
+    }
+    rest.is_empty()
+}

@@ -1,0 +1,85 @@
+//! Bodies: what a packet says before it has an Identifier and an Authenticator.
+ghost use Rattle.std.specs.Prelude.{◌≡◌, [], ◌++◌, ◌≤◌, length, OnOk, OnErr};
+ghost use Rattle.std.specs.List.{AllByRecursion};
+ghost use Rattle.rad_packet.specs.Attributes.{IsAttribute, attribute_octets, attributes_octets, size, value_max};
+ghost use Rattle.rad_packet.specs.Bodies.{with_attribute};
+
+use std::alloc::{AllocError, Global};
+use std::marker::Model;
+
+/// A Code and attributes. Contracts see the attributes as a list; they are kept as they are spelled.
+#[derive(Drop)]
+pub struct Body {
+    code: u8,
+    octets: Vec<u8>,
+}
+
+impl Model for Body {
+    ghost use Rattle.rad_packet.specs.Attributes.{AreAttributes, attributes_in};
+    ghost use Rattle.rad_packet.specs.Bodies.{Body};
+
+    ghost Value = { Body };
+
+    ghost view = { λ b. record { code = b.code; attributes = attributes_in b.octets.items } };
+
+    ghost invariant = { λ b. AreAttributes b.octets.items (attributes_in b.octets.items) };
+}
+
+impl Body {
+    /// A body of this Code with no attribute.
+    pub fn new(alloc: Global, code: u8) -> Body
+        ensures code { result.code ≡ code }
+        ensures attributes { result.attributes ≡ [] }
+    {
+        Body {
+            code,
+            octets: Vec::new(alloc),
+        }
+    }
+
+    /// Appends an attribute.
+    ///
+    /// The Value is at most `VALUE_MAX` octets. Without memory the body is unchanged. Source: RFC 2865, section 5.
+    pub fn push(&mut self, kind: u8, value: &[u8]) -> Result<(), AllocError>
+        requires fits { length value.now ≤ value_max }
+        ensures appended { OnOk result (self.new ≡ with_attribute kind value.now self.old) }
+        ensures unchanged { OnErr result (self.new ≡ self.old) }
+    {
+        append_attribute(&mut self.octets, kind, value)?;
+        Ok(())
+    }
+
+    /// The Code.
+    pub fn code(&self) -> u8
+        ensures { result ≡ self.now.code }
+    {
+        self.code
+    }
+
+    /// The attributes as they are spelled.
+    pub fn attributes_octets(&self) -> &[u8]
+        ensures value { result.now ≡ attributes_octets self.now.attributes }
+        ensures each { AllByRecursion IsAttribute self.now.attributes }
+    {
+        &self.octets
+    }
+
+    /// The size of the attributes in octets.
+    pub fn size(&self) -> usize
+        ensures { result ≡ size self.now.attributes }
+    {
+        self.octets.len()
+    }
+}
+
+// Type, Length and Value behind the octets, which stay as they were where memory is refused.
+fn append_attribute(octets: &mut Vec<u8>, kind: u8, value: &[u8]) -> Result<(), AllocError>
+    requires { length value.now ≤ value_max }
+    ensures appended { OnOk result (octets.new.items ≡ octets.old.items ++ attribute_octets (record { kind = kind; value = value.now })) }
+    ensures unchanged { OnErr result (octets.new.items ≡ octets.old.items) }
+{
+    let len = value.len() + 2;
+    octets.reserve(len)?;
+    octets.extend_from_slice(&[kind, len as u8])?;
+    octets.extend_from_slice(value)
+}

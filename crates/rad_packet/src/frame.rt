@@ -1,0 +1,104 @@
+//! Frames: room for the octets of one packet, and the one place that spells a packet.
+ghost use Rattle.std.specs.Prelude.{◌≡◌, [], ◌∷◌, ◌++◌, ◌+◌, ◌≤◌, ◌↔◌, length, take, IsOk, IfOk, OnOk, OnErr};
+ghost use Rattle.std.specs.Int.{w16, to_be_bytes};
+ghost use Rattle.rad_packet.specs.Packets.{header_size, length_max, packet_length, packet_octets};
+ghost use Rattle.rad_packet.specs.Bodies.{packet_of_body};
+
+use crate::body::Body;
+use crate::packet::{HEADER_SIZE, LENGTH_MAX};
+use std::alloc::{AllocError, Global};
+use std::marker::Model;
+use thiserror::Error;
+
+/// A packet that would be longer than 4,096 octets.
+#[derive(Clone, Copy, Debug, PartialEq, Eq, Error)]
+#[error("a packet of more than 4096 octets")]
+pub struct TooLong;
+
+/// Room for the octets of one packet. Contracts see those of the last packet that was written, and at first none.
+#[derive(Drop)]
+pub struct Frame {
+    room: Vec<u8>,
+    len: usize,
+}
+
+impl Model for Frame {
+    ghost use Rattle.std.specs.Prelude.{◌≡◌, ◌≤◌, ℕ, List, length, take};
+    ghost use Rattle.rad_packet.specs.Packets.{length_max};
+
+    ghost Value = { List ℕ };
+
+    ghost view = { λ f. take f.len f.room.items };
+
+    ghost invariant = { λ f. (f.len ≤ length_max) × (length f.room.items ≡ length_max) };
+}
+
+impl Frame {
+    /// An empty frame, with all the room that a packet may need.
+    pub fn new(alloc: Global) -> Result<Frame, AllocError>
+        ensures { IfOk result (λ frame. frame ≡ []) }
+    {
+        let room = vec![in alloc; 0; LENGTH_MAX]?;
+        Ok(Frame { room, len: 0 })
+    }
+
+    /// The octets of the last packet that was written.
+    pub fn octets(&self) -> &[u8]
+        ensures value { result.now ≡ self.now }
+        ensures fits { length result.now ≤ length_max }
+    {
+        &self.room[..self.len]
+    }
+}
+
+/// Writes the packet that says this body into the frame.
+///
+/// It is refused exactly where the packet would pass 4,096 octets, and then the frame is unchanged.
+/// Source: RFC 2865, section 3.
+pub fn write(
+    body: &Body,
+    identifier: u8,
+    authenticator: &[u8; 16],
+    frame: &mut Frame,
+) -> Result<(), TooLong>
+    ensures fits { IsOk result ↔ (packet_length (packet_of_body body.now identifier authenticator.now) ≤ length_max) }
+    ensures written { OnOk result (frame.new ≡ packet_octets (packet_of_body body.now identifier authenticator.now)) }
+    ensures unchanged { OnErr result (frame.new ≡ frame.old) }
+{
+    if body.size() > LENGTH_MAX - HEADER_SIZE {
+        return Err(TooLong);
+    }
+    let len = HEADER_SIZE + body.size();
+    let [high, low] = (len as u16).to_be_bytes();
+    let header = [body.code(), identifier, high, low];
+    spell(
+        &mut frame.room,
+        &header,
+        authenticator,
+        body.attributes_octets(),
+    );
+    frame.len = len;
+    Ok(())
+}
+
+// The parts one after the other, from the first octet of the room on.
+fn spell(room: &mut [u8], header: &[u8], authenticator: &[u8], attributes: &[u8])
+    requires { length header.now + length authenticator.now + length attributes.now ≤ length room.old }
+    ensures { take (length header.now + length authenticator.now + length attributes.now) room.new
+        ≡ header.now ++ authenticator.now ++ attributes.now }
+{
+    let behind_header = put(room, 0, header);
+    let behind_authenticator = put(room, behind_header, authenticator);
+    put(room, behind_authenticator, attributes);
+}
+
+// Writes a part at a place, and answers the place behind it.
+fn put(room: &mut [u8], at: usize, part: &[u8]) -> usize
+    requires { at + length part.now ≤ length room.old }
+    ensures place { result ≡ at + length part.now }
+    ensures front { take result room.new ≡ take at room.old ++ part.now }
+{
+    let end = at + part.len();
+    room[at..end].copy_from_slice(part);
+    end
+}

@@ -1,0 +1,23 @@
+//! The octets of RADIUS packets (RFC 2865, sections 3 and 5).
+//!
+//! A `Packet` borrows a datagram and is exactly what the grammar of `specs/` says of its octets. A `Body` is a code and
+//! attributes, kept as they are spelled, and `write` puts the one spelling of a body, an Identifier and an Authenticator
+//! into a `Frame`. Attributes are read where they stand, and only `Body::push` and `Frame::new` take memory.
+//!
+//! Others rest on this: `Packet::read` answers the packet that a datagram holds or the first fault, and `write` gives
+//! the packet's octets.
+#![tactic(auto)]
+
+pub mod attribute;
+mod body;
+pub mod code;
+mod frame;
+mod packet;
+
+pub use attribute::{Attribute, Attributes};
+pub use body::Body;
+pub use frame::{Frame, TooLong, write};
+pub use packet::{HEADER_SIZE, LENGTH_MAX, Packet, ReadFault};
+
+#[cfg(test)]
+mod tests;

@@ -1,0 +1,167 @@
+ghost use Rattle.std.specs.Prelude.{◌≡◌, ◌≤◌, length, IfOk, IfErr, option_map};
+ghost use Rattle.std.specs.List.{AllByRecursion};
+ghost use Rattle.rad_packet.specs.Attributes.{IsAttribute, first_value, count};
+ghost use Rattle.rad_packet.specs.Packets.{Packet, packet_of, packet_octets, packet_length, length_field, length_max, IsPacket, IsFault};
+
+use crate::attribute::{Attributes, are_attributes};
+use std::marker::Model;
+use thiserror::Error;
+
+/// The octets of Code, Identifier, Length and Authenticator.
+pub const HEADER_SIZE: usize = 20;
+
+/// The greatest Length of a packet.
+pub const LENGTH_MAX: usize = 4096;
+
+/// Why a datagram holds no packet. The first that applies is told.
+#[derive(Clone, Copy, Debug, PartialEq, Eq, Error)]
+pub enum ReadFault {
+    #[error("a datagram of fewer than 20 octets")]
+    Short,
+    #[error("a Length below 20 or above 4096")]
+    BadLength,
+    #[error("a Length of more octets than came")]
+    Truncated,
+    #[error("octets that are no attributes")]
+    BadAttributes,
+}
+
+/// A packet, borrowed from the datagram that it came in. Contracts see its parts.
+///
+/// ```text
+///  0      1            2       4                    20
+///  +------+------------+--------+--------------------+------------ - -
+///  | Code | Identifier | Length | Authenticator (16) | Attributes
+///  +------+------------+--------+--------------------+------------ - -
+/// ```
+///
+/// Length counts all of these and has its most significant octet first. Source: RFC 2865, section 3.
+#[derive(Drop)]
+pub struct Packet<'a> {
+    octets: &'a [u8],
+}
+
+impl<'a> Model for Packet<'a> {
+    ghost use Rattle.rad_packet.specs.Packets.{Packet, packet_in, IsWhole};
+
+    ghost Value = { Packet };
+
+    ghost view = { λ p. packet_in p.octets.now };
+
+    ghost invariant = { λ p. IsWhole p.octets.now };
+}
+
+impl<'a> Packet<'a> {
+    /// The packet that a datagram holds, or the first fault.
+    ///
+    /// Octets past the packet's Length are padding and are ignored. Source: RFC 2865, section 3.
+    pub fn read(datagram: &'a [u8]) -> Result<Packet<'a>, ReadFault>
+        // What is read stands there, each octet of it.
+        ensures read { IfOk result (IsPacket datagram.now) }
+        // What stands there is read.
+        ensures only { (p : Packet) → IsPacket datagram.now p → result ≡ Ok p }
+        // Which fault it is.
+        ensures refused { IfErr result (IsFault datagram.now) }
+        // The three before as one function, for those that compute with it.
+        ensures exact { result ≡ packet_of datagram.now }
+    {
+        held_by(datagram)
+    }
+
+    /// The Code.
+    pub fn code(&self) -> u8
+        ensures { result ≡ self.now.code }
+    {
+        self.octets[0]
+    }
+
+    /// The Identifier, by which a client tells its requests apart.
+    pub fn identifier(&self) -> u8
+        ensures { result ≡ self.now.identifier }
+    {
+        self.octets[1]
+    }
+
+    /// A copy of the Authenticator.
+    pub fn authenticator(&self) -> [u8; 16]
+        ensures { result ≡ self.now.authenticator }
+    {
+        let field = &self.octets[4..20];
+        let mut authenticator = [0; 16];
+        authenticator.copy_from_slice(field);
+        authenticator
+    }
+
+    /// The octets of the packet, up to its Length.
+    pub fn octets(&self) -> &'a [u8]
+        ensures whole { result.now ≡ packet_octets self.now }
+        ensures packet { IsPacket result.now self.now }
+    {
+        self.octets
+    }
+
+    /// The attributes in their order.
+    pub fn attributes(&self) -> Attributes<'a>
+        ensures list { result ≡ self.now.attributes }
+        ensures each { AllByRecursion IsAttribute self.now.attributes }
+        ensures packet_fits { packet_length self.now ≤ length_max }
+    {
+        Attributes::of(&self.octets[HEADER_SIZE..])
+    }
+
+    /// The Value of the first attribute of a Type.
+    pub fn first(&self, kind: u8) -> Option<&'a [u8]>
+        ensures value { option_map (λ value. value.now) result ≡ first_value kind self.now.attributes }
+    {
+        let mut rest = self.attributes();
+        while let Some(attribute) = rest.next() {
+            if attribute.kind == kind {
+                return Some(attribute.value);
+            }
+        }
+        None
+    }
+
+    /// How many attributes of a Type there are.
+    pub fn count(&self, kind: u8) -> usize
+        ensures value { result ≡ count kind self.now.attributes }
+        ensures bound { result ≤ length_max }
+    {
+        let mut count = 0;
+        let mut rest = self.attributes();
+        while let Some(attribute) = rest.next() {
+            if attribute.kind == kind {
+                count += 1;
+            }
+        }
+        count
+    }
+}
+
+// The Length field.
+fn length_field(datagram: &[u8]) -> usize
+    requires { 4 ≤ length datagram.now }
+    ensures { result ≡ length_field datagram.now }
+{
+    u16::from_be_bytes([datagram[2], datagram[3]]) as usize
+}
+
+fn held_by(datagram: &[u8]) -> Result<Packet<'_>, ReadFault>
+    ensures { result ≡ packet_of datagram.now }
+{
+    if datagram.len() < HEADER_SIZE {
+        return Err(ReadFault::Short);
+    }
+    let len = length_field(datagram);
+    if len < HEADER_SIZE || LENGTH_MAX < len {
+        return Err(ReadFault::BadLength);
+    }
+    if datagram.len() < len {
+        return Err(ReadFault::Truncated);
+    }
+    let octets = &datagram[..len];
+    if !are_attributes(&octets[HEADER_SIZE..]) {
+        return Err(ReadFault::BadAttributes);
+    }
+    Ok(Packet { octets })
+}
