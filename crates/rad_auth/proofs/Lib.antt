@@ -1,0 +1,3 @@
+pub mod ClientRowsLemmas
+pub mod LaneLemmas
+pub mod SumsLemmas

@@ -1,0 +1,24 @@
+-- The clients: the network access servers and proxies that share a secret with the server (RFC 2865, sections 2 and 3).
+-- An address is a number below 2 ^ 32, most significant octet first. A secret is a list of octets, which are numbers
+-- below 256.
+use Rattle.std.specs.Prelude.{ℕ, ◌≤◌, ◌==◌, Bool, false, List, [], length, position, slice_index_or, Option}
+
+pub record Client : Type 0 where
+  pub address : ℕ
+  pub secret : List ℕ
+  pub require_message_authenticator : Bool
+
+-- a secret has 1 to 128 octets
+abbrev pub IsSecret : List ℕ → Type 0
+IsSecret secret = (1 ≤ length secret) × (length secret ≤ 128)
+
+-- the place of the client with this address, counted from 0
+abbrev pub client_at : List Client → ℕ → Option ℕ
+client_at clients source = position (λ client. client.address == source) clients
+
+-- the client at this place, where there is one
+abbrev pub client_of : List Client → ℕ → Client
+client_of clients place = slice_index_or clients place (record { address = 0; secret = []; require_message_authenticator = false })
+
+abbrev pub secret_at : List Client → ℕ → List ℕ
+secret_at clients place = (client_of clients place).secret

@@ -1,0 +1,31 @@
+-- The table of discards: number and name.
+use Rattle.std.specs.Prelude.{ℕ, List, codes}
+use Rattle.rad_packet.specs.declared.packet.ReadFault.{ReadFault}
+use Rattle.rad_packet.specs.declared.packet.ReadFault.TheVariants as fault
+use Rattle.rad_auth.specs.declared.discard.Discard.{Discard}
+use Rattle.rad_auth.specs.declared.discard.Discard.TheVariants.{UnknownClient, Short, BadLength, Truncated, BadAttributes, WrongCode, BadAuthenticator}
+
+abbrev pub discard_number : Discard → ℕ
+discard_number UnknownClient = 1
+discard_number Short = 2
+discard_number BadLength = 3
+discard_number Truncated = 4
+discard_number BadAttributes = 5
+discard_number WrongCode = 6
+discard_number BadAuthenticator = 7
+
+abbrev pub discard_name : Discard → List ℕ
+discard_name UnknownClient = codes "UnknownClient"
+discard_name Short = codes "Short"
+discard_name BadLength = codes "BadLength"
+discard_name Truncated = codes "Truncated"
+discard_name BadAttributes = codes "BadAttributes"
+discard_name WrongCode = codes "WrongCode"
+discard_name BadAuthenticator = codes "BadAuthenticator"
+
+-- a datagram that holds no packet
+abbrev pub discard_of_fault : ReadFault → Discard
+discard_of_fault fault.Short = Short
+discard_of_fault fault.BadLength = BadLength
+discard_of_fault fault.Truncated = Truncated
+discard_of_fault fault.BadAttributes = BadAttributes

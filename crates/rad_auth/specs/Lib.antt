@@ -1,0 +1,11 @@
+pub mod Admission
+pub mod ClientRows
+pub mod Clients
+pub mod Datagrams
+pub mod Discards
+pub mod Sealing
+pub mod Sums
+pub use Rattle.md5.specs.Md5
+pub use Rattle.rad_packet.specs.Attributes
+pub use Rattle.rad_packet.specs.Bodies
+pub use Rattle.rad_packet.specs.Packets

@@ -1,0 +1,34 @@
+//! Datagrams as they arrive, and requests as they are let in.
+
+use rad_packet::Packet;
+
+/// Which of the server's two ports a datagram came to.
+#[derive(Clone, Copy, Debug, PartialEq, Eq)]
+pub enum Door {
+    /// The authentication port (RFC 2865, section 3).
+    Auth,
+    /// The accounting port (RFC 2866, section 3).
+    Acct,
+}
+
+/// A datagram as it arrived.
+#[derive(Clone, Copy, Debug)]
+pub struct Arrival<'a> {
+    /// The source address, most significant octet first.
+    pub source: u32,
+    /// The source port.
+    pub port: u16,
+    pub door: Door,
+    pub octets: &'a [u8],
+}
+
+/// What `check8` lets in: the packet that an arrival holds, and whose it is.
+#[derive(Drop)]
+pub struct Request<'a> {
+    /// The client's place, counted from 0.
+    pub client: u32,
+    pub source: u32,
+    pub port: u16,
+    pub door: Door,
+    pub packet: Packet<'a>,
+}

@@ -1,0 +1,58 @@
+//! Why a datagram is silently discarded.
+ghost use Rattle.std.specs.Prelude.{◌≡◌};
+ghost use Rattle.rad_auth.specs.Discards.{discard_number, discard_name, discard_of_fault};
+
+use rad_packet::ReadFault;
+use thiserror::Error;
+
+/// Why a datagram is silently discarded, in the order in which the checks are made.
+///
+/// Source: RFC 2865, section 3; RFC 2866, section 3.
+#[derive(Clone, Copy, Debug, PartialEq, Eq, Error)]
+pub enum Discard {
+    #[error("the source address is no client's")]
+    UnknownClient,
+    #[error("fewer than 20 octets")]
+    Short,
+    #[error("a Length below 20 or above 4096")]
+    BadLength,
+    #[error("a Length of more octets than came")]
+    Truncated,
+    #[error("octets that are no attributes")]
+    BadAttributes,
+    #[error("a Code that the server's port does not take")]
+    WrongCode,
+    #[error("a wrong Request Authenticator")]
+    BadAuthenticator,
+}
+
+impl Discard {
+    /// The discard's number and name, as they are printed.
+    pub fn label(self) -> (u8, &'static str)
+        ensures number { result.0 ≡ discard_number self }
+        ensures name { result.1.now ≡ discard_name self }
+    {
+        match self {
+            Discard::UnknownClient => (1, "UnknownClient"),
+            Discard::Short => (2, "Short"),
+            Discard::BadLength => (3, "BadLength"),
+            Discard::Truncated => (4, "Truncated"),
+            Discard::BadAttributes => (5, "BadAttributes"),
+            Discard::WrongCode => (6, "WrongCode"),
+            Discard::BadAuthenticator => (7, "BadAuthenticator"),
+        }
+    }
+}
+
+impl From<ReadFault> for Discard {
+    ghost from_gives = { λ fault discard. discard ≡ discard_of_fault fault };
+
+    fn from(fault: ReadFault) -> Discard {
+        match fault {
+            ReadFault::Short => Discard::Short,
+            ReadFault::BadLength => Discard::BadLength,
+            ReadFault::Truncated => Discard::Truncated,
+            ReadFault::BadAttributes => Discard::BadAttributes,
+        }
+    }
+}
