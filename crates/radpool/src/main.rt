@@ -1,0 +1,22 @@
+//! `radpool`: a RADIUS server. Its first command is `replay`, which answers the datagrams of a transcript.
+#![tactic(auto)]
+
+mod answers;
+mod command;
+mod config_fault;
+mod configuration;
+mod datagram_line;
+mod line;
+mod lines;
+mod numbers;
+mod replay;
+mod run_fault;
+mod step;
+#[cfg(test)]
+mod tests;
+
+use std::process::ExitCode;
+
+fn main(rt: HostRuntime) -> ExitCode {
+    command::run(&rt)
+}

@@ -1,0 +1,30 @@
+//! Why a replay ended without an answer to each datagram.
+
+use crate::config_fault::ConfigFault;
+use thiserror::Error;
+
+/// Why a replay ended early. The first four are told in this order, before any datagram is answered.
+#[derive(Clone, Copy, Debug, PartialEq, Eq, Error)]
+pub enum RunFault {
+    /// The reader failed. Nothing was written.
+    #[error("read failed")]
+    Read,
+    /// The input has more than 16,777,216 octets. Nothing was written.
+    #[error("input too long")]
+    TooLong,
+    /// No line is `---`. Nothing was written.
+    #[error("no divider")]
+    NoDivider,
+    /// The configuration has a fault. Nothing was written.
+    #[error(transparent)]
+    Config(ConfigFault),
+    /// The datagram line with this number, counted from 1, is malformed. The lines before it were answered.
+    #[error("datagram {0} is malformed")]
+    BadLine(u64),
+    /// The writer failed.
+    #[error("write failed")]
+    Write,
+    /// Memory was refused. Nothing was written.
+    #[error("out of memory")]
+    NoMemory,
+}

@@ -1,0 +1,312 @@
+//! Whole replays, over memory. The digests of requests and replies were made with Python's `hashlib`.
+
+use crate::replay::run_replay;
+use crate::run_fault::RunFault;
+use std::alloc::AllocError;
+use std::io;
+use std::io::{Read, Write};
+use std::process::Abort;
+use std::test::Fail;
+
+/// The configuration of one client, and the divider.
+const GATEWAY: &str = "[[client]]\naddress = \"192.168.1.16\"\nsecret = \"xyzzy5461\"\n---\n";
+
+/// Lines that are dropped, and what is written of them.
+const DROPS: &str = "0 acct 192.168.1.17:1813 -\n\
+    1 acct 192.168.1.16:1813 -\n\
+    2 acct 192.168.1.16:1813 0401001300000000000000000000000000000000\n\
+    3 acct 192.168.1.16:1813 0401001500000000000000000000000000000000\n\
+    4 acct 192.168.1.16:1813 04010016000000000000000000000000000000002801\n\
+    5 acct 192.168.1.16:1813 0501001400000000000000000000000000000000\n\
+    6 acct 192.168.1.16:1813 0401001400000000000000000000000000000000\n";
+
+const DROPPED: &str = "1 drop 1 UnknownClient\n\
+    2 drop 2 Short\n\
+    3 drop 3 BadLength\n\
+    4 drop 4 Truncated\n\
+    5 drop 5 BadAttributes\n\
+    6 drop 6 WrongCode\n\
+    7 drop 7 BadAuthenticator\n";
+
+/// An Accounting-Request of a session that starts, and its reply after the number.
+const START: &str = "7 acct 192.168.1.16:1813 0407001abf750299ba7111cf8a9def2b872d436c280600000001";
+
+const START_REPLY: &str = "reply 05070014171dc47bc90b494526cf68253bd9b4a6\n";
+
+/// The same with another identifier.
+const SECOND: &str =
+    "8 acct 192.168.1.16:1813 0408001a802f67230e8d14f111df95bb989900dc280600000001";
+
+const SECOND_REPLY: &str = "reply 05080014576aca8c7b82c2db85974d82010e671e\n";
+
+/// With a Proxy-State, which comes back.
+const PROXIED: &str =
+    "9 acct 192.168.1.16:1813 0407001f82effceaf7aaf54543e76ee4589ad7222806000000012105616263";
+
+const PROXIED_REPLY: &str = "reply 050700193d7246dea2efa4d3b195ea044217c61d2105616263\n";
+
+/// With two Proxy-States among other attributes.
+const TWICE_PROXIED: &str =
+    "9 acct 192.168.1.16:1813 04070028a401e3215d0229e0a78a10692190b81221047a7a28060000000121056162630105626f62";
+
+const TWICE_PROXIED_REPLY: &str =
+    "reply 0507001d209fd420d5d1d9450e5c22444667f9b421047a7a2105616263\n";
+
+/// A transcript in parts, the parts that a replay of it writes, and the printed fault that ends it, or nothing.
+#[derive(Drop)]
+struct Scenario<'a> {
+    name: &'a str,
+    input: &'a [&'a str],
+    output: &'a [&'a str],
+    fault: &'a str,
+}
+
+/// The printed fault, or nothing.
+fn printed(rt: &impl AllocGlobal, ended: Result<(), RunFault>) -> Result<String, AllocError> {
+    match ended {
+        Ok(()) => Ok(String::new(rt.alloc())),
+        Err(fault) => fault.to_string(rt.alloc()),
+    }
+}
+
+#[test]
+fn scenarios(rt: HostRuntime) -> Result<(), Fail> {
+    let scenarios = [
+        Scenario {
+            name: "each way to be dropped",
+            input: &[GATEWAY, DROPS],
+            output: &[DROPPED],
+            fault: "",
+        },
+        Scenario {
+            name: "a stranger, where no client is configured",
+            input: &["---\n", START],
+            output: &["1 drop 1 UnknownClient\n"],
+            fault: "",
+        },
+        Scenario {
+            name: "two replies with a drop between them",
+            input: &[GATEWAY, START, "\n0 acct 1.2.3.4:5 -\n", SECOND, "\n"],
+            output: &[
+                "1 ",
+                START_REPLY,
+                "2 drop 1 UnknownClient\n3 ",
+                SECOND_REPLY,
+            ],
+            fault: "",
+        },
+        Scenario {
+            name: "a Proxy-State",
+            input: &[GATEWAY, PROXIED, "\n"],
+            output: &["1 ", PROXIED_REPLY],
+            fault: "",
+        },
+        Scenario {
+            name: "two Proxy-States",
+            input: &[GATEWAY, TWICE_PROXIED, "\n"],
+            output: &["1 ", TWICE_PROXIED_REPLY],
+            fault: "",
+        },
+        Scenario {
+            name: "a malformed line after a good one",
+            input: &[GATEWAY, START, "\nx\n", SECOND, "\n"],
+            output: &["1 ", START_REPLY],
+            fault: "datagram 2 is malformed",
+        },
+        Scenario {
+            name: "a second divider",
+            input: &[GATEWAY, "---\n", START, "\n"],
+            output: &[],
+            fault: "datagram 1 is malformed",
+        },
+        Scenario {
+            name: "skipped lines",
+            input: &[
+                GATEWAY,
+                "# x\n\n#\n",
+                START,
+                "\n\n",
+                SECOND,
+                "\n#",
+                START,
+                "\nx\n",
+            ],
+            output: &["1 ", START_REPLY, "2 ", SECOND_REPLY],
+            fault: "datagram 3 is malformed",
+        },
+        Scenario {
+            name: "line ends with carriage returns",
+            input: &[
+                "[[client]]\r\naddress = \"192.168.1.16\"\r\nsecret = \"xyzzy5461\"\r\n---\r\n\r\n#\r\n",
+                START,
+                "\r\n",
+                SECOND,
+                "\r\n",
+            ],
+            output: &["1 ", START_REPLY, "2 ", SECOND_REPLY],
+            fault: "",
+        },
+        Scenario {
+            name: "no line feed at the end",
+            input: &[GATEWAY, START],
+            output: &["1 ", START_REPLY],
+            fault: "",
+        },
+        Scenario {
+            name: "no datagrams",
+            input: &[GATEWAY],
+            output: &[],
+            fault: "",
+        },
+        Scenario {
+            name: "a divider alone",
+            input: &["---"],
+            output: &[],
+            fault: "",
+        },
+        Scenario {
+            name: "nothing",
+            input: &[],
+            output: &[],
+            fault: "no divider",
+        },
+        Scenario {
+            name: "no divider below a faulty configuration",
+            input: &["client = 3\n----\n", START],
+            output: &[],
+            fault: "no divider",
+        },
+        Scenario {
+            name: "a client without a secret, and a malformed line",
+            input: &["[[client]]\naddress = \"192.168.1.16\"\n---\nx\n"],
+            output: &[],
+            fault: "config fault 2 Missing at client 1 secret",
+        },
+        Scenario {
+            name: "a text that ends at the divider",
+            input: &["# \"\"\"\nname = \"\"\"\n---\n\"\"\"\n---\n", START],
+            output: &[],
+            fault: "config fault 1 Syntax",
+        },
+    ];
+    for scenario in scenarios {
+        let name = scenario.name;
+        let input = scenario.input.concat(rt.alloc())?;
+        let expected = scenario.output.concat(rt.alloc())?;
+        let mut output = Vec::new(rt.alloc());
+        let result = run_replay(rt.alloc(), &mut input.as_bytes(), &mut output);
+        let fault = printed(&rt, result)?;
+        assert_eq!(rt; fault.as_str(), scenario.fault, "at {name}");
+        assert_eq!(rt; output.as_slice(), expected.as_bytes(), "at {name}");
+    }
+    Ok(())
+}
+
+/// A transcript of so many octets: a request and a comment.
+fn commented(rt: &(impl Abort + AllocGlobal), len: usize) -> Result<Vec<u8>, Fail> {
+    let head = [GATEWAY, START, "\n"].concat(rt.alloc())?;
+    let mut text = vec![in rt.alloc(); b'#'; len]?;
+    assert!(rt; head.len() <= text.len());
+    text[..head.len()].copy_from_slice(head.as_bytes());
+    Ok(text)
+}
+
+#[test]
+fn the_longest_input(rt: HostRuntime) -> Result<(), Fail> {
+    let expected = ["1 ", START_REPLY].concat(rt.alloc())?;
+    let mut text = commented(&rt, 16_777_216)?;
+    let mut output = Vec::new(rt.alloc());
+    let result = run_replay(rt.alloc(), &mut text.as_slice(), &mut output);
+    assert_eq!(rt; printed(&rt, result)?.as_str(), "");
+    assert_eq!(rt; output.as_slice(), expected.as_bytes());
+
+    text.push(b'#')?;
+    let mut output = Vec::new(rt.alloc());
+    let result = run_replay(rt.alloc(), &mut text.as_slice(), &mut output);
+    assert_eq!(rt; printed(&rt, result)?.as_str(), "input too long");
+    assert!(rt; output.is_empty());
+    Ok(())
+}
+
+/// Moves at most `step` octets a call, and fails once `calls` calls were made.
+#[derive(Drop)]
+struct Halting<T> {
+    inner: T,
+    step: usize,
+    calls: usize,
+}
+
+impl<T> Halting<T> {
+    /// How many of so many octets the next call moves.
+    fn share(&mut self, len: usize) -> io::Result<usize> {
+        let Some(calls) = self.calls.checked_sub(1) else {
+            return Err(io::Error::from(io::ErrorKind::ConnectionReset));
+        };
+        self.calls = calls;
+        Ok(len.min(self.step))
+    }
+}
+
+impl<T: Read> Read for Halting<T> {
+    fn read(&mut self, buf: &mut [u8]) -> io::Result<usize> {
+        let share = self.share(buf.len())?.min(buf.len());
+        self.inner.read(&mut buf[..share])
+    }
+}
+
+impl<T: Write> Write for Halting<T> {
+    fn write(&mut self, buf: &[u8]) -> io::Result<usize> {
+        let share = self.share(buf.len())?.min(buf.len());
+        self.inner.write(&buf[..share])
+    }
+
+    fn flush(&mut self) -> io::Result<()> {
+        Ok(())
+    }
+}
+
+#[test]
+fn readers_and_writers_that_halt(rt: HostRuntime) -> Result<(), Fail> {
+    let input = [GATEWAY, START, "\n", SECOND, "\n"].concat(rt.alloc())?;
+    let first = ["1 ", START_REPLY].concat(rt.alloc())?;
+    let both = ["1 ", START_REPLY, "2 ", SECOND_REPLY].concat(rt.alloc())?;
+
+    // One octet a call, on both sides.
+    let mut reader = Halting {
+        inner: input.as_bytes(),
+        step: 1,
+        calls: usize::MAX,
+    };
+    let mut writer = Halting {
+        inner: Vec::new(rt.alloc()),
+        step: 1,
+        calls: usize::MAX,
+    };
+    let result = run_replay(rt.alloc(), &mut reader, &mut writer);
+    assert_eq!(rt; printed(&rt, result)?.as_str(), "");
+    assert_eq!(rt; writer.inner.as_slice(), both.as_bytes());
+
+    // A second read that fails, in the middle of the input and in the place of its end.
+    for step in [100, usize::MAX] {
+        let mut reader = Halting {
+            inner: input.as_bytes(),
+            step,
+            calls: 1,
+        };
+        let mut output = Vec::new(rt.alloc());
+        let result = run_replay(rt.alloc(), &mut reader, &mut output);
+        assert_eq!(rt; printed(&rt, result)?.as_str(), "read failed", "at {step}");
+        assert!(rt; output.is_empty());
+    }
+
+    // A second write that fails.
+    let mut writer = Halting {
+        inner: Vec::new(rt.alloc()),
+        step: usize::MAX,
+        calls: 1,
+    };
+    let result = run_replay(rt.alloc(), &mut input.as_bytes(), &mut writer);
+    assert_eq!(rt; printed(&rt, result)?.as_str(), "write failed");
+    assert_eq!(rt; writer.inner.as_slice(), first.as_bytes());
+    Ok(())
+}
