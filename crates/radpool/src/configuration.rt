@@ -1,5 +1,4 @@
 //! The clients that a configuration text names.
-
 ghost use Rattle.std.specs.Prelude.{◌≡◌, ◌<◌, ◌≤◌, [], false, length, IfOk};
 ghost use Rattle.toml.specs.Data.{get_member};
 ghost use Rattle.toml.specs.View.{view, items_view, table_view};
@@ -18,7 +17,7 @@ const MOST_CLIENTS: usize = 256;
 /// The most octets that a secret has.
 const LONGEST_SECRET: usize = 128;
 
-/// A key of the client that stands at this place.
+// A key of the client that stands at this place.
 fn client_spot(index: u32, key: Key) -> Spot
     ensures { result ≡ client_spot index key }
 {
@@ -29,14 +28,14 @@ fn client_spot(index: u32, key: Key) -> Spot
     }
 }
 
-/// The value at a key of a table.
+// The value at a key of a table.
 fn value_at<'a>(table: &'a Table, key: &str) -> Option<&'a Value>
     ensures { data_of result ≡ get_member key.now (table_view table.now) }
 {
     table.get(key)
 }
 
-/// The `address` of a client.
+// The `address` of a client.
 fn address_in(index: u32, earlier: &Clients, value: Option<&Value>) -> Result<u32, ConfigFault>
     ensures { Gives (λ address. address) result (address_in index earlier.now (data_of value.entry)) }
 {
@@ -50,7 +49,7 @@ fn address_in(index: u32, earlier: &Clients, value: Option<&Value>) -> Result<u3
     Ok(address)
 }
 
-/// The `secret` of a client.
+// The `secret` of a client.
 fn secret_in(index: u32, value: Option<&Value>) -> Result<&[u8], ConfigFault>
     ensures read { Gives (λ secret. secret.now) result (secret_in index (data_of value.entry)) }
     ensures is_secret { IfOk result (λ secret. IsSecret secret.now) }
@@ -67,7 +66,7 @@ fn secret_in(index: u32, value: Option<&Value>) -> Result<&[u8], ConfigFault>
     Ok(secret)
 }
 
-/// The address and the secret of an entry.
+// The address and the secret of an entry.
 #[tactic(auto, unfolding(crate::specs::Configuration::client_in))]
 fn client_in<'a>(
     index: u32,
@@ -89,7 +88,7 @@ fn client_in<'a>(
     Ok((address, secret))
 }
 
-/// The clients that the entries are.
+// The clients that the entries are.
 fn clients_from(alloc: Global, entries: &[Value]) -> Result<Clients, ConfigFault>
     requires { length entries.now ≤ 256 }
     ensures { Gives (λ clients. clients) result (clients_from 1 [] (items_view entries.now)) }
@@ -105,7 +104,7 @@ fn clients_from(alloc: Global, entries: &[Value]) -> Result<Clients, ConfigFault
     Ok(clients)
 }
 
-/// The clients of the key `client`.
+// The clients of the key `client`.
 #[tactic(auto, unfolding(crate::specs::Configuration::clients_in))]
 fn clients_in(alloc: Global, list: Option<&Value>) -> Result<Clients, ConfigFault>
     ensures { Gives (λ clients. clients) result (clients_in (data_of list.entry)) }
@@ -122,7 +121,7 @@ fn clients_in(alloc: Global, list: Option<&Value>) -> Result<Clients, ConfigFaul
     clients_from(alloc, entries)
 }
 
-/// The document that the text is.
+// The document that the text is.
 fn document(alloc: Global, text: &[u8]) -> Result<Table, ConfigFault>
     ensures { Gives (λ table. table_view table) result (document_read text.now) }
 {

@@ -1,5 +1,4 @@
 //! A datagram line of a transcript: `MOMENT DOOR ADDRESS:PORT OCTETS`.
-
 ghost use Rattle.std.specs.Prelude.{◌≡◌, ◌≤◌, ◌^◌, length, take, None, MatchOption, IfSome};
 ghost use Rattle.radpool.specs.DatagramLines.{moment_of, port_of, door_of, octets_of, timed_datagram_of};
 ghost use Rattle.radpool.specs.ReadLines.{timed_datagram};
@@ -23,7 +22,7 @@ pub struct DatagramLine {
 /// The most hexadecimal digits of a datagram, two for each of 4,096 octets.
 const MOST_DIGITS: usize = 8192;
 
-/// The moment that up to 19 decimal digits spell, in milliseconds.
+// The moment that up to 19 decimal digits spell, in milliseconds.
 #[tactic(auto, unfolding(crate::specs::DatagramLines::moment_of))]
 fn moment(text: &[u8]) -> Option<u64>
     ensures { result ≡ moment_of text.now }
@@ -31,7 +30,7 @@ fn moment(text: &[u8]) -> Option<u64>
     number(text, 19, 1 << 62)
 }
 
-/// The port that up to five decimal digits spell.
+// The port that up to five decimal digits spell.
 #[tactic(auto, unfolding(crate::specs::DatagramLines::port_of))]
 fn port(text: &[u8]) -> Option<u16>
     ensures { result ≡ port_of text.now }
@@ -39,7 +38,7 @@ fn port(text: &[u8]) -> Option<u16>
     Some(number(text, 5, 65535)? as u16)
 }
 
-/// The door that a word names.
+// The door that a word names.
 #[tactic(auto, unfolding(crate::specs::DatagramLines::door_of))]
 fn door(text: &[u8]) -> Option<Door>
     ensures { result ≡ door_of text.now }
@@ -53,7 +52,7 @@ fn door(text: &[u8]) -> Option<Door>
     }
 }
 
-/// Decodes hexadecimal digits into the front of `octets`, and says how many octets they are.
+// Decodes hexadecimal digits into the front of `octets`, and says how many octets they are.
 #[tactic(auto, unfolding(crate::specs::DatagramLines::octets_of))]
 fn decode_octets(text: &[u8], octets: &mut [u8]) -> Option<usize>
     requires { length octets.old ≡ 4096 }

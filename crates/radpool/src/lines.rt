@@ -1,5 +1,4 @@
 //! The lines of a transcript: a configuration, a line `---`, and a line for each datagram.
-
 ghost use Rattle.std.specs.Prelude.{◌≡◌, ℕ, List, [], None, MatchOption};
 ghost use Rattle.std.specs.Iterator.{YieldsFirstRef, item_count};
 ghost use Rattle.radpool.specs.Lines.{IsFirstLine, Divides, lines_of, without_return, is_divider, divided, is_skipped, datagram_lines};
@@ -7,7 +6,7 @@ ghost use Rattle.radpool.specs.Lines.{IsFirstLine, Divides, lines_of, without_re
 use crate::numbers::parted;
 use std::marker::Model;
 
-/// The first line of a text, without its line feed, and the text after it.
+// The first line of a text, without its line feed, and the text after it.
 fn next_line(text: &[u8]) -> Option<(&[u8], &[u8])>
     ensures { MatchOption result (text.now ≡ []) (λ parts. IsFirstLine text.now parts.0.now parts.1.now) }
 {
@@ -17,21 +16,21 @@ fn next_line(text: &[u8]) -> Option<(&[u8], &[u8])>
     parted(text, b'\n').or(Some((text, &[])))
 }
 
-/// A line without the carriage return at its end.
+// A line without the carriage return at its end.
 fn without_return(line: &[u8]) -> &[u8]
     ensures { result.now ≡ without_return line.now }
 {
     line.strip_suffix(b"\r").unwrap_or(line)
 }
 
-/// Whether a line parts the configuration from the datagrams.
+// Whether a line parts the configuration from the datagrams.
 fn is_divider(line: &[u8]) -> bool
     ensures { result ≡ is_divider line.now }
 {
     without_return(line) == b"---".as_slice()
 }
 
-/// Whether a line is empty or a comment.
+// Whether a line is empty or a comment.
 fn is_skipped(line: &[u8]) -> bool
     ensures { result ≡ is_skipped line.now }
 {

@@ -1,9 +1,8 @@
 //! Texts in parts, and the numbers and addresses that they spell.
-
 ghost use Rattle.std.specs.Prelude.{◌≡◌, ◌≤◌, ◌==◌, length, position, option_map};
 ghost use Rattle.radpool.specs.DatagramLines.{parted, digit_of, digits_from, number_of, has_leading_zero, address_part_of, address_of};
 
-/// Where the first such octet stands.
+// Where the first such octet stands.
 fn place(text: &[u8], separator: u8) -> Option<usize>
     ensures { result ≡ position (λ octet. octet == separator) text.now }
 {
@@ -18,7 +17,7 @@ pub fn parted(text: &[u8], separator: u8) -> Option<(&[u8], &[u8])>
     Some((&text[..end], &text[end + 1..]))
 }
 
-/// The value of a decimal digit.
+// The value of a decimal digit.
 fn digit(octet: u8) -> Option<u64>
     ensures { result ≡ digit_of octet }
 {
@@ -28,7 +27,7 @@ fn digit(octet: u8) -> Option<u64>
     }
 }
 
-/// The number that decimal digits spell.
+// The number that decimal digits spell.
 fn digits(text: &[u8]) -> Option<u64>
     requires { length text.now ≤ 19 }
     ensures { result ≡ digits_from 0 text.now }
@@ -52,7 +51,7 @@ pub fn number(text: &[u8], most_digits: usize, greatest: u64) -> Option<u64>
     digits(text).filter(|number| *number <= greatest)
 }
 
-/// One of the four numbers of an address.
+// One of the four numbers of an address.
 #[tactic(auto, unfolding(crate::specs::DatagramLines::address_part_of))]
 fn address_part(text: &[u8]) -> Option<u8>
     ensures { result ≡ address_part_of text.now }
