@@ -1,6 +1,7 @@
 //! The command line.
 
 use crate::replay::run_replay;
+use crate::run_fault::RunFault;
 use std::process::ExitCode;
 use std::rt::Env;
 use std::{env, fmt, io};
@@ -11,17 +12,25 @@ const INPUT_FAULT: u8 = 1;
 /// The status after a fault of the command line.
 const COMMAND_FAULT: u8 = 2;
 
+/// What is said of words that are no command.
+const UNKNOWN_COMMAND: &str = "unknown command";
+
 /// Does what the words after the program's name say, and answers the exit status.
 pub fn run<R: Env + Input + Print + Eprint + AllocGlobal>(rt: &R) -> ExitCode {
-    let Ok(mut words) = env::args(rt) else {
-        return fail(rt, "out of memory", INPUT_FAULT);
+    let mut words = match env::args(rt) {
+        Ok(words) => words,
+        Err(error) if error.kind() == io::ErrorKind::OutOfMemory => {
+            return fail(rt, RunFault::NoMemory, INPUT_FAULT);
+        }
+        // A word that isn't UTF-8.
+        Err(_) => return fail(rt, UNKNOWN_COMMAND, COMMAND_FAULT),
     };
     let _program = words.next();
     let is_replay = words.next().is_some_and(|word| word.as_str() == "replay");
     if is_replay && words.next().is_none() {
         replay(rt)
     } else {
-        fail(rt, "unknown command", COMMAND_FAULT)
+        fail(rt, UNKNOWN_COMMAND, COMMAND_FAULT)
     }
 }
 
