@@ -3,7 +3,7 @@ use Rattle.std.proofs.Common.{◌≡◌, ℕ, ◌==◌, ◌<◌, Bool, not, List
 use Rattle.std.specs.List.{position, prefix_len}
 use Rattle.std.proofs.lemmas.List.{length-map, get_or-map}
 use Rattle.rad_auth.specs.Clients.{client_at, client_of}
-use Rattle.rad_auth.specs.ClientRows.{row_client, clients_of}
+use Rattle.rad_auth.specs.ClientRows.{row_client, row_clients}
 use Rattle.rad_auth.specs.declared.client.ClientRow.{ClientRow}
 
 -- the front of a mapped list that passes
@@ -16,9 +16,9 @@ pub position-map : {A B : Type 0} (p : B → Bool) (f : A → B) (xs : List A) �
 position-map p f xs = rw (prefix_len-map (λ y. not (p y)) f xs, length-map xs f)
 
 -- the client at a row's place
-pub client-at_row : (rows : List ClientRow) (i : ℕ) (row : ClientRow) → i < length rows → row ≡ get_or rows i row → row_client row ≡ client_of (clients_of rows) i
+pub client-at_row : (rows : List ClientRow) (i : ℕ) (row : ClientRow) → i < length rows → row ≡ get_or rows i row → row_client row ≡ client_of (row_clients rows) i
 client-at_row rows i row within read = ap row_client read ∙ sym (get_or-map row_client rows i row _ within)
 
 -- the place of an address among the rows
-pub client_at-rows : (rows : List ClientRow) (source : ℕ) → client_at (clients_of rows) source ≡ position (λ row. row.address == source) rows
+pub client_at-rows : (rows : List ClientRow) (source : ℕ) → client_at (row_clients rows) source ≡ position (λ row. row.address == source) rows
 client_at-rows rows source = position-map (λ client. client.address == source) row_client rows

@@ -29,9 +29,9 @@ impl Model for Clients {
 
     ghost Value = { List Client };
 
-    ghost use Rattle.rad_auth.specs.ClientRows.{clients_of};
+    ghost use Rattle.rad_auth.specs.ClientRows.{row_clients};
 
-    ghost view = { λ a. clients_of a.rows.items };
+    ghost view = { λ a. row_clients a.rows.items };
 
     ghost invariant = { λ a. length a.rows.items ≤ 256 };
 }
