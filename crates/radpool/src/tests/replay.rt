@@ -53,13 +53,132 @@ const TWICE_PROXIED_REPLY: &str =
     "reply 0507001d209fd420d5d1d9450e5c22444667f9b421047a7a2105616263\n";
 
 /// A transcript in parts, the parts that a replay of it writes, and the printed fault that ends it, or nothing.
-#[derive(Drop)]
-struct Scenario<'a> {
-    name: &'a str,
-    input: &'a [&'a str],
-    output: &'a [&'a str],
-    fault: &'a str,
+#[derive(Clone, Copy)]
+struct Scenario {
+    name: &'static str,
+    input: &'static [&'static str],
+    output: &'static [&'static str],
+    fault: &'static str,
 }
+
+const SCENARIOS: [Scenario; 16] = [
+    Scenario {
+        name: "each way to be dropped",
+        input: &[GATEWAY, DROPS],
+        output: &[DROPPED],
+        fault: "",
+    },
+    Scenario {
+        name: "a stranger, where no client is configured",
+        input: &["---\n", START],
+        output: &["1 drop 1 UnknownClient\n"],
+        fault: "",
+    },
+    Scenario {
+        name: "two replies with a drop between them",
+        input: &[GATEWAY, START, "\n0 acct 1.2.3.4:5 -\n", SECOND, "\n"],
+        output: &[
+            "1 ",
+            START_REPLY,
+            "2 drop 1 UnknownClient\n3 ",
+            SECOND_REPLY,
+        ],
+        fault: "",
+    },
+    Scenario {
+        name: "a Proxy-State",
+        input: &[GATEWAY, PROXIED, "\n"],
+        output: &["1 ", PROXIED_REPLY],
+        fault: "",
+    },
+    Scenario {
+        name: "two Proxy-States",
+        input: &[GATEWAY, TWICE_PROXIED, "\n"],
+        output: &["1 ", TWICE_PROXIED_REPLY],
+        fault: "",
+    },
+    Scenario {
+        name: "a malformed line after a good one",
+        input: &[GATEWAY, START, "\nx\n", SECOND, "\n"],
+        output: &["1 ", START_REPLY],
+        fault: "datagram 2 is malformed",
+    },
+    Scenario {
+        name: "a second divider",
+        input: &[GATEWAY, "---\n", START, "\n"],
+        output: &[],
+        fault: "datagram 1 is malformed",
+    },
+    Scenario {
+        name: "skipped lines",
+        input: &[
+            GATEWAY,
+            "# x\n\n#\n",
+            START,
+            "\n\n",
+            SECOND,
+            "\n#",
+            START,
+            "\nx\n",
+        ],
+        output: &["1 ", START_REPLY, "2 ", SECOND_REPLY],
+        fault: "datagram 3 is malformed",
+    },
+    Scenario {
+        name: "line ends with carriage returns",
+        input: &[
+            "[[client]]\r\naddress = \"192.168.1.16\"\r\nsecret = \"xyzzy5461\"\r\n---\r\n\r\n#\r\n",
+            START,
+            "\r\n",
+            SECOND,
+            "\r\n",
+        ],
+        output: &["1 ", START_REPLY, "2 ", SECOND_REPLY],
+        fault: "",
+    },
+    Scenario {
+        name: "no line feed at the end",
+        input: &[GATEWAY, START],
+        output: &["1 ", START_REPLY],
+        fault: "",
+    },
+    Scenario {
+        name: "no datagrams",
+        input: &[GATEWAY],
+        output: &[],
+        fault: "",
+    },
+    Scenario {
+        name: "a divider alone",
+        input: &["---"],
+        output: &[],
+        fault: "",
+    },
+    Scenario {
+        name: "nothing",
+        input: &[],
+        output: &[],
+        fault: "no divider",
+    },
+    Scenario {
+        name: "no divider below a faulty configuration",
+        input: &["client = 3\n----\n", START],
+        output: &[],
+        fault: "no divider",
+    },
+    Scenario {
+        name: "a client without a secret, and a malformed line",
+        input: &["[[client]]\naddress = \"192.168.1.16\"\n---\nx\n"],
+        output: &[],
+        fault: "config fault 2 Missing at client 1 secret",
+    },
+    Scenario {
+        name: "a text that ends at the divider",
+        input: &["# \"\"\"\nname = \"\"\"\n---\n\"\"\"\n---\n", START],
+        output: &[],
+        fault: "config fault 1 Syntax",
+    },
+];
 
 /// The printed fault, or nothing.
 fn printed(rt: &impl AllocGlobal, ended: Result<(), RunFault>) -> Result<String, AllocError> {
@@ -71,132 +190,13 @@ fn printed(rt: &impl AllocGlobal, ended: Result<(), RunFault>) -> Result<String,
 
 #[test]
 fn scenarios(rt: HostRuntime) -> Result<(), Fail> {
-    let scenarios = [
-        Scenario {
-            name: "each way to be dropped",
-            input: &[GATEWAY, DROPS],
-            output: &[DROPPED],
-            fault: "",
-        },
-        Scenario {
-            name: "a stranger, where no client is configured",
-            input: &["---\n", START],
-            output: &["1 drop 1 UnknownClient\n"],
-            fault: "",
-        },
-        Scenario {
-            name: "two replies with a drop between them",
-            input: &[GATEWAY, START, "\n0 acct 1.2.3.4:5 -\n", SECOND, "\n"],
-            output: &[
-                "1 ",
-                START_REPLY,
-                "2 drop 1 UnknownClient\n3 ",
-                SECOND_REPLY,
-            ],
-            fault: "",
-        },
-        Scenario {
-            name: "a Proxy-State",
-            input: &[GATEWAY, PROXIED, "\n"],
-            output: &["1 ", PROXIED_REPLY],
-            fault: "",
-        },
-        Scenario {
-            name: "two Proxy-States",
-            input: &[GATEWAY, TWICE_PROXIED, "\n"],
-            output: &["1 ", TWICE_PROXIED_REPLY],
-            fault: "",
-        },
-        Scenario {
-            name: "a malformed line after a good one",
-            input: &[GATEWAY, START, "\nx\n", SECOND, "\n"],
-            output: &["1 ", START_REPLY],
-            fault: "datagram 2 is malformed",
-        },
-        Scenario {
-            name: "a second divider",
-            input: &[GATEWAY, "---\n", START, "\n"],
-            output: &[],
-            fault: "datagram 1 is malformed",
-        },
-        Scenario {
-            name: "skipped lines",
-            input: &[
-                GATEWAY,
-                "# x\n\n#\n",
-                START,
-                "\n\n",
-                SECOND,
-                "\n#",
-                START,
-                "\nx\n",
-            ],
-            output: &["1 ", START_REPLY, "2 ", SECOND_REPLY],
-            fault: "datagram 3 is malformed",
-        },
-        Scenario {
-            name: "line ends with carriage returns",
-            input: &[
-                "[[client]]\r\naddress = \"192.168.1.16\"\r\nsecret = \"xyzzy5461\"\r\n---\r\n\r\n#\r\n",
-                START,
-                "\r\n",
-                SECOND,
-                "\r\n",
-            ],
-            output: &["1 ", START_REPLY, "2 ", SECOND_REPLY],
-            fault: "",
-        },
-        Scenario {
-            name: "no line feed at the end",
-            input: &[GATEWAY, START],
-            output: &["1 ", START_REPLY],
-            fault: "",
-        },
-        Scenario {
-            name: "no datagrams",
-            input: &[GATEWAY],
-            output: &[],
-            fault: "",
-        },
-        Scenario {
-            name: "a divider alone",
-            input: &["---"],
-            output: &[],
-            fault: "",
-        },
-        Scenario {
-            name: "nothing",
-            input: &[],
-            output: &[],
-            fault: "no divider",
-        },
-        Scenario {
-            name: "no divider below a faulty configuration",
-            input: &["client = 3\n----\n", START],
-            output: &[],
-            fault: "no divider",
-        },
-        Scenario {
-            name: "a client without a secret, and a malformed line",
-            input: &["[[client]]\naddress = \"192.168.1.16\"\n---\nx\n"],
-            output: &[],
-            fault: "config fault 2 Missing at client 1 secret",
-        },
-        Scenario {
-            name: "a text that ends at the divider",
-            input: &["# \"\"\"\nname = \"\"\"\n---\n\"\"\"\n---\n", START],
-            output: &[],
-            fault: "config fault 1 Syntax",
-        },
-    ];
-    for scenario in scenarios {
+    for scenario in SCENARIOS {
         let name = scenario.name;
         let input = scenario.input.concat(rt.alloc())?;
         let expected = scenario.output.concat(rt.alloc())?;
         let mut output = Vec::new(rt.alloc());
         let result = run_replay(rt.alloc(), &mut input.as_bytes(), &mut output);
-        let fault = printed(&rt, result)?;
-        assert_eq!(rt; fault.as_str(), scenario.fault, "at {name}");
+        assert_eq!(rt; printed(&rt, result)?.as_str(), scenario.fault, "at {name}");
         assert_eq!(rt; output.as_slice(), expected.as_bytes(), "at {name}");
     }
     Ok(())
@@ -265,48 +265,47 @@ impl<T: Write> Write for Halting<T> {
     }
 }
 
-#[test]
-fn readers_and_writers_that_halt(rt: HostRuntime) -> Result<(), Fail> {
-    let input = [GATEWAY, START, "\n", SECOND, "\n"].concat(rt.alloc())?;
-    let first = ["1 ", START_REPLY].concat(rt.alloc())?;
-    let both = ["1 ", START_REPLY, "2 ", SECOND_REPLY].concat(rt.alloc())?;
+/// Two requests.
+const PAIR: [&str; 5] = [GATEWAY, START, "\n", SECOND, "\n"];
 
-    // One octet a call, on both sides.
-    let mut reader = Halting {
-        inner: input.as_bytes(),
-        step: 1,
-        calls: usize::MAX,
-    };
-    let mut writer = Halting {
-        inner: Vec::new(rt.alloc()),
-        step: 1,
-        calls: usize::MAX,
-    };
+#[test]
+fn an_octet_a_time(rt: HostRuntime) -> Result<(), Fail> {
+    let input = PAIR.concat(rt.alloc())?;
+    let expected = ["1 ", START_REPLY, "2 ", SECOND_REPLY].concat(rt.alloc())?;
+    let (step, calls) = (1, usize::MAX);
+    let inner = input.as_bytes();
+    let mut reader = Halting { inner, step, calls };
+    let inner = Vec::new(rt.alloc());
+    let mut writer = Halting { inner, step, calls };
     let result = run_replay(rt.alloc(), &mut reader, &mut writer);
     assert_eq!(rt; printed(&rt, result)?.as_str(), "");
-    assert_eq!(rt; writer.inner.as_slice(), both.as_bytes());
+    assert_eq!(rt; writer.inner.as_slice(), expected.as_bytes());
+    Ok(())
+}
 
-    // A second read that fails, in the middle of the input and in the place of its end.
+#[test]
+fn the_second_read_fails(rt: HostRuntime) -> Result<(), Fail> {
+    let input = PAIR.concat(rt.alloc())?;
+    // In the middle of the input, and in the place of its end.
     for step in [100, usize::MAX] {
-        let mut reader = Halting {
-            inner: input.as_bytes(),
-            step,
-            calls: 1,
-        };
+        let (inner, calls) = (input.as_bytes(), 1);
+        let mut reader = Halting { inner, step, calls };
         let mut output = Vec::new(rt.alloc());
         let result = run_replay(rt.alloc(), &mut reader, &mut output);
         assert_eq!(rt; printed(&rt, result)?.as_str(), "read failed", "at {step}");
         assert!(rt; output.is_empty());
     }
+    Ok(())
+}
 
-    // A second write that fails.
-    let mut writer = Halting {
-        inner: Vec::new(rt.alloc()),
-        step: usize::MAX,
-        calls: 1,
-    };
+#[test]
+fn the_second_write_fails(rt: HostRuntime) -> Result<(), Fail> {
+    let input = PAIR.concat(rt.alloc())?;
+    let expected = ["1 ", START_REPLY].concat(rt.alloc())?;
+    let (inner, step, calls) = (Vec::new(rt.alloc()), usize::MAX, 1);
+    let mut writer = Halting { inner, step, calls };
     let result = run_replay(rt.alloc(), &mut input.as_bytes(), &mut writer);
     assert_eq!(rt; printed(&rt, result)?.as_str(), "write failed");
-    assert_eq!(rt; writer.inner.as_slice(), first.as_bytes());
+    assert_eq!(rt; writer.inner.as_slice(), expected.as_bytes());
     Ok(())
 }
