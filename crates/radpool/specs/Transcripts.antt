@@ -122,8 +122,8 @@ AnswersLines clients lines Writes malformed =
 abbrev pub OfInput : List ℕ → (List Client → List (List ℕ) → Type 0) → Type 0
 OfInput text Holds = (clients : List Client) × (lines : List (List ℕ)) × IsInput text clients lines × Holds clients lines
 
--- What a run ends with, for an input and what was written. Read, TooLong, NoDivider and Config are told in this order,
--- before any line is answered. Of what went out before a Write fault nothing is said.
+-- What a run ends with, for an input and what was written. TooLong, NoDivider and Config are told in this order, and they,
+-- Read and NoMemory before any line is answered. Of what went out before a Write fault nothing is said.
 abbrev pub EndsRun : List ℕ → (List ℕ → Type 0) → Result Unit RunFault → Type 0
 EndsRun text Writes (Ok done) = OfInput text (λ clients lines. AnswersLines clients lines Writes None)
 EndsRun text Writes (Err run.Read) = Writes []

@@ -24,7 +24,7 @@ const CHUNK: usize = 8192;
 
 /// Reads a transcript, and writes a line for each datagram.
 ///
-/// `Read`, `TooLong`, `NoDivider` and `Config` are told in this order, and nothing was written then, nor at `NoMemory`.
+/// `TooLong`, `NoDivider` and `Config` are told in this order; at these, at `Read` and at `NoMemory` nothing was written.
 /// Before `BadLine` the lines before the malformed one were answered.
 pub fn run_replay<R: Read, W: Write>(
     alloc: Global,
