@@ -8,9 +8,17 @@ pub record Client : Type 0 where
   pub secret : List ℕ
   pub require_message_authenticator : Bool
 
--- a secret has 1 to 128 octets
+-- how many clients there may be
+abbrev pub clients_max : ℕ
+clients_max = 256
+
+-- how many octets a secret may have
+abbrev pub secret_max : ℕ
+secret_max = 128
+
+-- a secret has 1 to `secret_max` octets
 abbrev pub IsSecret : List ℕ → Type 0
-IsSecret secret = (1 ≤ length secret) × (length secret ≤ 128)
+IsSecret secret = (1 ≤ length secret) × (length secret ≤ secret_max)
 
 -- the place of the client with this address, counted from 0
 abbrev pub client_at : List Client → ℕ → Option ℕ

@@ -6,6 +6,12 @@ use std::alloc::Global;
 use std::marker::Model;
 use thiserror::Error;
 
+/// The most clients that a list holds.
+pub const CLIENTS_MAX: usize = 256;
+
+/// The most octets that a secret has.
+pub const SECRET_MAX: usize = 128;
+
 /// Why a client was not added.
 #[derive(Clone, Copy, Debug, PartialEq, Eq, Error)]
 pub enum ClientFault {
@@ -17,7 +23,7 @@ pub enum ClientFault {
     NoMemory = 2,
 }
 
-/// The clients in the order in which they were added, at most 256.
+/// The clients in the order in which they were added, at most `CLIENTS_MAX`.
 #[derive(Drop)]
 pub struct Clients {
     rows: Vec<ClientRow>,
@@ -25,7 +31,7 @@ pub struct Clients {
 
 impl Model for Clients {
     ghost use Rattle.std.specs.Prelude.{List, length, ◌≤◌};
-    ghost use Rattle.rad_auth.specs.Clients.{Client};
+    ghost use Rattle.rad_auth.specs.Clients.{Client, clients_max};
 
     ghost Value = { List Client };
 
@@ -33,12 +39,12 @@ impl Model for Clients {
 
     ghost view = { λ a. row_clients a.rows.items };
 
-    ghost invariant = { λ a. length a.rows.items ≤ 256 };
+    ghost invariant = { λ a. length a.rows.items ≤ clients_max };
 }
 
 impl Clients {
     ghost use Rattle.std.specs.Prelude.{◌≡◌, ◌<◌, ◌≤◌, ◌==◌, ◌↔◌, List, [], ◌∷◌, ◌++◌, length, OnOk, OnErr, IsErrOf, IsSome, IfSome};
-    ghost use Rattle.rad_auth.specs.Clients.{Client, IsSecret, client_at, client_of, secret_at};
+    ghost use Rattle.rad_auth.specs.Clients.{Client, IsSecret, clients_max, client_at, client_of, secret_at};
 
     /// An empty list of clients.
     pub fn new(alloc: Global) -> Clients
@@ -58,7 +64,7 @@ impl Clients {
         secret: &[u8],
         require_message_authenticator: bool,
     ) -> Result<(), ClientFault>
-        requires room { length self.old < 256 }
+        requires room { length self.old < clients_max }
         requires is_secret { IsSecret secret.now }
         ensures ok { OnOk result (self.new ≡ self.old ++ record { address = address; secret = secret.now; require_message_authenticator = require_message_authenticator } ∷ []) }
         ensures err { OnErr result (self.new ≡ self.old) }
@@ -81,7 +87,7 @@ impl Clients {
     /// How many clients there are.
     pub fn len(&self) -> usize
         ensures value { result ≡ length self.now }
-        ensures bound { length self.now ≤ 256 }
+        ensures bound { length self.now ≤ clients_max }
     {
         self.rows.len()
     }

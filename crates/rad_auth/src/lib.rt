@@ -17,7 +17,7 @@ mod sums;
 
 pub use admit::check8;
 pub use arrival::{Arrival, Door, Request};
-pub use client::{ClientFault, Clients};
+pub use client::{CLIENTS_MAX, ClientFault, Clients, SECRET_MAX};
 pub use discard::Discard;
 pub use seal::{Job, response_authenticator, seal8, sign_request};
 

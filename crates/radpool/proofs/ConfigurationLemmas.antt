@@ -10,7 +10,7 @@ use Rattle.toml.specs.Parse.{parse_document}
 use Rattle.toml.specs.View.{view, items_view}
 use Rattle.toml.specs.declared.value.Value.{Value}
 use Rattle.toml.proofs.Views.{items_view-drop}
-use Rattle.rad_auth.specs.Clients.{Client}
+use Rattle.rad_auth.specs.Clients.{Client, clients_max}
 use Rattle.radpool.specs.declared.config_fault.ConfigFault.{ConfigFault}
 use Rattle.radpool.specs.declared.config_fault.ConfigFault.TheVariants.{Syntax, TooMany, NoMemory}
 use Rattle.radpool.specs.declared.config_fault.Part.TheVariants as part
@@ -43,13 +43,13 @@ count_items-view [] = refl
 count_items-view (value ∷ values) = omega (arith, count_items-view values)
 
 -- more entries than there may be
-pub clients_in-many : (d : Data) (values : List Value) → as_array d ≡ Some (items_view values) → 256 < length values → clients_in (Some d) ≡ Err (TooMany part.Client)
+pub clients_in-many : (d : Data) (values : List Value) → as_array d ≡ Some (items_view values) → clients_max < length values → clients_in (Some d) ≡ Err (TooMany part.Client)
 unfolding clients_in
 clients_in-many d values is_array many =
     rw (array_from_as_array d _ is_array, count_items-view values, lt-ltb _ _ many)
 
 -- entries that are few enough
-pub clients_in-few : (d : Data) (values : List Value) → as_array d ≡ Some (items_view values) → length values ≤ 256 → clients_in (Some d) ≡ clients_from 1 [] (items_view values)
+pub clients_in-few : (d : Data) (values : List Value) → as_array d ≡ Some (items_view values) → length values ≤ clients_max → clients_in (Some d) ≡ clients_from 1 [] (items_view values)
 unfolding clients_in
 clients_in-few d values is_array few =
     rw (array_from_as_array d _ is_array, count_items-view values, le-ltb _ _ few)

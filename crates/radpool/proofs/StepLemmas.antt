@@ -5,7 +5,7 @@ use Rattle.std.proofs.lemmas.List.{length-append, append-nil}
 use Rattle.std.proofs.lemmas.List.Sums.{sum_by-cons}
 use Rattle.rad_packet.specs.Attributes.{Attribute, count, size, attributes_octets}
 use Rattle.rad_packet.specs.Bodies.{Body}
-use Rattle.rad_packet.specs.Packets.{Packet, packet_length}
+use Rattle.rad_packet.specs.Packets.{Packet, length_max, packet_length}
 use Rattle.rad_auth.specs.Sealing.{IsReply}
 use Rattle.radpool.specs.Steps.{accounting_response, proxy_states}
 
@@ -29,7 +29,7 @@ count-proxy_states (a ∷ list) = at (eqb a.kind 33) refl (count-proxy_states li
         let other : eqb a.kind 80 ≡ false = ne_eqb a.kind 80 (λ is. absurd (omega (arith, eqb-true a.kind 33 e))) in
         sum_by-cons (λ (x : Attribute). cond (eqb x.kind 80) 1 0) a (proxy_states list) ∙ rw other (omega (arith, others))
 
-pub accounting_response_is_reply : (p : Packet) → packet_length p ≤ 4096 → IsReply (accounting_response p)
+pub accounting_response_is_reply : (p : Packet) → packet_length p ≤ length_max → IsReply (accounting_response p)
 accounting_response_is_reply p le = record {
   fits = omega (arith, size-proxy_states p.attributes);
   code = refl;

@@ -7,7 +7,7 @@ use Rattle.toml.specs.Data.{Data, string, array, table, Items, no_items, item, M
 use Rattle.toml.specs.Parse.{parse_document}
 use Rattle.toml.specs.View.{view}
 use Rattle.toml.specs.declared.value.Value.{Value}
-use Rattle.rad_auth.specs.Clients.{Client, client_at}
+use Rattle.rad_auth.specs.Clients.{Client, clients_max, secret_max, client_at}
 use Rattle.radpool.specs.declared.config_fault.Key.{Key}
 use Rattle.radpool.specs.declared.config_fault.Key.TheVariants as key
 use Rattle.radpool.specs.declared.config_fault.Part.TheVariants as part
@@ -45,11 +45,11 @@ address_in index earlier (Some (string text)) = new_address (address_of text)
         if is_some (client_at earlier address) then Err (BadValue (client_spot index key.Address)) else Ok address
 address_in index earlier (Some _) = Err (BadValue (client_spot index key.Address))
 
--- `secret`: a text of 1 to 128 octets
+-- `secret`: a text of 1 to `secret_max` octets
 abbrev pub secret_in : ℕ → Option Data → Result (List ℕ) ConfigFault
 secret_in index None = Err (Missing (client_spot index key.Secret))
 secret_in index (Some (string text)) =
-    if length text == 0 || nat_lt 128 (length text) then Err (BadValue (client_spot index key.Secret)) else Ok text
+    if length text == 0 || nat_lt secret_max (length text) then Err (BadValue (client_spot index key.Secret)) else Ok text
 secret_in index (Some _) = Err (BadValue (client_spot index key.Secret))
 
 -- an entry of the list, whose keys are checked in this order
@@ -71,11 +71,11 @@ abbrev pub count_items : Items → ℕ
 count_items no_items = 0
 count_items (item entry entries) = count_items entries + 1
 
--- the key `client`: an array of at most 256 tables, and empty where it is absent
+-- the key `client`: an array of at most `clients_max` tables, and empty where it is absent
 unfoldable pub clients_in : Option Data → Result (List Client) ConfigFault
 clients_in None = Ok []
 clients_in (Some (array entries)) =
-    if nat_lt 256 (count_items entries) then Err (TooMany part.Client) else clients_from 1 [] entries
+    if nat_lt clients_max (count_items entries) then Err (TooMany part.Client) else clients_from 1 [] entries
 clients_in (Some _) = Err (BadValue (client_spot 0 key.List))
 
 -- the document that the text is, where it is one

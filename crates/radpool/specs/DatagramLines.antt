@@ -4,6 +4,7 @@ use Rattle.std.specs.Prelude.{ℕ, ◌+◌, ◌-◌, ◌*◌, ◌^◌, ◌==◌,
 use Rattle.std.specs.Result.{result_ok}
 use lib.Pointwise.{pointwise}
 use Rattle.hex.specs.Hex.{decode_of}
+use Rattle.rad_packet.specs.Packets.{length_max}
 use Rattle.rad_auth.specs.declared.arrival.Door.{Door}
 use Rattle.rad_auth.specs.declared.arrival.Door.TheVariants.{Auth, Acct}
 use Rattle.rad_auth.specs.Datagrams.{Datagram}
@@ -71,11 +72,11 @@ door_of text =
     else if pointwise ◌==◌ text (codes "acct") then Some Acct
     else None
 
--- 2 to 8,192 hexadecimal digits of either case, an even number of them, or `-` for no octets
+-- 2 to `2 * length_max` hexadecimal digits of either case, an even number of them, or `-` for no octets
 unfoldable pub octets_of : List ℕ → Option (List ℕ)
 octets_of text =
     if pointwise ◌==◌ text (codes "-") then Some []
-    else if nat_lt (length text) 2 || nat_lt 8192 (length text) then None
+    else if nat_lt (length text) 2 || nat_lt (2 * length_max) (length text) then None
     else result_ok (decode_of text)
 
 unfoldable pub timed_datagram_of : List ℕ → Option TimedDatagram

@@ -2,20 +2,14 @@
 ghost use Rattle.std.specs.Prelude.{◌≡◌, ◌<◌, ◌≤◌, [], false, length, IfOk};
 ghost use Rattle.toml.specs.Data.{get_member};
 ghost use Rattle.toml.specs.View.{view, items_view, table_view};
-ghost use Rattle.rad_auth.specs.Clients.{IsSecret};
+ghost use Rattle.rad_auth.specs.Clients.{IsSecret, clients_max};
 ghost use Rattle.radpool.specs.Configuration.{Gives, data_of, address_in, secret_in, client_in, clients_from, clients_in, clients_of, client_spot, document_read};
 
 use crate::config_fault::{ConfigFault, Key, Part, Spot};
 use crate::numbers::address;
-use rad_auth::Clients;
+use rad_auth::{CLIENTS_MAX, Clients, SECRET_MAX};
 use std::alloc::Global;
 use toml::{Table, Value};
-
-/// The most clients that a configuration names.
-const MOST_CLIENTS: usize = 256;
-
-/// The most octets that a secret has.
-const LONGEST_SECRET: usize = 128;
 
 // A key of the client that stands at this place.
 fn client_spot(index: u32, key: Key) -> Spot
@@ -60,7 +54,7 @@ fn secret_in(index: u32, value: Option<&Value>) -> Result<&[u8], ConfigFault>
         .as_str()
         .ok_or(ConfigFault::BadValue(spot))?
         .as_bytes();
-    if secret.is_empty() || secret.len() > LONGEST_SECRET {
+    if secret.is_empty() || secret.len() > SECRET_MAX {
         return Err(ConfigFault::BadValue(spot));
     }
     Ok(secret)
@@ -90,7 +84,7 @@ fn client_in<'a>(
 
 // The clients that the entries are.
 fn clients_from(alloc: Global, entries: &[Value]) -> Result<Clients, ConfigFault>
-    requires { length entries.now ≤ 256 }
+    requires { length entries.now ≤ clients_max }
     ensures { Gives (λ clients. clients) result (clients_from 1 [] (items_view entries.now)) }
 {
     let mut clients = Clients::new(alloc);
@@ -115,7 +109,7 @@ fn clients_in(alloc: Global, list: Option<&Value>) -> Result<Clients, ConfigFaul
     let entries = list
         .as_array()
         .ok_or(ConfigFault::BadValue(client_spot(0, Key::List)))?;
-    if entries.len() > MOST_CLIENTS {
+    if entries.len() > CLIENTS_MAX {
         return Err(ConfigFault::TooMany(Part::Client));
     }
     clients_from(alloc, entries)

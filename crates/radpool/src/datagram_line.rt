@@ -1,10 +1,12 @@
 //! A datagram line of a transcript: `MOMENT DOOR ADDRESS:PORT OCTETS`.
 ghost use Rattle.std.specs.Prelude.{◌≡◌, ◌≤◌, ◌^◌, length, take, None, MatchOption, IfSome};
+ghost use Rattle.rad_packet.specs.Packets.{length_max};
 ghost use Rattle.radpool.specs.DatagramLines.{moment_of, port_of, door_of, octets_of, timed_datagram_of};
 ghost use Rattle.radpool.specs.ReadLines.{timed_datagram};
 
 use crate::numbers::{address, number, parted};
 use rad_auth::Door;
+use rad_packet::LENGTH_MAX;
 
 /// A datagram and when it came.
 #[derive(Clone, Copy, Debug, PartialEq, Eq)]
@@ -18,9 +20,6 @@ pub struct DatagramLine {
     /// How many octets the datagram has.
     pub len: usize,
 }
-
-/// The most hexadecimal digits of a datagram, two for each of 4,096 octets.
-const MOST_DIGITS: usize = 8192;
 
 // The moment that up to 19 decimal digits spell, in milliseconds.
 #[tactic(auto, unfolding(crate::specs::DatagramLines::moment_of))]
@@ -55,14 +54,14 @@ fn door(text: &[u8]) -> Option<Door>
 // Decodes hexadecimal digits into the front of `octets`, and says how many octets they are.
 #[tactic(auto, unfolding(crate::specs::DatagramLines::octets_of))]
 fn decode_octets(text: &[u8], octets: &mut [u8]) -> Option<usize>
-    requires { length octets.old ≡ 4096 }
+    requires { length octets.old ≡ length_max }
     ensures octets { MatchOption result (octets_of text.now ≡ None) (λ len. octets_of text.now ≡ Some (take len octets.new)) }
-    ensures len { IfSome result (λ len. len ≤ 4096) }
+    ensures len { IfSome result (λ len. len ≤ length_max) }
 {
     if text == b"-".as_slice() {
         return Some(0);
     }
-    if text.len() < 2 || text.len() > MOST_DIGITS {
+    if text.len() < 2 || text.len() > 2 * LENGTH_MAX {
         return None;
     }
     let len = text.len() / 2;
@@ -73,9 +72,9 @@ fn decode_octets(text: &[u8], octets: &mut [u8]) -> Option<usize>
 /// Reads a datagram line, and decodes the datagram into the front of `octets`.
 #[tactic(auto, unfolding(crate::specs::DatagramLines::timed_datagram_of))]
 pub fn read_datagram_line(line: &[u8], octets: &mut [u8]) -> Option<DatagramLine>
-    requires { length octets.old ≡ 4096 }
+    requires { length octets.old ≡ length_max }
     ensures datagram { MatchOption result (timed_datagram_of line.now ≡ None) (λ found. timed_datagram_of line.now ≡ Some (timed_datagram found octets.new)) }
-    ensures len { IfSome result (λ found. found.len ≤ 4096) }
+    ensures len { IfSome result (λ found. found.len ≤ length_max) }
     ensures moment { IfSome result (λ found. found.moment ≤ 2 ^ 62) }
 {
     let (moment_text, rest) = parted(line, b' ')?;

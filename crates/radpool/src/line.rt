@@ -6,11 +6,12 @@ ghost use Rattle.radpool.specs.Transcripts.{drop_line, reply_line, busy_line, no
 
 use bytes::BytesMut;
 use rad_auth::Discard;
+use rad_packet::LENGTH_MAX;
 use std::alloc::{AllocError, Global};
 use std::marker::Model;
 
 /// Hexadecimal digits of the longest packet.
-const DIGITS_MAX: usize = 8192;
+const DIGITS_MAX: usize = 2 * LENGTH_MAX;
 
 /// Octets of the longest line: a number of 20 digits, ` reply `, the digits and a line feed.
 const LINE_MAX: usize = 20 + 7 + DIGITS_MAX + 1;
