@@ -1,0 +1,4 @@
+mod BlockLemmas
+mod DigestLemmas
+mod LaneLemmas
+mod PieceLemmas

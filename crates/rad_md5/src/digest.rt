@@ -1,0 +1,137 @@
+//! Digests of messages, eight at a time.
+ghost use Rattle.std.specs.Prelude.{◌≡◌, ℕ, ◌+◌, ◌<◌, ◌≤◌, List, [], length, map, slice_index, slice_index_or};
+ghost use Rattle.md5.specs.Md5.{digest_bytes, initial_hash};
+ghost use Rattle.rad_md5.specs.Blocks.{block_count};
+ghost use Rattle.rad_md5.specs.Lanes.{ArePlaces, AreWanted, HasDigests, HaveAtMost, IsHashedAfter, lane, lane_message};
+ghost use Rattle.rad_md5.specs.Pieces.{digest};
+
+use crate::block::{block_count, next_blocks, words8};
+use crate::compress::compress8;
+use crate::lanes::{LANES, State};
+use crate::pieces::Pieces;
+use crate::table::{BLOCK_LEN, INITIAL_HASH};
+use std::simd::u32x8;
+
+/// How many octets a digest has.
+pub const DIGEST_LEN: usize = 16;
+
+// The blocks of the longest message.
+fn most_blocks(messages: &[Pieces], places: &[usize]) -> usize
+    requires { ArePlaces places.now messages.now }
+    ensures enough { HaveAtMost result messages.now places.now }
+    ensures least { (n : ℕ) → HaveAtMost n messages.now places.now → result ≤ n }
+{
+    let mut most = 0;
+    'lanes: for j in 0..places.len() {
+        most = most.max(block_count(&messages[places[j]]));
+    }
+    most
+}
+
+// The hash value before the first block, in each lane.
+fn initial_state() -> State
+    ensures { (j : ℕ) → j < 8 → lane j result ≡ initial_hash }
+{
+    let [a, b, c, d] = INITIAL_HASH;
+    State {
+        a: u32x8::splat(a),
+        b: u32x8::splat(b),
+        c: u32x8::splat(c),
+        d: u32x8::splat(d),
+    }
+}
+
+// Takes block n of each message that has one into the state of its lane.
+#[inline(always)]
+fn turn(
+    messages: &[Pieces],
+    places: &[usize],
+    n: usize,
+    blocks: &mut [[u8; BLOCK_LEN]; LANES],
+    state: State,
+) -> State
+    requires { ArePlaces places.now messages.now }
+    ensures { IsHashedAfter n messages.now places.now state → IsHashedAfter (n + 1) messages.now places.now result }
+{
+    let live = next_blocks(messages, places, n, blocks);
+    compress8(state, &words8(blocks), live)
+}
+
+/// The hash value of a message in each lane. Lane j is that of the message at place j of `places`.
+pub(crate) fn hash8(messages: &[Pieces], places: &[usize]) -> State
+    requires { ArePlaces places.now messages.now }
+    ensures { HasDigests messages.now places.now result }
+{
+    let mut blocks = [[0; BLOCK_LEN]; LANES];
+    let mut state = initial_state();
+    'turns: for n in 0..most_blocks(messages, places) {
+        let next = turn(messages, places, n, &mut blocks, state);
+        state = next;
+    }
+    state
+}
+
+// The digest that these words are, low octets first (RFC 1321, section 3.5).
+#[inline(always)]
+fn digest_octets(words: [u32; 4]) -> [u8; DIGEST_LEN]
+    ensures { result ≡ digest_bytes words 4 }
+{
+    let [a, b, c, d] = words;
+    let [a0, a1, a2, a3] = a.to_le_bytes();
+    let [b0, b1, b2, b3] = b.to_le_bytes();
+    let [c0, c1, c2, c3] = c.to_le_bytes();
+    let [d0, d1, d2, d3] = d.to_le_bytes();
+    [
+        a0, a1, a2, a3, b0, b1, b2, b3, c0, c1, c2, c3, d0, d1, d2, d3,
+    ]
+}
+
+/// The digest in each lane.
+pub(crate) fn digests_in(state: State) -> [[u8; DIGEST_LEN]; LANES]
+    ensures made { (j : ℕ) → j < 8 → slice_index_or result j [] ≡ digest_bytes (lane j state) 4 }
+    ensures eight { length result ≡ 8 }
+{
+    let a = state.a.to_array();
+    let b = state.b.to_array();
+    let c = state.c.to_array();
+    let d = state.d.to_array();
+    [
+        digest_octets([a[0], b[0], c[0], d[0]]),
+        digest_octets([a[1], b[1], c[1], d[1]]),
+        digest_octets([a[2], b[2], c[2], d[2]]),
+        digest_octets([a[3], b[3], c[3], d[3]]),
+        digest_octets([a[4], b[4], c[4], d[4]]),
+        digest_octets([a[5], b[5], c[5], d[5]]),
+        digest_octets([a[6], b[6], c[6], d[6]]),
+        digest_octets([a[7], b[7], c[7], d[7]]),
+    ]
+}
+
+// The places of eight messages in their order.
+const IN_ORDER: [usize; LANES] = [0, 1, 2, 3, 4, 5, 6, 7];
+
+/// The digests of eight messages.
+pub fn digest8(messages: &[Pieces; LANES]) -> [[u8; DIGEST_LEN]; LANES]
+    ensures { result ≡ map digest messages.now }
+{
+    digests_in(hash8(messages, &IN_ORDER))
+}
+
+/// Writes the digest of each lane at its place.
+pub(crate) fn place_digests(
+    made: &[[u8; DIGEST_LEN]; LANES],
+    places: &[usize],
+    digests: &mut [[u8; DIGEST_LEN]],
+)
+    requires few { length places.now ≤ 8 }
+    requires inside { (j : ℕ) → j < length places.now → slice_index places.now j < length digests.old }
+    ensures same { length digests.new ≡ length digests.old }
+    ensures kept { (wanted : ℕ → List ℕ) → AreWanted made.now places.now wanted
+        → (i : ℕ) → slice_index_or digests.old i [] ≡ wanted i → slice_index_or digests.new i [] ≡ wanted i }
+    ensures placed { (wanted : ℕ → List ℕ) → AreWanted made.now places.now wanted
+        → (j : ℕ) → j < length places.now → slice_index_or digests.new (slice_index places.now j) [] ≡ wanted (slice_index places.now j) }
+{
+    'lanes: for j in 0..places.len() {
+        digests[places[j]] = made[j];
+    }
+}
