@@ -1,0 +1,3 @@
+pub use Rattle.md5.specs.Md5
+pub use Rattle.rad_md5.specs.Pieces
+pub mod Hmac

@@ -1,0 +1,100 @@
+//! Sums of messages under keys, eight at a time.
+ghost use Rattle.std.specs.Prelude.{◌≡◌, ◌-◌, ◌^◌, ◌<◌, ◌++◌, length, map, replicate, All};
+ghost use Rattle.std.specs.Simd.Lanes.{zip2};
+ghost use Rattle.md5.specs.Md5.{md5};
+ghost use Rattle.rad_md5.specs.Pieces.{HasFreePiece, message};
+ghost use Rattle.rad_hmac.specs.Hmac.{xor, sum_of, keyed_message};
+
+use crate::key::Key;
+use rad_md5::{BLOCK_LEN, DIGEST_LEN, LANES, Pieces, digest8};
+
+// The octet that ipad repeats.
+const IPAD: u8 = 0x36;
+
+// The octet that opad repeats.
+const OPAD: u8 = 0x5C;
+
+/// HMAC-MD5 of eight messages, each under its key.
+///
+/// The fifth slice of each message stays empty, since a pad takes its room, and the pad's 64 octets count towards 2^32.
+/// Source: RFC 2104, section 2.
+pub fn hmac8(messages: &[(&Key, Pieces); LANES]) -> [[u8; DIGEST_LEN]; LANES]
+    requires free { All (λ keyed. HasFreePiece keyed.1) messages.now }
+    requires short { All (λ keyed. length (keyed_message keyed) < 2 ^ 32 - 64) messages.now }
+    ensures { result ≡ map sum_of messages.now }
+{
+    let inner = inner8(&pads8(messages, IPAD), messages);
+    outer8(&pads8(messages, OPAD), &inner)
+}
+
+// Each key's exclusive or with this octet.
+#[inline(always)]
+fn pads8(messages: &[(&Key, Pieces); LANES], pad: u8) -> [[u8; BLOCK_LEN]; LANES]
+    ensures { result ≡ map (λ keyed. xor keyed.0.now (replicate 64 pad)) messages.now }
+{
+    let [a, b, c, d, e, f, g, h] = messages;
+    [
+        a.0.xor(pad),
+        b.0.xor(pad),
+        c.0.xor(pad),
+        d.0.xor(pad),
+        e.0.xor(pad),
+        f.0.xor(pad),
+        g.0.xor(pad),
+        h.0.xor(pad),
+    ]
+}
+
+// The digest of each message behind its pad.
+#[inline(always)]
+fn inner8(
+    pads: &[[u8; BLOCK_LEN]; LANES],
+    messages: &[(&Key, Pieces); LANES],
+) -> [[u8; DIGEST_LEN]; LANES]
+    requires free { All (λ keyed. HasFreePiece keyed.1) messages.now }
+    requires short { All (λ keyed. length (keyed_message keyed) < 2 ^ 32 - 64) messages.now }
+    ensures { result ≡ zip2 (λ pad keyed. md5 (pad ++ keyed_message keyed)) pads.now messages.now }
+{
+    let [pa, pb, pc, pd, pe, pf, pg, ph] = pads;
+    let [a, b, c, d, e, f, g, h] = messages;
+    digest8(&[
+        a.1.behind(pa),
+        b.1.behind(pb),
+        c.1.behind(pc),
+        d.1.behind(pd),
+        e.1.behind(pe),
+        f.1.behind(pf),
+        g.1.behind(pg),
+        h.1.behind(ph),
+    ])
+}
+
+// The digest of each inner digest behind its pad.
+#[inline(always)]
+fn outer8(
+    pads: &[[u8; BLOCK_LEN]; LANES],
+    inner: &[[u8; DIGEST_LEN]; LANES],
+) -> [[u8; DIGEST_LEN]; LANES]
+    ensures { result ≡ zip2 (λ pad digest. md5 (pad ++ digest)) pads.now inner.now }
+{
+    let [pa, pb, pc, pd, pe, pf, pg, ph] = pads;
+    let [a, b, c, d, e, f, g, h] = inner;
+    digest8(&[
+        behind_pad(pa, a),
+        behind_pad(pb, b),
+        behind_pad(pc, c),
+        behind_pad(pd, d),
+        behind_pad(pe, e),
+        behind_pad(pf, f),
+        behind_pad(pg, g),
+        behind_pad(ph, h),
+    ])
+}
+
+// An inner digest behind its pad.
+#[inline(always)]
+fn behind_pad<'a>(pad: &'a [u8; BLOCK_LEN], digest: &'a [u8; DIGEST_LEN]) -> Pieces<'a>
+    ensures { message result ≡ pad.now ++ digest.now }
+{
+    Pieces::of([pad, digest, &[], &[], &[]])
+}
