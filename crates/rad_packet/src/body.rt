@@ -1,5 +1,5 @@
 //! Bodies: what a packet says before it has an Identifier and an Authenticator.
-ghost use Rattle.std.specs.Prelude.{◌≡◌, [], ◌++◌, ◌≤◌, length, OnOk, OnErr};
+ghost use Rattle.std.specs.Prelude.{◌≡◌, [], ◌++◌, ◌≤◌, ◌↔◌, IsTrue, length, IfOk, OnOk, OnErr};
 ghost use Rattle.std.specs.List.{AllByRecursion};
 ghost use Rattle.rad_packet.specs.Attributes.{IsAttribute, attribute_octets, attributes_octets, size, value_max};
 ghost use Rattle.rad_packet.specs.Bodies.{with_attribute};
@@ -47,6 +47,24 @@ impl Body {
     {
         append_attribute(&mut self.octets, kind, value)?;
         Ok(())
+    }
+
+    /// An equal body.
+    pub fn copy(&self) -> Result<Body, AllocError>
+        ensures { IfOk result (λ copy. copy ≡ self.now) }
+    {
+        let octets = self.octets.clone()?;
+        Ok(Body {
+            code: self.code,
+            octets,
+        })
+    }
+
+    /// Whether the other body has the same Code and the same attributes in the same order.
+    pub fn same(&self, other: &Body) -> bool
+        ensures { IsTrue result ↔ (self.now ≡ other.now) }
+    {
+        other.code == self.code && other.octets == self.octets
     }
 
     /// The Code.

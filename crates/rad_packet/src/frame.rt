@@ -1,7 +1,7 @@
 //! Frames: room for the octets of one packet, and the one place that spells a packet.
-ghost use Rattle.std.specs.Prelude.{◌≡◌, [], ◌∷◌, ◌++◌, ◌+◌, ◌≤◌, ◌↔◌, length, take, IsOk, IfOk, OnOk, OnErr};
+ghost use Rattle.std.specs.Prelude.{◌≡◌, ℕ, List, [], ◌∷◌, ◌++◌, ◌+◌, ◌≤◌, ◌↔◌, length, take, Ok, IsOk, IfOk, OnOk, OnErr};
 ghost use Rattle.std.specs.Int.{w16, to_be_bytes};
-ghost use Rattle.rad_packet.specs.Packets.{header_size, length_max, packet_length, packet_octets};
+ghost use Rattle.rad_packet.specs.Packets.{header_size, length_max, packet_length, packet_octets, packet_of};
 ghost use Rattle.rad_packet.specs.Bodies.{packet_of_body};
 
 use crate::body::Body;
@@ -63,6 +63,7 @@ pub fn write(
 ) -> Result<(), TooLong>
     ensures fits { IsOk result ↔ (packet_length (packet_of_body body.now identifier authenticator.now) ≤ length_max) }
     ensures written { OnOk result (frame.new ≡ packet_octets (packet_of_body body.now identifier authenticator.now)) }
+    ensures read_again { OnOk result ((rest : List ℕ) → packet_of (frame.new ++ rest) ≡ Ok (packet_of_body body.now identifier authenticator.now)) }
     ensures unchanged { OnErr result (frame.new ≡ frame.old) }
 {
     if body.size() > LENGTH_MAX - HEADER_SIZE {

@@ -188,3 +188,19 @@ fn writes_up_to_4096_octets(rt: HostRuntime) -> Result<(), Fail> {
     }
     Ok(())
 }
+
+#[test]
+fn a_copy_is_the_same_until_it_is_changed(rt: HostRuntime) -> Result<(), Fail> {
+    let mut body = Body::new(rt.alloc(), code::ACCESS_REJECT);
+    body.push(18, b"access denied")?;
+    let mut copy = body.copy()?;
+    assert!(rt; copy.same(&body), "a copy");
+    copy.push(attribute::PROXY_STATE, b"")?;
+    assert!(rt; !copy.same(&body), "one attribute more");
+    body.push(attribute::PROXY_STATE, b"")?;
+    assert!(rt; copy.same(&body), "the same attribute");
+    let other = Body::new(rt.alloc(), code::ACCESS_ACCEPT);
+    let empty = Body::new(rt.alloc(), code::ACCESS_REJECT);
+    assert!(rt; !other.same(&empty), "another Code");
+    Ok(())
+}
