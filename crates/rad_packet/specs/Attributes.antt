@@ -1,6 +1,6 @@
 -- Attributes (RFC 2865, section 5): Type, Length and Value. An octet is a number below 256, and octets in a row are a
 -- list of them.
-use Rattle.std.specs.Prelude.{◌≡◌, ℕ, zero, suc, ◌+◌, ◌-◌, ◌<◌, ◌≤◌, ◌==◌, ◌||◌, nat_lt, if◌then◌else◌, List, [], ◌∷◌, length, take, drop, Option, Some, None, option_map, unwrap_or, find, count_by}
+use Rattle.std.specs.Prelude.{◌≡◌, ℕ, zero, suc, ◌+◌, ◌-◌, ◌<◌, ◌≤◌, ◌==◌, ◌||◌, nat_lt, if◌then◌else◌, List, [], ◌∷◌, length, take, drop, Option, Some, None, option_map, unwrap_or, filter, find, count_by}
 use Rattle.std.specs.List.{flat_map, AllByRecursion}
 
 -- An attribute has a Type, which the code calls kind, and a Value.
@@ -54,6 +54,10 @@ attributes_in octets = unwrap_or (attributes_of octets) []
 -- the Value of the first attribute of a Type
 abbrev pub first_value : ℕ → List Attribute → Option (List ℕ)
 first_value kind list = option_map (λ a. a.value) (find (λ a. a.kind == kind) list)
+
+-- the attributes of a Type, in their order
+abbrev pub of_kind : ℕ → List Attribute → List Attribute
+of_kind kind list = filter (λ a. a.kind == kind) list
 
 -- how many attributes of a Type there are
 abbrev pub count : ℕ → List Attribute → ℕ

@@ -18,11 +18,17 @@ pub const NAS_IP_ADDRESS: u8 = 4;
 /// RFC 2865, section 5.5.
 pub const NAS_PORT: u8 = 5;
 
+/// RFC 2865, section 5.18.
+pub const REPLY_MESSAGE: u8 = 18;
+
 /// RFC 2865, section 5.33.
 pub const PROXY_STATE: u8 = 33;
 
 /// RFC 2866, section 5.1.
 pub const ACCT_STATUS_TYPE: u8 = 40;
+
+/// RFC 3579, section 3.1.
+pub const EAP_MESSAGE: u8 = 79;
 
 /// RFC 3579, section 3.2.
 pub const MESSAGE_AUTHENTICATOR: u8 = 80;
@@ -55,12 +61,22 @@ impl<'a> Model for Attributes<'a> {
 }
 
 impl<'a> Attributes<'a> {
+    ghost use Rattle.std.specs.Prelude.{◌≡◌};
+    ghost use Rattle.rad_packet.specs.Attributes.{AreAttributes, attributes_in, attributes_octets};
+
     /// The attributes that these octets are.
     pub(crate) fn of(octets: &'a [u8]) -> Attributes<'a>
         requires { AreAttributes octets.now (attributes_in octets.now) }
         ensures { result ≡ attributes_in octets.now }
     {
         Attributes { rest: octets }
+    }
+
+    /// The octets of the attributes that are left.
+    pub fn octets(&self) -> &'a [u8]
+        ensures { result.now ≡ attributes_octets self.now }
+    {
+        self.rest
     }
 }
 

@@ -4,6 +4,7 @@ ghost use Rattle.std.specs.List.{AllByRecursion};
 ghost use Rattle.rad_packet.specs.Attributes.{IsAttribute, attribute_octets, attributes_octets, size, value_max};
 ghost use Rattle.rad_packet.specs.Bodies.{with_attribute};
 
+use crate::attribute::Attributes;
 use std::alloc::{AllocError, Global};
 use std::marker::Model;
 
@@ -72,6 +73,13 @@ impl Body {
         ensures { result ≡ self.now.code }
     {
         self.code
+    }
+
+    /// The attributes in their order.
+    pub fn attributes(&self) -> Attributes<'_>
+        ensures { result ≡ self.now.attributes }
+    {
+        Attributes::of(&self.octets)
     }
 
     /// The attributes as they are spelled.

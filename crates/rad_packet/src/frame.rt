@@ -1,5 +1,5 @@
 //! Frames: room for the octets of one packet, and the one place that spells a packet.
-ghost use Rattle.std.specs.Prelude.{◌≡◌, ℕ, List, [], ◌∷◌, ◌++◌, ◌+◌, ◌≤◌, ◌↔◌, length, take, Ok, IsOk, IfOk, OnOk, OnErr};
+ghost use Rattle.std.specs.Prelude.{◌≡◌, ℕ, List, [], ◌∷◌, ◌++◌, ◌+◌, ◌≤◌, ◌↔◌, length, take, drop, Ok, IsOk, IfOk, OnOk, OnErr};
 ghost use Rattle.std.specs.Int.{w16, to_be_bytes};
 ghost use Rattle.rad_packet.specs.Packets.{header_size, length_max, packet_length, packet_octets, packet_of};
 ghost use Rattle.rad_packet.specs.Bodies.{packet_of_body};
@@ -48,6 +48,14 @@ impl Frame {
         ensures fits { length result.now ≤ length_max }
     {
         &self.room[..self.len]
+    }
+
+    /// Writes octets over those that stand from a place on.
+    pub fn overwrite(&mut self, place: usize, octets: &[u8])
+        requires { place + length octets.now ≤ length self.old }
+        ensures { self.new ≡ take place self.old ++ octets.now ++ drop (place + length octets.now) self.old }
+    {
+        put(&mut self.room, place, octets);
     }
 }
 
@@ -98,6 +106,7 @@ fn put(room: &mut [u8], at: usize, part: &[u8]) -> usize
     requires { at + length part.now ≤ length room.old }
     ensures place { result ≡ at + length part.now }
     ensures front { take result room.new ≡ take at room.old ++ part.now }
+    ensures whole { room.new ≡ take at room.old ++ part.now ++ drop (at + length part.now) room.old }
 {
     let end = at + part.len();
     room[at..end].copy_from_slice(part);

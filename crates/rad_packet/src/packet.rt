@@ -92,6 +92,15 @@ impl<'a> Packet<'a> {
         authenticator
     }
 
+    /// The same packet, borrowed once more.
+    pub fn copy(&self) -> Packet<'a>
+        ensures { result ≡ self.now }
+    {
+        Packet {
+            octets: self.octets,
+        }
+    }
+
     /// The octets of the packet, up to its Length.
     pub fn octets(&self) -> &'a [u8]
         ensures whole { result.now ≡ packet_octets self.now }
