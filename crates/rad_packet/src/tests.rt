@@ -192,7 +192,8 @@ fn writes_up_to_4096_octets(rt: HostRuntime) -> Result<(), Fail> {
 #[test]
 fn a_copy_is_the_same_until_it_is_changed(rt: HostRuntime) -> Result<(), Fail> {
     let mut body = Body::new(rt.alloc(), code::ACCESS_REJECT);
-    body.push(18, b"access denied")?;
+    body.push(attribute::REPLY_MESSAGE, b"access denied")?;
+    body.push(attribute::PROXY_STATE, b"abc")?;
     let mut copy = body.copy()?;
     assert!(rt; copy.same(&body), "a copy");
     copy.push(attribute::PROXY_STATE, b"")?;
@@ -202,5 +203,37 @@ fn a_copy_is_the_same_until_it_is_changed(rt: HostRuntime) -> Result<(), Fail> {
     let other = Body::new(rt.alloc(), code::ACCESS_ACCEPT);
     let empty = Body::new(rt.alloc(), code::ACCESS_REJECT);
     assert!(rt; !other.same(&empty), "another Code");
+    Ok(())
+}
+
+#[test]
+fn octets_of_a_frame_are_overwritten(rt: HostRuntime) -> Result<(), Fail> {
+    let mut body = Body::new(rt.alloc(), code::ACCESS_REJECT);
+    body.push(attribute::PROXY_STATE, b"abc")?;
+    let mut frame = Frame::new(rt.alloc())?;
+    write(&body, 1, b"0123456789abcdef", &mut frame)?;
+    frame.overwrite(22, b"xyz");
+    assert_eq!(rt;
+        frame.octets(),
+        b"\x03\x01\x00\x190123456789abcdef\x21\x05xyz".as_slice()
+    );
+    frame.overwrite(0, b"\x02");
+    assert_eq!(rt;
+        frame.octets(),
+        b"\x02\x01\x00\x190123456789abcdef\x21\x05xyz".as_slice()
+    );
+    Ok(())
+}
+
+#[test]
+fn attributes_that_are_left_have_their_octets(rt: HostRuntime) -> Result<(), Fail> {
+    let mut body = Body::new(rt.alloc(), code::ACCESS_REJECT);
+    body.push(attribute::REPLY_MESSAGE, b"no")?;
+    body.push(attribute::PROXY_STATE, b"abc")?;
+    let mut rest = body.attributes();
+    assert_eq!(rt; rest.octets(), b"\x12\x04no\x21\x05abc".as_slice());
+    let first = rest.next();
+    assert!(rt; matches!(first, Some(attribute) if attribute.kind == attribute::REPLY_MESSAGE));
+    assert_eq!(rt; rest.octets(), b"\x21\x05abc".as_slice());
     Ok(())
 }
