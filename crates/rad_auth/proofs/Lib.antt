@@ -1,3 +1,6 @@
+pub mod AttributeLemmas
 pub mod ClientRowsLemmas
 pub mod LaneLemmas
+pub mod NotedLemmas
+pub mod ReplyLemmas
 pub mod SumsLemmas

@@ -3,7 +3,7 @@ use Rattle.std.specs.Prelude.{ℕ, List, codes}
 use Rattle.rad_packet.specs.declared.packet.ReadFault.{ReadFault}
 use Rattle.rad_packet.specs.declared.packet.ReadFault.TheVariants as fault
 use Rattle.rad_auth.specs.declared.discard.Discard.{Discard}
-use Rattle.rad_auth.specs.declared.discard.Discard.TheVariants.{UnknownClient, Short, BadLength, Truncated, BadAttributes, WrongCode, BadAuthenticator}
+use Rattle.rad_auth.specs.declared.discard.Discard.TheVariants.{UnknownClient, Short, BadLength, Truncated, BadAttributes, WrongCode, BadAuthenticator, BadMessageAuthenticator, NoMessageAuthenticator, NoStatusType, ProxyStateTooLong}
 
 abbrev pub discard_number : Discard → ℕ
 discard_number UnknownClient = 1
@@ -13,6 +13,10 @@ discard_number Truncated = 4
 discard_number BadAttributes = 5
 discard_number WrongCode = 6
 discard_number BadAuthenticator = 7
+discard_number BadMessageAuthenticator = 8
+discard_number NoMessageAuthenticator = 9
+discard_number NoStatusType = 10
+discard_number ProxyStateTooLong = 11
 
 abbrev pub discard_name : Discard → List ℕ
 discard_name UnknownClient = codes "UnknownClient"
@@ -22,6 +26,10 @@ discard_name Truncated = codes "Truncated"
 discard_name BadAttributes = codes "BadAttributes"
 discard_name WrongCode = codes "WrongCode"
 discard_name BadAuthenticator = codes "BadAuthenticator"
+discard_name BadMessageAuthenticator = codes "BadMessageAuthenticator"
+discard_name NoMessageAuthenticator = codes "NoMessageAuthenticator"
+discard_name NoStatusType = codes "NoStatusType"
+discard_name ProxyStateTooLong = codes "ProxyStateTooLong"
 
 -- a datagram that holds no packet
 abbrev pub discard_of_fault : ReadFault → Discard

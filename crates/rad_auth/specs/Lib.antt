@@ -3,9 +3,15 @@ pub mod ClientRows
 pub mod Clients
 pub mod Datagrams
 pub mod Discards
+pub mod Noted
+pub mod ReplyLanes
+pub mod RequestLanes
 pub mod Sealing
+pub mod Secrets
 pub mod Sums
 pub use Rattle.md5.specs.Md5
+pub use Rattle.rad_hmac.specs.Hmac
+pub use Rattle.rad_md5.specs.Pieces
 pub use Rattle.rad_packet.specs.Attributes
 pub use Rattle.rad_packet.specs.Bodies
 pub use Rattle.rad_packet.specs.Packets

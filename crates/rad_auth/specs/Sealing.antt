@@ -1,11 +1,11 @@
--- The octets of a reply (RFC 2865, section 3) and of a request (RFC 2866, section 3) under a secret.
-use Rattle.std.specs.Prelude.{◌≡◌, ◌≢◌, ℕ, ◌+◌, ◌≤◌, List, [], ◌∷◌, Option, Some, None, IfSome, All}
+-- The octets of a reply (RFC 2865, section 3; RFC 3579, section 3.2) and of a request (RFC 2866, section 3) under a secret.
+use Rattle.std.specs.Prelude.{◌≡◌, ◌≢◌, ◌⊎◌, ℕ, ◌+◌, ◌≤◌, ◌==◌, if◌then◌else◌, List, [], ◌∷◌, Option, Some, None, IfSome, All, length}
+use Rattle.std.specs.Simd.Lanes.{zip2}
 use Rattle.rad_packet.specs.Attributes.{Attribute, count, size}
 use Rattle.rad_packet.specs.Bodies.{Body, packet_of_body}
 use Rattle.rad_packet.specs.Packets.{header_size, length_max, packet_octets}
-use Rattle.rad_auth.specs.Clients.{IsSecret}
 use Rattle.rad_auth.specs.declared.seal.Job.{Job}
-use Rattle.rad_auth.specs.Sums.{accounting_authenticator, no_authenticator, response_authenticator}
+use Rattle.rad_auth.specs.Sums.{accounting_authenticator, response_authenticator, summed_body}
 
 -- a body whose packet has at most 4,096 octets
 abbrev pub FitsPacket : Body → Type 0
@@ -16,26 +16,49 @@ abbrev pub BeginsOtherwise : List Attribute → Type 0
 BeginsOtherwise [] = Unit {0}
 BeginsOtherwise (a ∷ list) = a.kind ≢ 80
 
--- a body that says what a reply may say: an Accounting-Response with no Message-Authenticator
+-- the first attribute is a Message-Authenticator of 16 octets
+abbrev pub BeginsWithMessageAuthenticator : List Attribute → Type 0
+BeginsWithMessageAuthenticator [] = ⊥
+BeginsWithMessageAuthenticator (a ∷ list) = (a.kind ≡ 80) × (length a.value ≡ 16)
+
+-- an Accounting-Response with no Message-Authenticator
+pub record IsAccountingResponse (body : Body) : Type 0 where
+  pub code : body.code ≡ 5
+  pub none : count 80 body.attributes ≡ 0
+
+-- an Access-Accept, Access-Reject or Access-Challenge that begins with a Message-Authenticator and has no second
+pub record IsAccessReply (body : Body) : Type 0 where
+  pub code : (body.code ≡ 2) ⊎ ((body.code ≡ 3) ⊎ (body.code ≡ 11))
+  pub first : BeginsWithMessageAuthenticator body.attributes
+  pub only : count 80 body.attributes ≡ 1
+
+-- a body that can be sealed
 pub record IsReply (body : Body) : Type 0 where
   pub fits : FitsPacket body
-  pub code : body.code ≡ 5
-  pub no_message_authenticator : count 80 body.attributes ≡ 0
+  pub kind : IsAccountingResponse body ⊎ IsAccessReply body
 
 -- a job that can be done
 pub record IsJob (job : Job) : Type 0 where
   pub reply : IsReply job.body.now
-  pub secret : IsSecret job.secret.now
 
--- the reply's octets
+-- The reply's octets: its Message-Authenticator, where it has one, is summed with the Request Authenticator in the
+-- Authenticator's place, and then the Response Authenticator is made.
 abbrev pub reply_octets : Body → ℕ → List ℕ → List ℕ → List ℕ
 reply_octets body identifier request_authenticator secret =
-    packet_octets (packet_of_body body identifier (response_authenticator body identifier request_authenticator secret))
+    let summed = summed_body body identifier request_authenticator secret in
+    packet_octets (packet_of_body summed identifier (response_authenticator summed identifier request_authenticator secret))
 
--- the octets of an Accounting-Request
-abbrev pub request_octets : Body → ℕ → List ℕ → List ℕ
-request_octets body identifier secret =
-    packet_octets (packet_of_body body identifier (accounting_authenticator (packet_of_body body identifier no_authenticator) secret))
+-- an Access-Request, an Accounting-Request or a Status-Server
+abbrev pub IsRequestCode : ℕ → Type 0
+IsRequestCode code = (code ≡ 1) ⊎ ((code ≡ 4) ⊎ (code ≡ 12))
+
+-- The octets of a request. An Accounting-Request gets its Authenticator; another has the one that is given, and its sum
+-- if one of its attributes holds one.
+abbrev pub request_octets : Body → ℕ → List ℕ → List ℕ → List ℕ
+request_octets body identifier authenticator secret =
+    if body.code == 4
+    then packet_octets (packet_of_body body identifier (accounting_authenticator (packet_of_body body identifier authenticator) secret))
+    else packet_octets (packet_of_body (summed_body body identifier authenticator secret) identifier authenticator)
 
 -- each job can be done
 abbrev pub AreJobs : List (Option Job) → Type 0
@@ -51,6 +74,4 @@ lane_octets (Some job) frame = job_octets job
 
 -- each job's reply in the frame of its lane, and the other frames as they were
 abbrev pub sealed : List (Option Job) → List (List ℕ) → List (List ℕ)
-sealed [] frames = frames
-sealed (job ∷ jobs) [] = []
-sealed (job ∷ jobs) (frame ∷ frames) = lane_octets job frame ∷ sealed jobs frames
+sealed jobs frames = zip2 lane_octets jobs frames

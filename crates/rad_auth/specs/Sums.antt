@@ -1,18 +1,41 @@
--- Over which octets each digest runs. A digest is MD5 (RFC 1321), whose meaning is the crate md5's; a secret is a list of
--- octets, which are numbers below 256.
-use Rattle.std.specs.Prelude.{ℕ, List, ◌++◌, replicate}
+-- Over which octets each digest and sum runs. A digest is MD5 (RFC 1321), whose meaning is the crate md5's, and a sum is
+-- HMAC-MD5 (RFC 2104), as rad_hmac defines it. A secret is a list of octets, which are numbers below 256.
+use Rattle.std.specs.Prelude.{ℕ, ◌==◌, ◌&&◌, Bool, if◌then◌else◌, List, [], ◌∷◌, ◌++◌, length, replicate}
 use Rattle.md5.specs.Md5.{md5}
+use Rattle.rad_hmac.specs.Hmac.{hmac}
+use Rattle.rad_packet.specs.Attributes.{Attribute}
 use Rattle.rad_packet.specs.Bodies.{Body, packet_of_body}
 use Rattle.rad_packet.specs.Packets.{Packet, packet_octets}
 
 -- sixteen zero octets
-abbrev pub no_authenticator : List ℕ
-no_authenticator = replicate 16 0
+abbrev pub sixteen_zeros : List ℕ
+sixteen_zeros = replicate 16 0
 
 -- The Request Authenticator of an Accounting-Request (RFC 2866, section 3): over the packet with zeros in the
 -- Authenticator's place, and then the secret.
 abbrev pub accounting_authenticator : Packet → List ℕ → List ℕ
-accounting_authenticator p secret = md5 (packet_octets (record p { authenticator = no_authenticator }) ++ secret)
+accounting_authenticator p secret = md5 (packet_octets (record p { authenticator = sixteen_zeros }) ++ secret)
+
+-- an attribute that holds a sum: a Message-Authenticator, Type 80, with a Value of 16 octets
+abbrev pub holds_sum : Attribute → Bool
+holds_sum a = (a.kind == 80) && (length a.value == 16)
+
+-- the attributes with this Value in the first of them that holds a sum, if one does
+abbrev pub with_message_authenticator : List ℕ → List Attribute → List Attribute
+with_message_authenticator value [] = []
+with_message_authenticator value (a ∷ list) =
+    if holds_sum a then record a { value = value } ∷ list else a ∷ with_message_authenticator value list
+
+-- The Message-Authenticator of a packet (RFC 3579, section 3.2): under the secret, over the packet with zeros in the
+-- place of the sum.
+abbrev pub message_authenticator : Packet → List ℕ → List ℕ
+message_authenticator p secret = hmac secret (packet_octets (record p { attributes = with_message_authenticator sixteen_zeros p.attributes }))
+
+-- the body with its sum, if one of its attributes holds one, over the packet with this Identifier and Authenticator
+abbrev pub summed_body : Body → ℕ → List ℕ → List ℕ → Body
+summed_body body identifier authenticator secret = record body {
+  attributes = with_message_authenticator (message_authenticator (packet_of_body body identifier authenticator) secret) body.attributes;
+}
 
 -- The Response Authenticator (RFC 2865, section 3): over the reply with the Request Authenticator in the Authenticator's
 -- place, and then the secret.

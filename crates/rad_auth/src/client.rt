@@ -1,16 +1,14 @@
 //! The clients that share a secret with the server.
-ghost use Rattle.std.specs.Prelude.{◌≡◌, ◌==◌, position};
+ghost use Rattle.std.specs.Prelude.{◌≡◌, ◌==◌, List, position};
 ghost use Rattle.rad_auth.specs.Clients.{IsSecret};
 
+use crate::secret::Secret;
 use std::alloc::Global;
 use std::marker::Model;
 use thiserror::Error;
 
 /// The most clients that a list holds.
 pub const CLIENTS_MAX: usize = 256;
-
-/// The most octets that a secret has.
-pub const SECRET_MAX: usize = 128;
 
 /// Why a client was not added.
 #[derive(Clone, Copy, Debug, PartialEq, Eq, Error)]
@@ -57,7 +55,8 @@ impl Clients {
 
     /// Adds a client after the others.
     ///
-    /// `Doubled` is told where a client has the address, and `NoMemory` only where none has; either changes nothing.
+    /// There are fewer than `CLIENTS_MAX` so far, and the secret has 1 to `SECRET_MAX` octets. `Doubled` is told where a
+    /// client has the address, and `NoMemory` only where none has; either changes nothing.
     pub fn add(
         &mut self,
         address: u32,
@@ -73,12 +72,9 @@ impl Clients {
         if self.find(address).is_some() {
             return Err(ClientFault::Doubled);
         }
-        let secret = Vec::from_slice(*self.rows.allocator(), secret).map_err(
-            |_| ClientFault::NoMemory,
-        )?;
         let row = ClientRow {
             address,
-            secret,
+            secret: Secret::new(secret),
             require_message_authenticator,
         };
         self.rows.push(row).map_err(|_| ClientFault::NoMemory)
@@ -109,12 +105,11 @@ impl Clients {
     }
 
     /// The secret of the client at this place.
-    pub fn secret(&self, index: u32) -> &[u8]
+    pub fn secret(&self, index: u32) -> &Secret
         requires { index < length self.now }
-        ensures value { result.now ≡ secret_at self.now index }
-        ensures is_secret { IsSecret result.now }
+        ensures { result.now ≡ secret_at self.now index }
     {
-        self.rows[index as usize].secret.as_slice()
+        &self.rows[index as usize].secret
     }
 
     /// Whether requests of the client at this place need a Message-Authenticator.
@@ -130,9 +125,8 @@ impl Clients {
 #[derive(Drop)]
 struct ClientRow {
     address: u32,
-    secret: Vec<u8>,
+    secret: Secret,
     require_message_authenticator: bool,
-    ghost is_secret: { IsSecret secret.items },
 }
 
 // The place of the first row with this address.

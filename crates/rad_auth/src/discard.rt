@@ -7,7 +7,7 @@ use thiserror::Error;
 
 /// Why a datagram is silently discarded, in the order in which the checks are made.
 ///
-/// Source: RFC 2865, section 3; RFC 2866, section 3.
+/// Source: RFC 2865, section 3; RFC 2866, sections 3 and 5.1; RFC 3579, section 3; RFC 5997, section 3.
 #[derive(Clone, Copy, Debug, PartialEq, Eq, Error)]
 pub enum Discard {
     #[error("the source address is no client's")]
@@ -24,6 +24,14 @@ pub enum Discard {
     WrongCode,
     #[error("a wrong Request Authenticator")]
     BadAuthenticator,
+    #[error("a doubled or wrong Message-Authenticator")]
+    BadMessageAuthenticator,
+    #[error("no Message-Authenticator where one must be")]
+    NoMessageAuthenticator,
+    #[error("no Acct-Status-Type of 4 octets")]
+    NoStatusType,
+    #[error("Proxy-State attributes of more than 3584 octets")]
+    ProxyStateTooLong,
 }
 
 impl Discard {
@@ -40,6 +48,10 @@ impl Discard {
             Discard::BadAttributes => (5, "BadAttributes"),
             Discard::WrongCode => (6, "WrongCode"),
             Discard::BadAuthenticator => (7, "BadAuthenticator"),
+            Discard::BadMessageAuthenticator => (8, "BadMessageAuthenticator"),
+            Discard::NoMessageAuthenticator => (9, "NoMessageAuthenticator"),
+            Discard::NoStatusType => (10, "NoStatusType"),
+            Discard::ProxyStateTooLong => (11, "ProxyStateTooLong"),
         }
     }
 }

@@ -1,8 +1,10 @@
-//! Admission of datagrams and sealing of replies under shared secrets (RFC 2865, section 3; RFC 2866, section 3).
+//! Admission of datagrams, and sealing of replies, under shared secrets (RFC 2865, section 3; RFC 2866, section 3;
+//! RFC 3579, section 3.2; RFC 5997, section 3).
 //!
 //! `check8` says of eight arrivals which are requests of a client, and which discard is told of the others; `seal8` writes
-//! eight replies with their Response Authenticators. Both work on borrowed octets and take no memory; of the crate's calls
-//! only `Clients::add` does.
+//! eight replies with their Message-Authenticators and Response Authenticators. What is digested and summed is laid out as
+//! borrowed slices, and one pass over eight lanes makes all digests, another all sums. Of the crate's calls only
+//! `Clients::add` takes memory.
 //!
 //! Others rest on this: each lane of `check8` is the verdict of `specs/Admission.antt`, and each frame of `seal8` has the
 //! octets of `specs/Sealing.antt`.
@@ -10,16 +12,22 @@
 
 mod admit;
 mod arrival;
+mod candidate;
 mod client;
 mod discard;
+mod noted;
+mod reply_sums;
+mod request_sums;
 mod seal;
+mod secret;
 mod sums;
 
-pub use admit::check8;
+pub use admit::{PROXY_STATES_MAX, check8};
 pub use arrival::{Arrival, Door, Request};
-pub use client::{CLIENTS_MAX, ClientFault, Clients, SECRET_MAX};
+pub use client::{CLIENTS_MAX, ClientFault, Clients};
 pub use discard::Discard;
 pub use seal::{Job, response_authenticator, seal8, sign_request};
+pub use secret::{SECRET_MAX, Secret};
 
 #[cfg(test)]
 mod tests;

@@ -1,27 +1,53 @@
-//! The digests that admission and sealing need, over borrowed parts that are never joined.
-ghost use Rattle.std.specs.Prelude.{◌≡◌, ◌++◌};
+//! The digests and sums of requests and replies, and the octets that they run over.
+ghost use Rattle.std.specs.Prelude.{◌≡◌, ◌+◌, ◌-◌, ◌<◌, ◌≤◌, ◌^◌, ◌++◌, length, take, drop};
+ghost use Rattle.md5.specs.Md5.{md5};
+ghost use Rattle.rad_md5.specs.Pieces.{HasFreePiece, message};
 ghost use Rattle.rad_packet.specs.Bodies.{packet_of_body};
 ghost use Rattle.rad_packet.specs.Packets.{packet_octets};
-ghost use Rattle.md5.specs.Md5.{md5};
-ghost use Rattle.rad_auth.specs.Sums.{accounting_authenticator};
+ghost use Rattle.rad_auth.specs.Noted.{with_sum};
+ghost use Rattle.rad_auth.specs.Sums.{sixteen_zeros};
 ghost use Rattle.rad_auth.specs.Sealing.{FitsPacket};
 
 use md5::{Digest, Md5};
-use rad_packet::{Body, HEADER_SIZE, Packet};
+use rad_md5::Pieces;
+use rad_packet::{Body, HEADER_SIZE};
 
-pub(crate) const NO_AUTHENTICATOR: [u8; 16] = [0; 16];
+/// What stands in the place of an Authenticator or a sum while it is made.
+pub(crate) const SIXTEEN_ZEROS: [u8; 16] = [0; 16];
 
-/// The Request Authenticator that an Accounting-Request has to have under a secret.
-pub(crate) fn accounting_authenticator(packet: &Packet, secret: &[u8]) -> [u8; 16]
-    ensures { result ≡ accounting_authenticator packet.now secret.now }
+/// An empty message.
+pub(crate) fn nothing<'a>() -> Pieces<'a>
+    ensures free { HasFreePiece result }
+    ensures short { length (message result) < 2 ^ 32 - 64 }
 {
-    let (header, attributes) = packet.octets().split_at(HEADER_SIZE);
-    let mut digest = Md5::new();
-    digest.update(&header[..4]);
-    digest.update(&NO_AUTHENTICATOR);
-    digest.update(attributes);
-    digest.update(secret);
-    digest.finalize()
+    Pieces::of([&[], &[], &[], &[], &[]])
+}
+
+/// A packet with zeros in the place of the sum that stands before its last so many octets.
+pub(crate) fn summed_pieces<'a>(octets: &'a [u8], behind: usize) -> Pieces<'a>
+    requires place { behind + 16 ≤ length octets.now }
+    requires short { length octets.now ≤ 4096 }
+    ensures message { message result ≡ with_sum behind sixteen_zeros octets.now }
+    ensures free { HasFreePiece result }
+    ensures short { length (message result) < 2 ^ 32 - 64 }
+{
+    let end = octets.len() - behind;
+    Pieces::of([
+        &octets[..end - 16],
+        &SIXTEEN_ZEROS,
+        &octets[end..],
+        &[],
+        &[],
+    ])
+}
+
+/// A packet with zeros in the place of its Authenticator, and then the secret.
+pub(crate) fn accounting_pieces<'a>(octets: &'a [u8], secret: &'a [u8]) -> Pieces<'a>
+    requires header { 20 ≤ length octets.now }
+    requires short { length octets.now + length secret.now ≤ 8192 }
+    ensures { message result ≡ take 4 octets.now ++ sixteen_zeros ++ drop 20 octets.now ++ secret.now }
+{
+    Pieces::of([&octets[..4], &SIXTEEN_ZEROS, &octets[20..], secret, &[]])
 }
 
 /// The digest of a packet that says this body, with this Authenticator, and then the secret.

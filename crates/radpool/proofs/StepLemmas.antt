@@ -1,43 +1,64 @@
--- The Accounting-Response of a request says what a reply may say.
-use Rattle.std.proofs.Common.{◌≡◌, ℕ, ◌≤◌, Bool, true, false, cond, eqb, List, [], ◌∷◌, ◌++◌, refl, ap, sym, ◌∙◌, arith}
+-- The reply to a request says what a reply may say.
+use Rattle.std.proofs.Common.{◌≡◌, ◌⊎◌, ℕ, ◌+◌, ◌≤◌, Bool, true, false, cond, eqb, List, [], ◌∷◌, ◌++◌, length, refl, ap, ◌∙◌, arith, inl, inr}
+use Rattle.std.specs.Prelude.{codes}
 use Rattle.std.proofs.lemmas.Bool.{eqb-true, ne_eqb}
-use Rattle.std.proofs.lemmas.List.{length-append, append-nil}
-use Rattle.std.proofs.lemmas.List.Sums.{sum_by-cons}
-use Rattle.rad_packet.specs.Attributes.{Attribute, count, size, attributes_octets}
-use Rattle.rad_packet.specs.Bodies.{Body}
-use Rattle.rad_packet.specs.Packets.{Packet, length_max, packet_length}
+use Rattle.std.proofs.lemmas.Grind.{flat_map-append}
+use Rattle.std.proofs.lemmas.List.{length-append}
+use Rattle.std.proofs.lemmas.List.Sums.{sum_by-append, sum_by-cons}
+use Rattle.rad_packet.specs.Attributes.{Attribute, attribute_octets, attributes_octets, count, of_kind, size}
+use Rattle.rad_packet.specs.Packets.{Packet}
+use Rattle.rad_auth.specs.Admission.{proxy_states_max, proxy_states_size}
 use Rattle.rad_auth.specs.Sealing.{IsReply}
-use Rattle.radpool.specs.Steps.{accounting_response, proxy_states}
+use Rattle.rad_auth.specs.Sums.{sixteen_zeros}
+use Rattle.rad_auth.specs.declared.arrival.Door.{Door}
+use Rattle.rad_auth.specs.declared.arrival.Door.TheVariants.{Auth, Acct}
+use Rattle.radpool.specs.Steps.{access_denied, accounting_response, reply_by_code, status_accept, with_proxy_states}
 
--- a selection of attributes is no larger than all of them
-pub size-proxy_states : (list : List Attribute) → size (proxy_states list) ≤ size list
-size-proxy_states [] = omega arith
-size-proxy_states (a ∷ list) =
-    let others = size-proxy_states list in
-    let all = length-append a.value (attributes_octets list) in
-    let some = length-append a.value (attributes_octets (proxy_states list)) in
-    elim (eqb a.kind 33) as (λ b. size (cond b (a ∷ proxy_states list) (proxy_states list)) ≤ size (a ∷ list)) [ true ↦ omega arith | false ↦ omega arith ]
+size-append : (front back : List Attribute) → size (front ++ back) ≡ size front + size back
+size-append front back =
+    ap length (flat_map-append attribute_octets front back) ∙ length-append (attributes_octets front) (attributes_octets back)
+
+count-append : (kind : ℕ) (front back : List Attribute) → count kind (front ++ back) ≡ count kind front + count kind back
+count-append kind front back = sum_by-append (λ (a : Attribute). cond (eqb a.kind kind) 1 0) front back
 
 -- a Proxy-State is no Message-Authenticator
-pub count-proxy_states : (list : List Attribute) → count 80 (proxy_states list) ≡ 0
-count-proxy_states [] = refl
-count-proxy_states (a ∷ list) = at (eqb a.kind 33) refl (count-proxy_states list)
+count-of_kind : (list : List Attribute) → count 80 (of_kind 33 list) ≡ 0
+count-of_kind [] = refl
+count-of_kind (a ∷ list) = at (eqb a.kind 33) refl (count-of_kind list)
   where
-    at : (b : Bool) → eqb a.kind 33 ≡ b → count 80 (proxy_states list) ≡ 0 → count 80 (cond b (a ∷ proxy_states list) (proxy_states list)) ≡ 0
+    at : (b : Bool) → eqb a.kind 33 ≡ b → count 80 (of_kind 33 list) ≡ 0 → count 80 (cond b (a ∷ of_kind 33 list) (of_kind 33 list)) ≡ 0
     at false e others = others
     at true e others =
         let other : eqb a.kind 80 ≡ false = ne_eqb a.kind 80 (λ is. absurd (omega (arith, eqb-true a.kind 33 e))) in
-        sum_by-cons (λ (x : Attribute). cond (eqb x.kind 80) 1 0) a (proxy_states list) ∙ rw other (omega (arith, others))
+        sum_by-cons (λ (x : Attribute). cond (eqb x.kind 80) 1 0) a (of_kind 33 list) ∙ rw other (omega (arith, others))
 
-pub accounting_response_is_reply : (p : Packet) → packet_length p ≤ length_max → IsReply (accounting_response p)
-accounting_response_is_reply p le = record {
-  fits = omega (arith, size-proxy_states p.attributes);
-  code = refl;
-  no_message_authenticator = count-proxy_states p.attributes;
+accounting_is_reply : (p : Packet) → proxy_states_size p ≤ proxy_states_max → IsReply (with_proxy_states p accounting_response)
+accounting_is_reply p le = record {
+  fits = omega arith;
+  kind = inl (record { code = refl; none = count-of_kind p.attributes });
 }
 
--- the body where nothing is left to be copied
-pub copied_is : (body : Body) (p : Packet) (rest : List Attribute) → body.code ≡ 5 → body.attributes ++ proxy_states rest ≡ proxy_states p.attributes → rest ≡ [] → body ≡ accounting_response p
-copied_is body p rest code copied none =
-    let all : body.attributes ≡ proxy_states p.attributes = sym (append-nil body.attributes) ∙ ap (λ (list : List Attribute). body.attributes ++ proxy_states list) (sym none) ∙ copied in
-    ap (λ (n : ℕ). record { code = n; attributes = body.attributes }) code ∙ ap (λ (list : List Attribute). record { code = 5; attributes = list }) all
+-- the Message-Authenticator of a reply that is not sealed
+abbrev unsealed : Attribute
+unsealed = record { kind = 80; value = sixteen_zeros }
+
+-- it, a few other attributes, and the Proxy-States
+access_is_reply : (code : ℕ) (list : List Attribute) (p : Packet) → (code ≡ 2) ⊎ ((code ≡ 3) ⊎ (code ≡ 11)) → size list ≤ 255 → count 80 list ≡ 0
+    → proxy_states_size p ≤ proxy_states_max → IsReply (with_proxy_states p (record { code = code; attributes = unsealed ∷ list }))
+access_is_reply code list p is short none le = record {
+  fits = omega (arith, size-append list (of_kind 33 p.attributes));
+  kind = inr (record {
+    code = is;
+    first = (refl, refl);
+    only =
+        let front : count 80 (unsealed ∷ list ++ of_kind 33 p.attributes) ≡ 1 + count 80 (list ++ of_kind 33 p.attributes) = sum_by-cons (λ (x : Attribute). cond (eqb x.kind 80) 1 0) unsealed (list ++ of_kind 33 p.attributes) in
+        front ∙ omega (arith, count-append 80 list (of_kind 33 p.attributes), count-of_kind p.attributes);
+  });
+}
+
+pub reply_is_reply : (door : Door) (code : ℕ) (p : Packet) → proxy_states_size p ≤ proxy_states_max → IsReply (with_proxy_states p (reply_by_code door code))
+reply_is_reply Acct code p le = accounting_is_reply p le
+reply_is_reply Auth code p le = elim (eqb code 12) as (λ b. IsReply (with_proxy_states p (cond b status_accept access_denied))) [
+  | true ↦ access_is_reply 2 [] p (inl refl) (omega arith) refl le
+  | false ↦ access_is_reply 3 (record { kind = 18; value = codes "access denied" } ∷ []) p (inr (inl refl)) (omega arith) refl le
+]

@@ -1,6 +1,6 @@
 //! Answers: the line for one datagram after the other, with the server's state carried along.
 ghost use Rattle.std.specs.Prelude.{◌≡◌, ◌≤◌, ◌<◌, ◌^◌, length, IfOk};
-ghost use Rattle.rad_auth.specs.Admission.{admission};
+ghost use Rattle.rad_auth.specs.Admission.{IsRequest, admission};
 ghost use Rattle.rad_auth.specs.Clients.{secret_at};
 ghost use Rattle.rad_auth.specs.Datagrams.{datagram_of};
 ghost use Rattle.rad_auth.specs.Sealing.{IsReply, reply_octets};
@@ -69,7 +69,7 @@ impl<'a> Answers<'a> {
 
     fn answer_request(&mut self, alloc: Global, number: u64, moment: u64, request: &Request)
         requires moment { moment ≤ 2 ^ 62 }
-        requires client { request.now.client < length self.old.clients.now }
+        requires request { IsRequest self.old.clients.now request.now }
         ensures line { IsLineOfRequest self.old.clients.now number self.old.state moment request.now self.new.line self.new.state }
         ensures clients { self.new.clients ≡ self.old.clients }
     {
@@ -110,7 +110,7 @@ fn seal<'x>(clients: &'x Clients, request: &Request, body: &'x Body, frames: &mu
 // The verdict on one arrival.
 fn admit<'a>(clients: &Clients, arrival: Arrival<'a>) -> Result<Request<'a>, Discard>
     ensures verdict { result ≡ admission clients.now (datagram_of arrival.entry) }
-    ensures client { IfOk result (λ request. request.client < length clients.now) }
+    ensures request { IfOk result (IsRequest clients.now) }
 {
     let arrivals = [Some(arrival), None, None, None, None, None, None, None];
     let mut verdicts = check8(clients, &arrivals).into_iter();

@@ -18,7 +18,7 @@ fn a_client_is_found(rt: HostRuntime) -> Result<(), Fail> {
     let clients = read_clients(rt.alloc(), GATEWAY.as_bytes())?;
     assert_eq!(rt; clients.len(), 1);
     assert_eq!(rt; clients.find(0xC0A8_0110), Some(0));
-    assert_eq!(rt; clients.secret(0), b"xyzzy5461".as_slice());
+    assert_eq!(rt; clients.secret(0).octets(), b"xyzzy5461".as_slice());
     assert!(rt; !clients.require_message_authenticator(0));
     Ok(())
 }

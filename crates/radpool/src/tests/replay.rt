@@ -1,4 +1,5 @@
-//! Whole replays, over memory. The digests of requests and replies were made with Python's `hashlib`.
+//! Whole replays, over memory. The digests and sums of requests and replies were made with Python's `hashlib` and `hmac`, but
+//! for those of RFC 2865, section 7.1, and RFC 5997, section 6.
 
 use crate::replay::run_replay;
 use crate::run_fault::RunFault;
@@ -18,7 +19,10 @@ const DROPS: &str = "0 acct 192.168.1.17:1813 -\n\
     3 acct 192.168.1.16:1813 0401001500000000000000000000000000000000\n\
     4 acct 192.168.1.16:1813 04010016000000000000000000000000000000002801\n\
     5 acct 192.168.1.16:1813 0501001400000000000000000000000000000000\n\
-    6 acct 192.168.1.16:1813 0401001400000000000000000000000000000000\n";
+    6 acct 192.168.1.16:1813 0401001400000000000000000000000000000000\n\
+    7 auth 192.168.1.16:1024 0100004a0f403f9473978057bd83d5cb98f4227a01066e656d6f02120dbe708d93d413ce3196e43f782a0aee0406c0a80110050600000003501200000000000000000000000000000000\n\
+    8 auth 192.168.1.16:1024 0100003f0f403f9473978057bd83d5cb98f4227a01066e656d6f02120dbe708d93d413ce3196e43f782a0aee0406c0a801100506000000034f070200000501\n\
+    9 acct 192.168.1.16:1813 040700177954c8809bcdc824ae6854ceec295ba52c0361\n";
 
 const DROPPED: &str = "1 drop 1 UnknownClient\n\
     2 drop 2 Short\n\
@@ -26,7 +30,10 @@ const DROPPED: &str = "1 drop 1 UnknownClient\n\
     4 drop 4 Truncated\n\
     5 drop 5 BadAttributes\n\
     6 drop 6 WrongCode\n\
-    7 drop 7 BadAuthenticator\n";
+    7 drop 7 BadAuthenticator\n\
+    8 drop 8 BadMessageAuthenticator\n\
+    9 drop 9 NoMessageAuthenticator\n\
+    10 drop 10 NoStatusType\n";
 
 /// An Accounting-Request of a session that starts, and its reply after the number.
 const START: &str = "7 acct 192.168.1.16:1813 0407001abf750299ba7111cf8a9def2b872d436c280600000001";
@@ -52,6 +59,54 @@ const TWICE_PROXIED: &str =
 const TWICE_PROXIED_REPLY: &str =
     "reply 0507001d209fd420d5d1d9450e5c22444667f9b421047a7a2105616263\n";
 
+/// The Access-Request of RFC 2865, section 7.1.
+const ACCESS: &str =
+    "10 auth 192.168.1.16:1024 010000380f403f9473978057bd83d5cb98f4227a01066e656d6f02120dbe708d93d413ce3196e43f782a0aee0406c0a80110050600000003";
+
+const ACCESS_REPLY: &str =
+    "reply 0300003569021d8f0e43ed94ff117bb6acdf66045012902a49a4f596009cb3e6d869e09528af120f6163636573732064656e696564\n";
+
+/// The same between two Proxy-States.
+const PROXIED_ACCESS: &str =
+    "11 auth 192.168.1.16:1024 010000410f403f9473978057bd83d5cb98f4227a21047a7a01066e656d6f02120dbe708d93d413ce3196e43f782a0aee0406c0a801100506000000032105616263";
+
+const PROXIED_ACCESS_REPLY: &str =
+    "reply 0300003ec8136e558ae07c905538baf25241c8635012e48b64e74355405420f7666167926a7e120f6163636573732064656e69656421047a7a2105616263\n";
+
+/// With a State, which does not come back.
+const STATE_ACCESS: &str =
+    "12 auth 192.168.1.16:1024 0100003d0f403f9473978057bd83d5cb98f4227a01066e656d6f02120dbe708d93d413ce3196e43f782a0aee0406c0a801100506000000031805616263";
+
+/// With an EAP-Message and a Message-Authenticator.
+const EAP_ACCESS: &str =
+    "13 auth 192.168.1.16:1024 010300510f403f9473978057bd83d5cb98f4227a01066e656d6f02120dbe708d93d413ce3196e43f782a0aee0406c0a801100506000000034f07020000050150125eaf9de74dae93f889e1907563aa5640";
+
+const EAP_ACCESS_REPLY: &str =
+    "reply 03030035bebec41feba90d58659595eb2fe2098e5012106b316fbf5acc767a5b1f16ac33badf120f6163636573732064656e696564\n";
+
+/// The Status-Server of RFC 5997, section 6.1.
+const STATUS: &str =
+    "14 auth 192.168.1.16:1024 0cda00268a54f4686fb394c52866e302185d062350125a665e2e1e8411f3e243822097c84fa3";
+
+const STATUS_REPLY: &str =
+    "reply 02da00267e6d7a5f5dfa87b519bef260a6f15081501257566a4a4a4c690f8e18b73ae7a7f65f\n";
+
+/// That of section 6.2, to the accounting door.
+const ACCT_STATUS: &str =
+    "15 acct 192.168.1.16:1024 0cb30026925f6b66dd5fed571fcb1db7ad3882605012e8d6eabda910875cd91fdade26367858";
+
+const ACCT_STATUS_REPLY: &str = "reply 05b300140f6f92145f107e2f504e860a4860669c\n";
+
+/// A Status-Server with two Proxy-States, after the door, and its replies at either door.
+const PROXIED_STATUS: &str =
+    " 192.168.1.16:1024 0c09002f8a54f4686fb394c52866e302185d062350121dd7410c3f96080f1b791d21febe7a6f21047a7a2105616263";
+
+const PROXIED_STATUS_ACCEPT: &str =
+    "reply 0209002f1425ec08c70ee962a4d5f2673898cb20501212bd3059d2123b2183999a58d769a68621047a7a2105616263\n";
+
+const PROXIED_STATUS_RESPONSE: &str =
+    "reply 0509001d0b44bdbbb3a9de12bdfc431255a7f05821047a7a2105616263\n";
+
 /// A transcript in parts, the parts that a replay of it writes, and the printed fault that ends it, or nothing.
 #[derive(Clone, Copy)]
 struct Scenario {
@@ -61,9 +116,9 @@ struct Scenario {
     fault: &'static str,
 }
 
-const SCENARIOS: [Scenario; 16] = [
+const SCENARIOS: [Scenario; 23] = [
     Scenario {
-        name: "each way to be dropped",
+        name: "ten ways to be dropped",
         input: &[GATEWAY, DROPS],
         output: &[DROPPED],
         fault: "",
@@ -95,6 +150,74 @@ const SCENARIOS: [Scenario; 16] = [
         name: "two Proxy-States",
         input: &[GATEWAY, TWICE_PROXIED, "\n"],
         output: &["1 ", TWICE_PROXIED_REPLY],
+        fault: "",
+    },
+    Scenario {
+        name: "an Access-Request",
+        input: &[GATEWAY, ACCESS, "\n"],
+        output: &["1 ", ACCESS_REPLY],
+        fault: "",
+    },
+    Scenario {
+        name: "an Access-Request with two Proxy-States",
+        input: &[GATEWAY, PROXIED_ACCESS, "\n"],
+        output: &["1 ", PROXIED_ACCESS_REPLY],
+        fault: "",
+    },
+    Scenario {
+        name: "an Access-Request with a State, and one with an EAP-Message",
+        input: &[GATEWAY, STATE_ACCESS, "\n", EAP_ACCESS, "\n"],
+        output: &["1 ", ACCESS_REPLY, "2 ", EAP_ACCESS_REPLY],
+        fault: "",
+    },
+    Scenario {
+        name: "an Access-Request to the accounting door",
+        input: &[
+            GATEWAY,
+            "0 acct 192.168.1.16:1024 010000380f403f9473978057bd83d5cb98f4227a01066e656d6f02120dbe708d93d413ce3196e43f782a0aee0406c0a80110050600000003\n",
+        ],
+        output: &["1 drop 6 WrongCode\n"],
+        fault: "",
+    },
+    Scenario {
+        name: "a Status-Server to each door",
+        input: &[GATEWAY, STATUS, "\n", ACCT_STATUS, "\n"],
+        output: &["1 ", STATUS_REPLY, "2 ", ACCT_STATUS_REPLY],
+        fault: "",
+    },
+    Scenario {
+        name: "a Status-Server with two Proxy-States to each door",
+        input: &[
+            GATEWAY,
+            "0 auth",
+            PROXIED_STATUS,
+            "\n0 acct",
+            PROXIED_STATUS,
+            "\n",
+        ],
+        output: &["1 ", PROXIED_STATUS_ACCEPT, "2 ", PROXIED_STATUS_RESPONSE],
+        fault: "",
+    },
+    Scenario {
+        name: "repeats",
+        input: &[
+            GATEWAY, STATUS, "\n", ACCESS, "\n", STATUS, "\n", ACCESS, "\n", START, "\n", START,
+            "\n",
+        ],
+        output: &[
+            "1 ",
+            STATUS_REPLY,
+            "2 ",
+            ACCESS_REPLY,
+            "3 ",
+            STATUS_REPLY,
+            "4 ",
+            ACCESS_REPLY,
+            "5 ",
+            START_REPLY,
+            "6 ",
+            START_REPLY,
+        ],
         fault: "",
     },
     Scenario {
@@ -199,6 +322,42 @@ fn scenarios(rt: HostRuntime) -> Result<(), Fail> {
         assert_eq!(rt; printed(&rt, result)?.as_str(), scenario.fault, "at {name}");
         assert_eq!(rt; output.as_slice(), expected.as_bytes(), "at {name}");
     }
+    Ok(())
+}
+
+/// Fourteen Proxy-States of 255 octets, in hexadecimal.
+fn long_proxy_states(rt: &impl AllocGlobal) -> Result<String, AllocError> {
+    let value = "61".repeat(rt.alloc(), 253)?;
+    let attribute = ["21ff", value.as_str()].concat(rt.alloc())?;
+    attribute.repeat(rt.alloc(), 14)
+}
+
+/// An Access-Request with 3,584 octets of Proxy-State, the most that are copied, and one with an octet more.
+#[test]
+fn the_most_proxy_states(rt: HostRuntime) -> Result<(), Fail> {
+    let long = long_proxy_states(&rt)?;
+    let input = [
+        GATEWAY,
+        "0 auth 192.168.1.16:1024 01000e140f403f9473978057bd83d5cb98f4227a",
+        long.as_str(),
+        "210e626262626262626262626262\n",
+        "0 auth 192.168.1.16:1024 01000e150f403f9473978057bd83d5cb98f4227a",
+        long.as_str(),
+        "210f62626262626262626262626262\n",
+    ]
+    .concat(rt.alloc())?;
+    let expected = [
+        "1 reply 03000e3507e6534637ff5d5e0f5f252ceb54f3fa",
+        "501281d9e2e9fd4ff87bba51d20649d61489120f6163636573732064656e696564",
+        long.as_str(),
+        "210e626262626262626262626262\n",
+        "2 drop 11 ProxyStateTooLong\n",
+    ]
+    .concat(rt.alloc())?;
+    let mut output = Vec::new(rt.alloc());
+    let result = run_replay(rt.alloc(), &mut input.as_bytes(), &mut output);
+    assert_eq!(rt; printed(&rt, result)?.as_str(), "");
+    assert_eq!(rt; output.as_slice(), expected.as_bytes());
     Ok(())
 }
 
