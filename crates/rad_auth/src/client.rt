@@ -1,8 +1,8 @@
 //! The clients that share a secret with the server.
-ghost use Rattle.std.specs.Prelude.{◌≡◌, ◌==◌, List, position};
-ghost use Rattle.rad_auth.specs.Clients.{IsSecret};
+ghost use Rattle.std.specs.Prelude.{◌≡◌, ◌↔◌, IsTrue};
 
 use crate::secret::Secret;
+use indexmap::IndexSet;
 use std::alloc::Global;
 use std::marker::Model;
 use thiserror::Error;
@@ -25,10 +25,12 @@ pub enum ClientFault {
 #[derive(Drop)]
 pub struct Clients {
     rows: Vec<ClientRow>,
+    // The clients' addresses: each has the place of its client.
+    addresses: IndexSet<u32>,
 }
 
 impl Model for Clients {
-    ghost use Rattle.std.specs.Prelude.{List, length, ◌≤◌};
+    ghost use Rattle.std.specs.Prelude.{◌≡◌, ◌≤◌, List, length, map};
     ghost use Rattle.rad_auth.specs.Clients.{Client, clients_max};
 
     ghost Value = { List Client };
@@ -37,11 +39,11 @@ impl Model for Clients {
 
     ghost view = { λ a. row_clients a.rows.items };
 
-    ghost invariant = { λ a. length a.rows.items ≤ clients_max };
+    ghost invariant = { λ a. (a.addresses.keys ≡ map (λ row. row.address) a.rows.items) × (length a.rows.items ≤ clients_max) };
 }
 
 impl Clients {
-    ghost use Rattle.std.specs.Prelude.{◌≡◌, ◌<◌, ◌≤◌, ◌==◌, ◌↔◌, List, [], ◌∷◌, ◌++◌, length, OnOk, OnErr, IsErrOf, IsSome, IfSome};
+    ghost use Rattle.std.specs.Prelude.{◌≡◌, ◌<◌, ◌≤◌, ◌==◌, ◌↔◌, [], ◌∷◌, ◌++◌, length, OnOk, OnErr, IsErrOf, IsSome, IfSome};
     ghost use Rattle.rad_auth.specs.Clients.{Client, IsSecret, clients_max, client_at, client_of, secret_at};
 
     /// An empty list of clients.
@@ -50,6 +52,7 @@ impl Clients {
     {
         Clients {
             rows: Vec::new(alloc),
+            addresses: IndexSet::new(alloc),
         }
     }
 
@@ -72,12 +75,18 @@ impl Clients {
         if self.find(address).is_some() {
             return Err(ClientFault::Doubled);
         }
+        // The set takes the address only once the rows have room, so that both have the client or neither.
+        self.rows.reserve(1).map_err(|_| ClientFault::NoMemory)?;
+        self.addresses
+            .insert(address)
+            .map_err(|_| ClientFault::NoMemory)?;
         let row = ClientRow {
             address,
             secret: Secret::new(secret),
             require_message_authenticator,
         };
-        self.rows.push(row).map_err(|_| ClientFault::NoMemory)
+        self.rows.push(row).unwrap();
+        Ok(())
     }
 
     /// How many clients there are.
@@ -95,12 +104,20 @@ impl Clients {
         self.rows.is_empty()
     }
 
+    /// Whether the other list has the same clients in the same order: addresses, secrets, and whether requests need a
+    /// Message-Authenticator.
+    pub fn same(&self, other: &Clients) -> bool
+        ensures { IsTrue result ↔ (self.now ≡ other.now) }
+    {
+        same_rows(&self.rows, &other.rows)
+    }
+
     /// The place of the client with this address.
     pub fn find(&self, source: u32) -> Option<u32>
         ensures value { result ≡ client_at self.now source }
         ensures within { IfSome result (λ index. index < length self.now) }
     {
-        let place = place_of(&self.rows, source)?;
+        let place = self.addresses.get_index_of(&source)?;
         Some(place as u32)
     }
 
@@ -129,9 +146,20 @@ struct ClientRow {
     require_message_authenticator: bool,
 }
 
-// The place of the first row with this address.
-fn place_of(rows: &[ClientRow], source: u32) -> Option<usize>
-    ensures { result ≡ position (λ row. row.address == source) rows.now }
+impl ClientRow {
+    // Whether the other row says the same of its client.
+    fn same(&self, other: &ClientRow) -> bool
+        ensures { IsTrue result ↔ (self.now ≡ other.now) }
+    {
+        self.address == other.address
+            && self.secret.octets() == other.secret.octets()
+            && self.require_message_authenticator == other.require_message_authenticator
+    }
+}
+
+// Whether both have the same rows in the same order.
+fn same_rows(rows: &[ClientRow], others: &[ClientRow]) -> bool
+    ensures { IsTrue result ↔ (rows.now ≡ others.now) }
 {
-    rows.iter().position(|row| row.address == source)
+    rows.len() == others.len() && rows.iter().zip(others).all(|(row, other)| row.same(other))
 }
