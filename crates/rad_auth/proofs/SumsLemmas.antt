@@ -18,9 +18,6 @@ pub unsigned_parts : (octets : List ℕ) (p : Packet) → octets ≡ packet_octe
     → take 4 octets ++ sixteen_zeros ++ drop 20 octets ≡ packet_octets (record p { authenticator = sixteen_zeros })
 unsigned_parts octets p e len = ap (λ (o : List ℕ). take 4 o ++ sixteen_zeros ++ drop 20 o) e ∙ parts p len
 
-pub packet_long : (octets : List ℕ) (p : Packet) → octets ≡ packet_octets p → length p.authenticator ≡ 16 → 20 ≤ length octets
-packet_long octets p e len = omega (arith, ap length e, length-append p.authenticator (attributes_octets p.attributes))
-
 -- ---- a packet with another Value in the place of its sum
 
 -- Octets with a sum before the last n of them, and what they are with another Value in its place.
