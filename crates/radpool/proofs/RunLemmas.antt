@@ -3,12 +3,12 @@ use Rattle.std.proofs.Common.{◌≡◌, ℕ, suc, ◌≤◌, ◌⊎◌, Bool, t
 use Rattle.std.specs.Prelude.{filter, map, option_map, unwrap_or, IfSome}
 use Rattle.std.specs.Io.KnownBytes.{Appends, Consumes, IsAtEnd}
 use Rattle.std.proofs.lemmas.List.{append-nil, length-map}
-use Rattle.rad_auth.specs.Clients.{Client}
-use Rattle.radpool.specs.declared.config_fault.ConfigFault.{ConfigFault}
-use Rattle.radpool.specs.declared.config_fault.ConfigFault.TheVariants as fault
+use Rattle.rad_config.specs.Configurations.{Configuration}
+use Rattle.rad_config.specs.declared.config_fault.ConfigFault.{ConfigFault}
+use Rattle.rad_config.specs.declared.config_fault.ConfigFault.TheVariants as fault
 use Rattle.radpool.specs.declared.run_fault.RunFault.{RunFault}
 use Rattle.radpool.specs.declared.run_fault.RunFault.TheVariants as run
-use Rattle.radpool.specs.Configuration.{clients_of}
+use Rattle.radpool.specs.Configuration.{configuration_of_octets}
 use Rattle.radpool.specs.Lines.{Divides, lines_of, onto_first, line_feed, divided, is_divider, is_skipped, datagram_lines, without_return}
 use Rattle.radpool.specs.Answers.{EndsLines}
 use Rattle.radpool.specs.Transcripts.{IsInput, EndsRun, text_max}
@@ -63,21 +63,21 @@ read_all (Some all) (Some rest) text consumed end = consumed ∙ ap (λ (more : 
 
 -- ---- the end of a run
 
-pub is_input : (text before after : List ℕ) (clients : List Client) → length text ≤ text_max → Divides text before after → clients_of before ≡ Ok clients → IsInput text clients (datagram_lines (lines_of after))
-is_input text before after clients short d e = record {
+pub is_input : (text before after : List ℕ) (configuration : Configuration) → length text ≤ text_max → Divides text before after → configuration_of_octets before ≡ Ok configuration → IsInput text configuration (datagram_lines (lines_of after))
+is_input text before after configuration short d e = record {
   short = short;
-  parts = (d.lines_before, lines_of after, d.parts, ap clients_of (sym d.before_is) ∙ e, refl);
+  parts = (d.lines_before, lines_of after, d.parts, ap configuration_of_octets (sym d.before_is) ∙ e, refl);
 }
 
-pub ends_run : (text : List ℕ) (clients : List Client) (lines : List (List ℕ)) (old new : Option (List ℕ)) (result : Result Unit RunFault) → IsInput text clients lines → EndsLines clients lines (Appends old new) result → EndsRun text (Appends old new) result
-ends_run text clients lines old new (Ok done) input end = (clients, lines, input, end)
-ends_run text clients lines old new (Err run.Read) input end = absurd end
-ends_run text clients lines old new (Err run.TooLong) input end = absurd end
-ends_run text clients lines old new (Err run.NoDivider) input end = absurd end
-ends_run text clients lines old new (Err (run.Config told)) input end = absurd end
-ends_run text clients lines old new (Err (run.BadLine number)) input end = (clients, lines, input, end)
-ends_run text clients lines old new (Err run.Write) input end = (clients, lines, input, tt)
-ends_run text clients lines old new (Err run.NoMemory) input end = end
+pub ends_run : (text : List ℕ) (configuration : Configuration) (lines : List (List ℕ)) (old new : Option (List ℕ)) (result : Result Unit RunFault) → IsInput text configuration lines → EndsLines configuration.clients lines (Appends old new) result → EndsRun text (Appends old new) result
+ends_run text configuration lines old new (Ok done) input end = (configuration, lines, input, end)
+ends_run text configuration lines old new (Err run.Read) input end = absurd end
+ends_run text configuration lines old new (Err run.TooLong) input end = absurd end
+ends_run text configuration lines old new (Err run.NoDivider) input end = absurd end
+ends_run text configuration lines old new (Err (run.Config told)) input end = absurd end
+ends_run text configuration lines old new (Err (run.BadLine number)) input end = (configuration, lines, input, end)
+ends_run text configuration lines old new (Err run.Write) input end = (configuration, lines, input, tt)
+ends_run text configuration lines old new (Err run.NoMemory) input end = end
 
 -- what holds of the text that was read holds of what the reader had, where that is known
 pub for_input : (had : Option (List ℕ)) (text : List ℕ) (P : List ℕ → Type 0) → IfSome had (λ all. all ≡ text) → P text → IfSome had P
@@ -85,12 +85,12 @@ for_input None text P same holds = tt
 for_input (Some all) text P same holds = subst P (sym same) holds
 
 pub ends_config : (text got before after : List ℕ) (told : ConfigFault) (wrote : Option (List ℕ)) → length text ≤ text_max → got ≡ text → Divides got before after
-    → (told ≡ fault.NoMemory) ⊎ (clients_of before ≡ Err told) → EndsRun text (Appends wrote wrote) (Err (run.Config told))
+    → (told ≡ fault.NoMemory) ⊎ (configuration_of_octets before ≡ Err told) → EndsRun text (Appends wrote wrote) (Err (run.Config told))
 ends_config text got before after told wrote short same d why = (
   short,
   d.lines_before,
   lines_of after,
   ap (λ (t : List ℕ). divided (lines_of t)) (sym same) ∙ d.parts,
-  elim why [ inl memory ↦ inl memory | inr refused ↦ inr (ap clients_of (sym d.before_is) ∙ refused) ],
+  elim why [ inl memory ↦ inl memory | inr refused ↦ inr (ap configuration_of_octets (sym d.before_is) ∙ refused) ],
   Appends-nil wrote,
 )

@@ -1,6 +1,6 @@
 -- A datagram line of a transcript: `MOMENT DOOR ADDRESS:PORT OCTETS`, with one space between. A text is a list of octets,
 -- which are numbers below 256; a moment is in milliseconds, and an address has its most significant octet first.
-use Rattle.std.specs.Prelude.{ℕ, ◌+◌, ◌-◌, ◌*◌, ◌^◌, ◌==◌, ◌&&◌, ◌||◌, nat_lt, nat_le, Bool, false, if◌then◌else◌, List, [], ◌∷◌, length, codes, Option, Some, None, option_map, option_and_then}
+use Rattle.std.specs.Prelude.{ℕ, ◌*◌, ◌^◌, ◌==◌, ◌||◌, nat_lt, if◌then◌else◌, List, [], length, codes, Option, Some, None}
 use Rattle.std.specs.Result.{result_ok}
 use lib.Pointwise.{pointwise}
 use Rattle.hex.specs.Hex.{decode_of}
@@ -8,63 +8,18 @@ use Rattle.rad_packet.specs.Packets.{length_max}
 use Rattle.rad_auth.specs.declared.arrival.Door.{Door}
 use Rattle.rad_auth.specs.declared.arrival.Door.TheVariants.{Auth, Acct}
 use Rattle.rad_auth.specs.Datagrams.{Datagram}
+use Rattle.rad_config.specs.Decimals.{◌>>=◌, parted, number_of, address_of}
 
 -- a datagram and when it came
 pub record TimedDatagram : Type 0 where
   pub moment : ℕ
   pub datagram : Datagram
 
-infixl 10 ◌>>=◌
-abbrev pub ◌>>=◌ : {A B : Type 0} → Option A → (A → Option B) → Option B
-o >>= f = option_and_then f o
-
--- the text before the first such octet, and the text after it
-abbrev pub parted : ℕ → List ℕ → Option (List ℕ × List ℕ)
-parted separator [] = None
-parted separator (octet ∷ text) = if octet == separator then Some ([], text) else option_map (λ parts. (octet ∷ parts.0, parts.1)) (parted separator text)
-
--- the value of a decimal digit
-abbrev pub digit_of : ℕ → Option ℕ
-digit_of octet = if nat_le 48 octet && nat_le octet 57 then Some (octet - 48) else None
-
--- the number whose first digits gave this number, and whose others are these
-abbrev pub digits_from : ℕ → List ℕ → Option ℕ
-digits_from number [] = Some number
-digits_from number (octet ∷ text) = digit_of octet >>= λ digit. digits_from (10 * number + digit) text
-
--- one to so many decimal digits, of a number up to a greatest
-unfoldable pub number_of : ℕ → ℕ → List ℕ → Option ℕ
-number_of most_digits greatest text =
-    if length text == 0 || nat_lt most_digits (length text) then None
-    else (digits_from 0 text >>= λ number. if nat_le number greatest then Some number else None)
-
 unfoldable pub moment_of : List ℕ → Option ℕ
 moment_of text = number_of 19 (2 ^ 62) text
 
 unfoldable pub port_of : List ℕ → Option ℕ
 port_of text = number_of 5 65535 text
-
--- whether a zero stands before another digit
-abbrev pub has_leading_zero : List ℕ → Bool
-has_leading_zero [] = false
-has_leading_zero (octet ∷ []) = false
-has_leading_zero (octet ∷ next ∷ text) = octet == 48
-
--- one of the four numbers of an address
-unfoldable pub address_part_of : List ℕ → Option ℕ
-address_part_of text = if has_leading_zero text then None else number_of 3 255 text
-
--- four numbers joined by points
-unfoldable pub address_of : List ℕ → Option ℕ
-address_of text = do
-  first ← parted 46 text
-  second ← parted 46 first.1
-  third ← parted 46 second.1
-  a ← address_part_of first.0
-  b ← address_part_of second.0
-  c ← address_part_of third.0
-  d ← address_part_of third.1
-  Some (((a * 256 + b) * 256 + c) * 256 + d)
 
 unfoldable pub door_of : List ℕ → Option Door
 door_of text =

@@ -10,13 +10,14 @@ use Rattle.rad_auth.specs.Discards.{discard_number, discard_name}
 use Rattle.rad_auth.specs.Sealing.{reply_octets}
 use Rattle.rad_auth.specs.declared.arrival.Request.{Request}
 use Rattle.rad_auth.specs.declared.discard.Discard.{Discard}
-use Rattle.radpool.specs.declared.config_fault.ConfigFault.TheVariants as fault
+use Rattle.rad_config.specs.Configurations.{Configuration}
+use Rattle.rad_config.specs.declared.config_fault.ConfigFault.TheVariants as fault
 use Rattle.radpool.specs.declared.run_fault.RunFault.{RunFault}
 use Rattle.radpool.specs.declared.run_fault.RunFault.TheVariants as run
 use Rattle.radpool.specs.declared.step.Answer.{Answer}
 use Rattle.radpool.specs.declared.step.Answer.TheVariants.{Send, Busy}
 use Rattle.radpool.specs.declared.step.State.{State}
-use Rattle.radpool.specs.Configuration.{clients_of}
+use Rattle.radpool.specs.Configuration.{configuration_of_octets}
 use Rattle.radpool.specs.DatagramLines.{TimedDatagram, timed_datagram_of}
 use Rattle.radpool.specs.Lines.{line_feed, lines_of, divided, text_of, datagram_lines}
 use Rattle.radpool.specs.Steps.{opening, step}
@@ -106,11 +107,11 @@ first_malformed number (text ∷ lines) = number_unless number (timed_datagram_o
 abbrev pub text_max : ℕ
 text_max = 16777216
 
--- The input is these clients' configuration, a divider, and these datagram lines.
-pub record IsInput (text : List ℕ) (clients : List Client) (lines : List (List ℕ)) : Type 0 where
+-- The input is the text of this configuration, a divider, and these datagram lines.
+pub record IsInput (text : List ℕ) (configuration : Configuration) (lines : List (List ℕ)) : Type 0 where
   pub short : length text ≤ text_max
   pub parts : (before : List (List ℕ)) × (after : List (List ℕ)) × (divided (lines_of text) ≡ Some (before, after))
-      × (clients_of (text_of before) ≡ Ok clients) × (lines ≡ datagram_lines after)
+      × (configuration_of_octets (text_of before) ≡ Ok configuration) × (lines ≡ datagram_lines after)
 
 -- The lines up to the first malformed one, if there is one, were answered, and nothing else was written. It is told which
 -- line is malformed.
@@ -120,7 +121,7 @@ AnswersLines clients lines Writes malformed =
 
 -- a fact about the clients and the datagram lines of an input
 abbrev pub OfInput : List ℕ → (List Client → List (List ℕ) → Type 0) → Type 0
-OfInput text Holds = (clients : List Client) × (lines : List (List ℕ)) × IsInput text clients lines × Holds clients lines
+OfInput text Holds = (configuration : Configuration) × (lines : List (List ℕ)) × IsInput text configuration lines × Holds configuration.clients lines
 
 -- What a run ends with, for an input and what was written. TooLong, NoDivider and Config are told in this order, and they,
 -- Read and NoMemory before any line is answered. Of what went out before a Write fault nothing is said.
@@ -131,7 +132,7 @@ EndsRun text Writes (Err run.TooLong) = (text_max < length text) × Writes []
 EndsRun text Writes (Err run.NoDivider) = (length text ≤ text_max) × (divided (lines_of text) ≡ None) × Writes []
 EndsRun text Writes (Err (run.Config told)) =
     (length text ≤ text_max) × (before : List (List ℕ)) × (after : List (List ℕ)) × (divided (lines_of text) ≡ Some (before, after))
-    × ((told ≡ fault.NoMemory) ⊎ (clients_of (text_of before) ≡ Err told)) × Writes []
+    × ((told ≡ fault.NoMemory) ⊎ (configuration_of_octets (text_of before) ≡ Err told)) × Writes []
 EndsRun text Writes (Err (run.BadLine number)) = OfInput text (λ clients lines. AnswersLines clients lines Writes (Some number))
 EndsRun text Writes (Err run.Write) = OfInput text (λ clients lines. Unit {0})
 EndsRun text Writes (Err run.NoMemory) = Writes []

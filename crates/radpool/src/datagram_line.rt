@@ -4,8 +4,8 @@ ghost use Rattle.rad_packet.specs.Packets.{length_max};
 ghost use Rattle.radpool.specs.DatagramLines.{moment_of, port_of, door_of, octets_of, timed_datagram_of};
 ghost use Rattle.radpool.specs.ReadLines.{timed_datagram};
 
-use crate::numbers::{address, number, parted};
 use rad_auth::Door;
+use rad_config::decimal::{address, number, parted};
 use rad_packet::LENGTH_MAX;
 
 /// A datagram and when it came.
@@ -24,7 +24,8 @@ pub struct DatagramLine {
 // The moment that up to 19 decimal digits spell, in milliseconds.
 #[tactic(auto, unfolding(crate::specs::DatagramLines::moment_of))]
 fn moment(text: &[u8]) -> Option<u64>
-    ensures { result ≡ moment_of text.now }
+    ensures value { result ≡ moment_of text.now }
+    ensures bound { IfSome result (λ moment. moment ≤ 2 ^ 62) }
 {
     number(text, 19, 1 << 62)
 }

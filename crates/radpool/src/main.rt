@@ -3,12 +3,10 @@
 
 mod answers;
 mod command;
-mod config_fault;
 mod configuration;
 mod datagram_line;
 mod line;
 mod lines;
-mod numbers;
 mod replay;
 mod run_fault;
 mod step;

@@ -7,7 +7,7 @@ ghost use Rattle.radpool.specs.Transcripts.{EndsRun};
 ghost use Rattle.radpool.specs.declared.run_fault.RunFault.TheVariants.{TooLong, NoMemory, Read as ReadFailed, Write as WriteFailed};
 
 use crate::answers::Answers;
-use crate::configuration::read_clients;
+use crate::configuration::read_configuration;
 use crate::datagram_line::read_datagram_line;
 use crate::lines::{DatagramLines, divide};
 use crate::run_fault::RunFault;
@@ -38,11 +38,11 @@ pub fn run_replay<R: Read, W: Write>(
     let Some((configuration, datagrams)) = divide(&text) else {
         return Err(RunFault::NoDivider);
     };
-    let clients = match read_clients(alloc, configuration) {
-        Ok(clients) => clients,
+    let config = match read_configuration(alloc, configuration) {
+        Ok(config) => config,
         Err(fault) => return Err(RunFault::Config(fault)),
     };
-    answer_lines(alloc, &clients, datagrams, writer)
+    answer_lines(alloc, config.clients(), datagrams, writer)
 }
 
 // Reads all that there is, one octet more than allowed at most.

@@ -1,6 +1,6 @@
 //! Why a replay ended without an answer to each datagram.
 
-use crate::config_fault::ConfigFault;
+use rad_config::ConfigFault;
 use thiserror::Error;
 
 /// Why a replay ended early. The first four are told in this order, before any datagram is answered.

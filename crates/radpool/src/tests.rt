@@ -1,3 +1,2 @@
-mod configuration;
 mod replay;
 mod text;

@@ -12,6 +12,10 @@ use std::test::Fail;
 /// The configuration of one client, and the divider.
 const GATEWAY: &str = "[[client]]\naddress = \"192.168.1.16\"\nsecret = \"xyzzy5461\"\n---\n";
 
+/// The same client, which has to send Message-Authenticators.
+const SUMMING_GATEWAY: &str =
+    "[[client]]\naddress = \"192.168.1.16\"\nsecret = \"xyzzy5461\"\nrequire_message_authenticator = true\n---\n";
+
 /// Lines that are dropped, and what is written of them.
 const DROPS: &str = "0 acct 192.168.1.17:1813 -\n\
     1 acct 192.168.1.16:1813 -\n\
@@ -116,7 +120,7 @@ struct Scenario {
     fault: &'static str,
 }
 
-const SCENARIOS: [Scenario; 23] = [
+const SCENARIOS: [Scenario; 24] = [
     Scenario {
         name: "ten ways to be dropped",
         input: &[GATEWAY, DROPS],
@@ -168,6 +172,17 @@ const SCENARIOS: [Scenario; 23] = [
         name: "an Access-Request with a State, and one with an EAP-Message",
         input: &[GATEWAY, STATE_ACCESS, "\n", EAP_ACCESS, "\n"],
         output: &["1 ", ACCESS_REPLY, "2 ", EAP_ACCESS_REPLY],
+        fault: "",
+    },
+    Scenario {
+        name: "a client that has to send Message-Authenticators",
+        input: &[SUMMING_GATEWAY, ACCESS, "\n", EAP_ACCESS, "\n", START, "\n"],
+        output: &[
+            "1 drop 9 NoMessageAuthenticator\n2 ",
+            EAP_ACCESS_REPLY,
+            "3 ",
+            START_REPLY,
+        ],
         fault: "",
     },
     Scenario {

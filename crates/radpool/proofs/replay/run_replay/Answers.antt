@@ -16,6 +16,6 @@ pub returns-clause-ends : goal.returns-clause-ends
 returns-clause-ends g c =
     let read = read_all _ _ c.in_ok-text.text.items c.in_ok-text.ensures.read c.in_ok-text.ensures.end in
     let parts = rw c.deref.ensures.value at c.in-Some.ensures in
-    let input = is_input c.in_ok-text.text.items c.in-Some.configuration.now c.in-Some.datagrams.now c.in-Ok.clients c.in_ok-text.ensures.short parts c.in-Ok.ensures in
+    let input = is_input c.in_ok-text.text.items c.in-Some.configuration.now c.in-Some.datagrams.now c.in-Ok.config c.in_ok-text.ensures.short parts c.in-Ok.ensures in
     for_input _ c.in_ok-text.text.items _ read
-    (ends_run c.in_ok-text.text.items c.in-Ok.clients (datagram_lines (lines_of c.in-Some.datagrams.now)) _ _ c.answer_lines.result input c.answer_lines.ensures)
+    (ends_run c.in_ok-text.text.items c.in-Ok.config (datagram_lines (lines_of c.in-Some.datagrams.now)) _ _ c.answer_lines.result input (rw (← c.clients.ensures.value) c.answer_lines.ensures))

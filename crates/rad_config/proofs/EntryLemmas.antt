@@ -1,0 +1,62 @@
+-- The entries of a list that are left to read, for every part.
+use Rattle.std.proofs.Common.{◌≡◌, ℕ, ◌+◌, ◌<◌, ◌≤◌, List, [], ◌∷◌, ◌++◌, length, get_or, drop, Some, Result, Ok, Err, refl, sym, ◌∙◌, arith, inl, inr}
+use Rattle.std.specs.Prelude.{◌⊎◌, All}
+use Rattle.std.proofs.lemmas.Bool.{lt-ltb, le-ltb}
+use Rattle.std.proofs.lemmas.List.{drop_all}
+use Rattle.std.proofs.lemmas.List.Elements.{All-append, All-nil, All-cons}
+use Rattle.toml.specs.Data.{Data, as_array}
+use Rattle.toml.specs.View.{view, items_view}
+use Rattle.toml.specs.declared.value.Value.{Value}
+use Rattle.toml.proofs.Views.{items_view-drop}
+use Rattle.rad_config.specs.declared.config_fault.Part.{Part}
+use Rattle.rad_config.specs.declared.config_fault.ConfigFault.{ConfigFault}
+use Rattle.rad_config.specs.declared.config_fault.ConfigFault.TheVariants.{NoMemory, TooMany}
+use Rattle.rad_config.specs.Configurations.{EntryData, entry_of, entries_from, items_in, count_items}
+
+module _ {A : Type 0} (part : Part) (read : List A → EntryData → Result A ConfigFault) (values : List Value) (i : ℕ) (value : Value) (earlier : List A) (within : i < length values) (found : value ≡ get_or values i value) where
+  -- an entry that is read
+  pub entries_from-more : (e : EntryData) (a : A) → entry_of part (i + 1) (view value) ≡ Ok e → read earlier e ≡ Ok a
+      → entries_from part read (i + 1) earlier (items_view (drop i values)) ≡ entries_from part read (i + 1 + 1) (earlier ++ a ∷ []) (items_view (drop (i + 1) values))
+  unfolding entries_from
+  entries_from-more e a is_entry is_read = rw (items_view-drop values i value within, ← found, is_entry, is_read)
+
+  -- an entry that is no table
+  pub entries_from-no_entry : (fault : ConfigFault) (total : Result (List A) ConfigFault) → (fault ≡ NoMemory) ⊎ (entry_of part (i + 1) (view value) ≡ Err fault)
+      → entries_from part read (i + 1) earlier (items_view (drop i values)) ≡ total → (fault ≡ NoMemory) ⊎ (total ≡ Err fault)
+  unfolding entries_from
+  entries_from-no_entry fault total (inl memory) so_far = inl memory
+  entries_from-no_entry fault total (inr refused) so_far =
+      let here : entries_from part read (i + 1) earlier (items_view (drop i values)) ≡ Err fault = rw (items_view-drop values i value within, ← found, refused) in
+      inr (sym so_far ∙ here)
+
+  -- an entry that is refused
+  pub entries_from-refused : (e : EntryData) (fault : ConfigFault) (total : Result (List A) ConfigFault) → entry_of part (i + 1) (view value) ≡ Ok e → (fault ≡ NoMemory) ⊎ (read earlier e ≡ Err fault)
+      → entries_from part read (i + 1) earlier (items_view (drop i values)) ≡ total → (fault ≡ NoMemory) ⊎ (total ≡ Err fault)
+  unfolding entries_from
+  entries_from-refused e fault total is_entry (inl memory) so_far = inl memory
+  entries_from-refused e fault total is_entry (inr refused) so_far =
+      let here : entries_from part read (i + 1) earlier (items_view (drop i values)) ≡ Err fault = rw (items_view-drop values i value within, ← found, is_entry, refused) in
+      inr (sym so_far ∙ here)
+
+-- no entry is left
+pub entries_from-all : {A : Type 0} (part : Part) (read : List A → EntryData → Result A ConfigFault) (values : List Value) (i index : ℕ) (earlier : List A) → length values ≤ i → entries_from part read index earlier (items_view (drop i values)) ≡ Ok earlier
+unfolding entries_from
+entries_from-all part read values i index earlier past = rw (drop_all i values past)
+
+count_items-view : (values : List Value) → count_items (items_view values) ≡ length values
+count_items-view [] = refl
+count_items-view (value ∷ values) = omega (arith, count_items-view values)
+
+-- more entries than there may be
+pub items_in-many : (part : Part) (most : ℕ) (d : Data) (values : List Value) → as_array d ≡ Some (items_view values) → most < length values → items_in part most (Some d) ≡ Err (TooMany part)
+unfolding items_in
+items_in-many part most d values is_array many = rw (is_array, count_items-view values, lt-ltb _ _ many) refl
+
+-- entries that are few enough
+pub items_in-few : (part : Part) (most : ℕ) (d : Data) (values : List Value) → as_array d ≡ Some (items_view values) → length values ≤ most → items_in part most (Some d) ≡ Ok (items_view values)
+unfolding items_in
+items_in-few part most d values is_array few = rw (is_array, count_items-view values, le-ltb _ _ few) refl
+
+-- a fact about each entry so far and about the next
+pub All-push : {A : Type 0} (P : A → Type 0) (xs : List A) (x : A) → All P xs → P x → All P (xs ++ x ∷ [])
+All-push P xs x all next = All-append P xs (x ∷ []) all (All-cons P x [] next (All-nil P))

@@ -1,0 +1,5 @@
+pub mod DecimalLemmas
+pub mod EntryLemmas
+pub mod NameLemmas
+pub mod PoolLemmas
+pub mod UserLemmas

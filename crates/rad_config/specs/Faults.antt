@@ -1,0 +1,55 @@
+-- The faults of a configuration text, its parts and its keys: numbers and names.
+use Rattle.std.specs.Prelude.{ℕ, List, codes}
+use Rattle.rad_config.specs.declared.config_fault.ConfigFault.{ConfigFault}
+use Rattle.rad_config.specs.declared.config_fault.ConfigFault.TheVariants.{Syntax, Missing, BadValue, HoldBelowWindow, PoolsOverlap, TooMany, NoMemory}
+use Rattle.rad_config.specs.declared.config_fault.Key.{Key}
+use Rattle.rad_config.specs.declared.config_fault.Key.TheVariants as keys
+use Rattle.rad_config.specs.declared.config_fault.Part.{Part}
+use Rattle.rad_config.specs.declared.config_fault.Part.TheVariants as parts
+
+abbrev pub fault_number : ConfigFault → ℕ
+fault_number Syntax = 1
+fault_number (Missing spot) = 2
+fault_number (BadValue spot) = 3
+fault_number HoldBelowWindow = 4
+fault_number PoolsOverlap = 5
+fault_number (TooMany part) = 6
+fault_number NoMemory = 7
+
+abbrev pub fault_name : ConfigFault → List ℕ
+fault_name Syntax = codes "Syntax"
+fault_name (Missing spot) = codes "Missing"
+fault_name (BadValue spot) = codes "BadValue"
+fault_name HoldBelowWindow = codes "HoldBelowWindow"
+fault_name PoolsOverlap = codes "PoolsOverlap"
+fault_name (TooMany part) = codes "TooMany"
+fault_name NoMemory = codes "NoMemory"
+
+-- a part as it is printed; a list of entries has this key
+abbrev pub part_name : Part → List ℕ
+part_name parts.Top = codes "top"
+part_name parts.Client = codes "client"
+part_name parts.Pool = codes "pool"
+part_name parts.User = codes "user"
+
+-- a key as a text spells it, and what else may be at fault in a part: its list, or an entry
+abbrev pub key_name : Key → List ℕ
+key_name keys.List = codes "list"
+key_name keys.Entry = codes "entry"
+key_name keys.Window = codes "window"
+key_name keys.Hold = codes "hold"
+key_name keys.Address = codes "address"
+key_name keys.Secret = codes "secret"
+key_name keys.RequireMessageAuthenticator = codes "require_message_authenticator"
+key_name keys.Name = codes "name"
+key_name keys.First = codes "first"
+key_name keys.Last = codes "last"
+key_name keys.Password = codes "password"
+key_name keys.Pool = codes "pool"
+key_name keys.Sessions = codes "sessions"
+key_name keys.Service = codes "service"
+key_name keys.Protocol = codes "protocol"
+key_name keys.Timeout = codes "timeout"
+key_name keys.Message = codes "message"
+key_name keys.Challenge = codes "challenge"
+key_name keys.Answer = codes "answer"

@@ -1,0 +1,7 @@
+pub mod Configurations
+pub mod Decimals
+pub mod Faults
+pub mod Keys
+pub mod Ranges
+pub mod ReadEntries
+pub mod Views

@@ -1,0 +1,54 @@
+-- What holds of each configuration that was read, and of its pools and users: lengths, ranges of numbers, and what the checks of
+-- a whole list leave. Texts are lists of octets, times are in seconds. Clients keep their own ranges.
+use Rattle.std.specs.Prelude.{◌≡◌, ℕ, ◌+◌, ◌≤◌, ◌<◌, List, length, slice_get, All, Some, IfSome, is_some}
+use Rattle.rad_packet.specs.Attributes.{value_max}
+use Rattle.rad_config.specs.Configurations.{Configuration, pools_max, user_place, users_max}
+use Rattle.rad_config.specs.Keys.{above_first_max, address_max, number_max, password_max}
+use Rattle.rad_config.specs.declared.pool.Pool.{Pool}
+use Rattle.rad_config.specs.declared.user.User.{User}
+
+-- so many octets
+abbrev pub HasLength : ℕ → ℕ → List ℕ → Type 0
+HasLength least most octets = (least ≤ length octets) × (length octets ≤ most)
+
+pub record IsPool (pool : Pool) : Type 0 where
+  pub name : HasLength 1 64 pool.name
+  pub first : 1 ≤ pool.first
+  pub last : (pool.first ≤ pool.last) × (pool.last ≤ address_max)
+  pub size : pool.last ≤ pool.first + above_first_max
+
+-- an address of the pool
+abbrev pub HasAddress : Pool → ℕ → Type 0
+HasAddress pool address = (pool.first ≤ address) × (address ≤ pool.last)
+
+-- no address is in two pools, which have the places i and j
+abbrev pub AreApart : List Pool → Type 0
+AreApart pools = (i j : ℕ) (p q : Pool) (address : ℕ) → slice_get pools i ≡ Some p → slice_get pools j ≡ Some q → HasAddress p address → HasAddress q address → i ≡ j
+
+-- a user beside so many pools
+pub record IsUser (pools : ℕ) (user : User) : Type 0 where
+  pub name : HasLength 1 value_max user.name
+  pub password : HasLength 1 password_max user.password
+  pub pool : IfSome user.pool (λ place. place < pools)
+  pub sessions : (1 ≤ user.sessions) × (user.sessions ≤ 4096)
+  pub service : IfSome user.service (λ number. number ≤ number_max)
+  pub protocol : IfSome user.protocol (λ number. number ≤ number_max)
+  pub timeout : IfSome user.timeout (λ seconds. (1 ≤ seconds) × (seconds ≤ number_max))
+  pub message : IfSome user.message (HasLength 1 value_max)
+  pub challenge : IfSome user.challenge (HasLength 1 value_max)
+  pub answer : IfSome user.answer (HasLength 1 password_max)
+  pub paired : is_some user.challenge ≡ is_some user.answer
+
+-- a name leads to its user, so no two users have the same
+abbrev pub AreNamedApart : List User → Type 0
+AreNamedApart users = (place : ℕ) (user : User) → slice_get users place ≡ Some user → user_place users user.name ≡ Some place
+
+pub record IsConfiguration (configuration : Configuration) : Type 0 where
+  pub window : (1 ≤ configuration.window) × (configuration.window ≤ 3600)
+  pub hold : (configuration.window ≤ configuration.hold) × (configuration.hold ≤ 86400)
+  pub pool_count : length configuration.pools ≤ pools_max
+  pub pools : All IsPool configuration.pools
+  pub apart : AreApart configuration.pools
+  pub names : AreNamedApart configuration.users
+  pub user_count : length configuration.users ≤ users_max
+  pub users : All (IsUser (length configuration.pools)) configuration.users

@@ -1,0 +1,205 @@
+//! The configuration of a server.
+ghost use Rattle.std.specs.Prelude.{◌≡◌, ok_or};
+ghost use Rattle.toml.specs.Parse.{parse_document};
+ghost use Rattle.toml.specs.View.{table_view};
+ghost use Rattle.rad_config.specs.Configurations.{Gives};
+
+use crate::config_fault::{ConfigFault, Part};
+use crate::entry::Entry;
+use crate::keys::{HOLD, WINDOW};
+use crate::lists::{read_clients, read_pools, read_users};
+use crate::pool::Pool;
+use crate::read_pool::some_overlap;
+use crate::same::{same_pools, same_users};
+use crate::spans::Spans;
+use crate::user::{User, Users};
+use rad_auth::Clients;
+use std::alloc::Global;
+use std::marker::Model;
+use toml::Table;
+
+/// What the configuration text of a server says: the spans of its memory, its clients, pools and users.
+#[derive(Drop)]
+pub struct Config {
+    window: u32,
+    hold: u32,
+    clients: Clients,
+    pools: Vec<Pool>,
+    users: Users,
+}
+
+impl Model for Config {
+    ghost use Rattle.rad_config.specs.Configurations.{Configuration};
+    ghost use Rattle.rad_config.specs.Ranges.{IsConfiguration};
+
+    ghost Value = { Configuration };
+
+    ghost view = { λ config. record {
+      window = config.window;
+      hold = config.hold;
+      clients = config.clients;
+      pools = config.pools.items;
+      users = config.users;
+    } };
+
+    ghost invariant = { λ config. IsConfiguration (record {
+      window = config.window;
+      hold = config.hold;
+      clients = config.clients;
+      pools = config.pools.items;
+      users = config.users;
+    }) };
+}
+
+impl Config {
+    ghost use Rattle.std.specs.Prelude.{◌≡◌, ◌<◌, ◌*◌, ◌↔◌, IsTrue, length, slice_get, IfSome, Some};
+    ghost use Rattle.rad_config.specs.Configurations.{Gives, configuration_of, user_place};
+    ghost use Rattle.rad_config.specs.Ranges.{IsConfiguration, IsPool, IsUser};
+
+    /// The configuration that a text says, or its first fault.
+    ///
+    /// The text is TOML; `docs/FORMATS.md` has the table of its keys. Checks are made in this order: `Syntax`; the keys at the
+    /// top, then `HoldBelowWindow`; the clients; the pools, then `PoolsOverlap`; the users. Of a list it is checked first that it
+    /// is an array (`BadValue`), then how long it is (`TooMany`), then each entry in order, key by key in the table's order.
+    /// `NoMemory` is told where an allocation fails, at whatever check that is.
+    #[tactic(auto, unfolding(crate::specs::Configurations::configuration_of))]
+    pub fn read(alloc: Global, text: &str) -> Result<Config, ConfigFault>
+        ensures { Gives (λ config. config) result (configuration_of text.now) }
+    {
+        let document = document(alloc, text)?;
+        let top = Entry {
+            part: Part::Top,
+            index: 0,
+            table: &document,
+        };
+        let window = top.number_or_default(&WINDOW)?;
+        let hold = top.number_or_default(&HOLD)?;
+        if hold < window {
+            return Err(ConfigFault::HoldBelowWindow);
+        }
+        let clients = read_clients(alloc, &document)?;
+        let pools = read_pools(alloc, &document)?;
+        if some_overlap(&pools) {
+            return Err(ConfigFault::PoolsOverlap);
+        }
+        let users = read_users(alloc, &pools, &document)?;
+        Ok(Config {
+            window,
+            hold,
+            clients,
+            pools,
+            users,
+        })
+    }
+
+    /// For how many seconds after it was answered a request's duplicates get the same reply: 1 to 3,600. So long after it was
+    /// made, a session that has ended keeps its address.
+    pub fn window(&self) -> u32
+        ensures value { result ≡ self.now.window }
+        ensures configuration { IsConfiguration self.now }
+    {
+        self.window
+    }
+
+    /// For how many seconds an address is held for a session that hasn't begun, and a challenge can be answered: from `window`
+    /// to 86,400.
+    pub fn hold(&self) -> u32
+        ensures value { result ≡ self.now.hold }
+        ensures configuration { IsConfiguration self.now }
+    {
+        self.hold
+    }
+
+    /// The same spans in milliseconds.
+    pub fn spans(&self) -> Spans
+        ensures window { result.window ≡ 1000 * self.now.window }
+        ensures hold { result.hold ≡ 1000 * self.now.hold }
+        ensures configuration { IsConfiguration self.now }
+    {
+        let Config { window, hold, .. } = self;
+        Spans {
+            window: u64::from(*window) * 1_000,
+            hold: u64::from(*hold) * 1_000,
+        }
+    }
+
+    /// The clients in the order of the text.
+    pub fn clients(&self) -> &Clients
+        ensures value { result.now ≡ self.now.clients }
+        ensures configuration { IsConfiguration self.now }
+    {
+        &self.clients
+    }
+
+    /// The pools in the order of the text.
+    pub fn pools(&self) -> &[Pool]
+        ensures value { result.now ≡ self.now.pools }
+        ensures configuration { IsConfiguration self.now }
+    {
+        &self.pools
+    }
+
+    /// The users in the order of the text.
+    pub fn users(&self) -> &[User]
+        ensures value { result.now ≡ self.now.users }
+        ensures configuration { IsConfiguration self.now }
+    {
+        self.users.rows()
+    }
+
+    /// The place of the user with this name, octet for octet.
+    pub fn user(&self, name: &[u8]) -> Option<u32>
+        ensures value { result ≡ user_place self.now.users name.now }
+        ensures within { IfSome result (λ place. place < length self.now.users) }
+    {
+        self.users.find(name)
+    }
+
+    /// The user at a place that is there.
+    pub fn user_at(&self, place: u32) -> &User
+        requires { place < length self.now.users }
+        ensures value { slice_get self.now.users place ≡ Some result.now }
+        ensures range { IsUser (length self.now.pools) result.now }
+    {
+        &self.users()[place as usize]
+    }
+
+    /// The pool at a place that is there.
+    pub fn pool_at(&self, place: u32) -> &Pool
+        requires { place < length self.now.pools }
+        ensures value { slice_get self.now.pools place ≡ Some result.now }
+        ensures range { IsPool result.now }
+    {
+        let pools = self.pools();
+        &pools[place as usize]
+    }
+
+    /// Whether the other configuration says the same.
+    pub fn same(&self, other: &Config) -> bool
+        ensures { IsTrue result ↔ (self.now ≡ other.now) }
+    {
+        let Config {
+            window,
+            hold,
+            clients,
+            pools,
+            users,
+        } = self;
+        *window == other.window
+            && *hold == other.hold
+            && clients.same(&other.clients)
+            && same_pools(pools, &other.pools)
+            && same_users(users.rows(), other.users.rows())
+    }
+}
+
+// The document that the text is.
+fn document(alloc: Global, text: &str) -> Result<Table, ConfigFault>
+    ensures { Gives (λ table. table_view table) result (ok_or (parse_document text.now) ConfigFault.Syntax) }
+{
+    match toml::table_from_str(alloc, text) {
+        Ok(table) => Ok(table),
+        Err(error) if error.is_memory() => Err(ConfigFault::NoMemory),
+        Err(_) => Err(ConfigFault::Syntax),
+    }
+}

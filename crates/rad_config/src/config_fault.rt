@@ -1,0 +1,155 @@
+//! What is wrong with a configuration text.
+ghost use Rattle.std.specs.Prelude.{◌≡◌};
+ghost use Rattle.rad_config.specs.Faults.{fault_number, fault_name, part_name, key_name};
+
+use std::fmt;
+use thiserror::Error;
+
+/// The first fault of a configuration text.
+#[derive(Clone, Copy, Debug, PartialEq, Eq, Error)]
+pub enum ConfigFault {
+    /// The text is no TOML document.
+    #[error("config fault {number} {name}", number = self.label().0, name = self.label().1)]
+    Syntax,
+    /// A key that has to be present is absent.
+    #[error("config fault {number} {name} at {0}", number = self.label().0, name = self.label().1)]
+    Missing(Spot),
+    /// A key holds what it may not hold.
+    #[error("config fault {number} {name} at {0}", number = self.label().0, name = self.label().1)]
+    BadValue(Spot),
+    /// `hold` is less than `window`.
+    #[error("config fault {number} {name}", number = self.label().0, name = self.label().1)]
+    HoldBelowWindow,
+    /// Two pools share an address.
+    #[error("config fault {number} {name}", number = self.label().0, name = self.label().1)]
+    PoolsOverlap,
+    /// A list is too long.
+    #[error("config fault {number} {name} at {0}", number = self.label().0, name = self.label().1)]
+    TooMany(Part),
+    /// An allocation failed.
+    #[error("config fault {number} {name}", number = self.label().0, name = self.label().1)]
+    NoMemory,
+}
+
+impl ConfigFault {
+    /// The fault's number and name, as they are printed.
+    pub fn label(self) -> (u8, &'static str)
+        ensures number { result.0 ≡ fault_number self }
+        ensures name { result.1.now ≡ fault_name self }
+    {
+        match self {
+            ConfigFault::Syntax => (1, "Syntax"),
+            ConfigFault::Missing(_) => (2, "Missing"),
+            ConfigFault::BadValue(_) => (3, "BadValue"),
+            ConfigFault::HoldBelowWindow => (4, "HoldBelowWindow"),
+            ConfigFault::PoolsOverlap => (5, "PoolsOverlap"),
+            ConfigFault::TooMany(_) => (6, "TooMany"),
+            ConfigFault::NoMemory => (7, "NoMemory"),
+        }
+    }
+}
+
+/// Where a fault stands: a part, an entry's index in it, and a key.
+///
+/// The index counts from 1; it is 0 for `Part::Top` and for `Key::List`.
+#[derive(Clone, Copy, Debug, PartialEq, Eq)]
+pub struct Spot {
+    pub part: Part,
+    pub index: u32,
+    pub key: Key,
+}
+
+impl fmt::Display for Spot {
+    fn fmt<W: fmt::Write>(&self, f: &mut fmt::Formatter<W>) -> fmt::Result {
+        let Spot { part, index, key } = self;
+        write!(f, "{part} {index} {key}")
+    }
+}
+
+/// A part of a configuration: the keys at the top, or a list of entries.
+#[derive(Clone, Copy, Debug, PartialEq, Eq)]
+pub enum Part {
+    Top,
+    Client,
+    Pool,
+    User,
+}
+
+impl Part {
+    /// The part as it is printed; a list of entries has this key.
+    pub fn name(self) -> &'static str
+        ensures { result.now ≡ part_name self }
+    {
+        match self {
+            Part::Top => "top",
+            Part::Client => "client",
+            Part::Pool => "pool",
+            Part::User => "user",
+        }
+    }
+}
+
+impl fmt::Display for Part {
+    fn fmt<W: fmt::Write>(&self, f: &mut fmt::Formatter<W>) -> fmt::Result {
+        f.write_str(self.name())
+    }
+}
+
+/// A key, or what else may be at fault in a part: its list, or an entry.
+#[derive(Clone, Copy, Debug, PartialEq, Eq)]
+pub enum Key {
+    List,
+    Entry,
+    Window,
+    Hold,
+    Address,
+    Secret,
+    RequireMessageAuthenticator,
+    Name,
+    First,
+    Last,
+    Password,
+    Pool,
+    Sessions,
+    Service,
+    Protocol,
+    Timeout,
+    Message,
+    Challenge,
+    Answer,
+}
+
+impl Key {
+    /// The key as it is printed, which is how a text spells it.
+    pub fn name(self) -> &'static str
+        ensures { result.now ≡ key_name self }
+    {
+        match self {
+            Key::List => "list",
+            Key::Entry => "entry",
+            Key::Window => "window",
+            Key::Hold => "hold",
+            Key::Address => "address",
+            Key::Secret => "secret",
+            Key::RequireMessageAuthenticator => "require_message_authenticator",
+            Key::Name => "name",
+            Key::First => "first",
+            Key::Last => "last",
+            Key::Password => "password",
+            Key::Pool => "pool",
+            Key::Sessions => "sessions",
+            Key::Service => "service",
+            Key::Protocol => "protocol",
+            Key::Timeout => "timeout",
+            Key::Message => "message",
+            Key::Challenge => "challenge",
+            Key::Answer => "answer",
+        }
+    }
+}
+
+impl fmt::Display for Key {
+    fn fmt<W: fmt::Write>(&self, f: &mut fmt::Formatter<W>) -> fmt::Result {
+        f.write_str(self.name())
+    }
+}

@@ -1,0 +1,34 @@
+//! The configuration of a server: what its text says, or the first fault of that text.
+//!
+//! `Config::read` reads a TOML text by a table of keys, each with a range and, where it has one, a default; a key that isn't in
+//! the table is ignored. Only reading, and copying a `Text`, takes memory. Users are found by name, and clients by address, through indexes, and no
+//! contract speaks of these.
+//!
+//! Other crates rest on this: what was read is what `specs/Configurations.antt` says of the text, and it is in the ranges of
+//! `specs/Ranges.antt`.
+#![tactic(auto)]
+
+mod config;
+mod config_fault;
+pub mod decimal;
+mod entry;
+mod keys;
+mod lists;
+mod pool;
+mod read_client;
+mod read_pool;
+mod read_user;
+mod same;
+mod spans;
+mod text;
+mod user;
+
+pub use config::Config;
+pub use config_fault::{ConfigFault, Key, Part, Spot};
+pub use pool::{POOLS_MAX, Pool};
+pub use spans::Spans;
+pub use text::Text;
+pub use user::{USERS_MAX, User};
+
+#[cfg(test)]
+mod tests;

@@ -1,0 +1,142 @@
+//! The lists of entries: clients, pools and users.
+ghost use Rattle.std.specs.Prelude.{◌≡◌, ◌≤◌, [], length, All, IfOk};
+ghost use Rattle.toml.specs.View.{view, items_view, table_view};
+ghost use Rattle.toml.specs.Data.{get_member};
+ghost use Rattle.rad_auth.specs.Clients.{clients_max};
+ghost use Rattle.rad_config.specs.Configurations.{Gives, client_in, entries_from, entry_of, items_in, list_of, pool_in, pools_max, user_in, users_max};
+ghost use Rattle.rad_config.specs.Faults.{part_name};
+ghost use Rattle.rad_config.specs.Ranges.{IsPool, IsUser};
+ghost use Rattle.rad_config.specs.Views.{data_of, entry_data};
+
+use crate::config_fault::{ConfigFault, Key, Part, Spot};
+use crate::entry::Entry;
+use crate::pool::{POOLS_MAX, Pool};
+use crate::read_client::read_client;
+use crate::read_pool::read_pool;
+use crate::read_user::read_user;
+use crate::user::{USERS_MAX, Users};
+use rad_auth::{CLIENTS_MAX, Clients};
+use std::alloc::Global;
+use toml::{Table, Value};
+
+/// The clients of a document.
+#[tactic(auto, unfolding(crate::specs::Configurations::list_of))]
+pub fn read_clients(alloc: Global, document: &Table) -> Result<Clients, ConfigFault>
+    ensures { Gives (λ clients. clients) result (list_of Part.Client clients_max client_in (table_view document.now)) }
+{
+    let items = items_in(Part::Client, CLIENTS_MAX, document)?;
+    clients_from(alloc, items)
+}
+
+/// The pools of a document.
+#[tactic(auto, unfolding(crate::specs::Configurations::list_of))]
+pub fn read_pools(alloc: Global, document: &Table) -> Result<Vec<Pool>, ConfigFault>
+    ensures read { Gives (λ pools. pools.items) result (list_of Part.Pool pools_max pool_in (table_view document.now)) }
+    ensures few { IfOk result (λ pools. length pools.items ≤ pools_max) }
+    ensures range { IfOk result (λ pools. All IsPool pools.items) }
+{
+    let items = items_in(Part::Pool, POOLS_MAX, document)?;
+    pools_from(alloc, items)
+}
+
+/// The users of a document, whose pools are these.
+#[tactic(auto, unfolding(crate::specs::Configurations::list_of))]
+pub fn read_users(alloc: Global, pools: &[Pool], document: &Table) -> Result<Users, ConfigFault>
+    requires { length pools.now ≤ pools_max }
+    ensures read { Gives (λ users. users) result (list_of Part.User users_max (user_in pools.now) (table_view document.now)) }
+    ensures range { IfOk result (All (IsUser (length pools.now))) }
+{
+    let items = items_in(Part::User, USERS_MAX, document)?;
+    users_from(alloc, pools, items)
+}
+
+// The list of a part.
+fn list_at(part: Part, document: &Table) -> Option<&Value>
+    ensures { data_of result ≡ get_member (part_name part) (table_view document.now) }
+{
+    document.get(part.name())
+}
+
+// The items of a part's list, at most so many.
+#[tactic(auto, unfolding(crate::specs::Configurations::items_in))]
+fn items_in(part: Part, most: usize, document: &Table) -> Result<&[Value], ConfigFault>
+    ensures read { Gives (λ items. items_view items.now) result (items_in part most (get_member (part_name part) (table_view document.now))) }
+    ensures few { IfOk result (λ items. length items.now ≤ most) }
+{
+    let Some(list) = list_at(part, document) else {
+        return Ok(&[]);
+    };
+    let items = list.as_array().ok_or(ConfigFault::BadValue(Spot {
+        part,
+        index: 0,
+        key: Key::List,
+    }))?;
+    if items.len() > most {
+        return Err(ConfigFault::TooMany(part));
+    }
+    Ok(items.as_slice())
+}
+
+// The table that an entry is.
+#[tactic(auto, unfolding(crate::specs::Configurations::entry_of))]
+fn entry_at(part: Part, index: u32, item: &Value) -> Result<Entry<'_>, ConfigFault>
+    ensures { Gives (λ entry. entry_data entry) result (entry_of part index (view item.now)) }
+{
+    let table = item.as_table().ok_or(ConfigFault::BadValue(Spot {
+        part,
+        index,
+        key: Key::Entry,
+    }))?;
+    Ok(Entry { part, index, table })
+}
+
+fn clients_from(alloc: Global, items: &[Value]) -> Result<Clients, ConfigFault>
+    requires { length items.now ≤ clients_max }
+    ensures { Gives (λ clients. clients) result (entries_from Part.Client client_in 1 [] (items_view items.now)) }
+{
+    let mut clients = Clients::new(alloc);
+    for (place, item) in items.iter().enumerate() {
+        let entry = entry_at(Part::Client, place as u32 + 1, item)?;
+        let client = read_client(&clients, &entry)?;
+        // The address is new, so only memory can be refused.
+        clients
+            .add(
+                client.address,
+                client.secret,
+                client.require_message_authenticator,
+            )
+            .map_err(|_| ConfigFault::NoMemory)?;
+    }
+    Ok(clients)
+}
+
+fn pools_from(alloc: Global, items: &[Value]) -> Result<Vec<Pool>, ConfigFault>
+    requires { length items.now ≤ pools_max }
+    ensures read { Gives (λ pools. pools.items) result (entries_from Part.Pool pool_in 1 [] (items_view items.now)) }
+    ensures few { IfOk result (λ pools. length pools.items ≤ pools_max) }
+    ensures range { IfOk result (λ pools. All IsPool pools.items) }
+{
+    let mut pools = Vec::new(alloc);
+    for (place, item) in items.iter().enumerate() {
+        let entry = entry_at(Part::Pool, place as u32 + 1, item)?;
+        let pool = read_pool(alloc, &pools, &entry)?;
+        pools.push(pool).map_err(|_| ConfigFault::NoMemory)?;
+    }
+    Ok(pools)
+}
+
+fn users_from(alloc: Global, pools: &[Pool], items: &[Value]) -> Result<Users, ConfigFault>
+    requires few { length items.now ≤ users_max }
+    requires pools { length pools.now ≤ pools_max }
+    ensures read { Gives (λ users. users) result (entries_from Part.User (user_in pools.now) 1 [] (items_view items.now)) }
+    ensures range { IfOk result (All (IsUser (length pools.now))) }
+{
+    let mut users = Users::new(alloc);
+    for (place, item) in items.iter().enumerate() {
+        let entry = entry_at(Part::User, place as u32 + 1, item)?;
+        let said = read_user(pools, &users, &entry)?;
+        let user = said.to_user(alloc).map_err(|_| ConfigFault::NoMemory)?;
+        users.add(user).map_err(|_| ConfigFault::NoMemory)?;
+    }
+    Ok(users)
+}

@@ -1,0 +1,78 @@
+//! Whether pools and users are equal.
+ghost use Rattle.std.specs.Prelude.{◌≡◌, ◌↔◌, IsTrue};
+
+use crate::pool::Pool;
+use crate::text::Text;
+use crate::user::User;
+
+/// Whether both lists have the same pools in the same order.
+pub fn same_pools(pools: &[Pool], others: &[Pool]) -> bool
+    ensures { IsTrue result ↔ (pools.now ≡ others.now) }
+{
+    pools.len() == others.len()
+        && pools
+            .iter()
+            .zip(others)
+            .all(|(pool, other)| same_pool(pool, other))
+}
+
+/// Whether both lists have the same users in the same order.
+pub fn same_users(users: &[User], others: &[User]) -> bool
+    ensures { IsTrue result ↔ (users.now ≡ others.now) }
+{
+    users.len() == others.len()
+        && users
+            .iter()
+            .zip(others)
+            .all(|(user, other)| same_user(user, other))
+}
+
+fn same_pool(pool: &Pool, other: &Pool) -> bool
+    ensures { IsTrue result ↔ (pool.now ≡ other.now) }
+{
+    pool.first == other.first && pool.last == other.last && pool.name.same(&other.name)
+}
+
+fn same_user(user: &User, other: &User) -> bool
+    ensures { IsTrue result ↔ (user.now ≡ other.now) }
+{
+    same_access(user, other) && same_attributes(user, other) && same_challenge(user, other)
+}
+
+// Who may enter.
+fn same_access(user: &User, other: &User) -> bool
+    ensures { IsTrue result ↔ ((user.now.name ≡ other.now.name) × (user.now.password ≡ other.now.password) × (user.now.pool ≡ other.now.pool) × (user.now.sessions ≡ other.now.sessions)) }
+{
+    user.name.same(&other.name)
+        && user.password.same(&other.password)
+        && user.pool == other.pool
+        && user.sessions == other.sessions
+}
+
+// What an Access-Accept says.
+fn same_attributes(user: &User, other: &User) -> bool
+    ensures { IsTrue result ↔ ((user.now.service ≡ other.now.service) × (user.now.protocol ≡ other.now.protocol) × (user.now.timeout ≡ other.now.timeout) × (user.now.message ≡ other.now.message)) }
+{
+    user.service == other.service
+        && user.protocol == other.protocol
+        && user.timeout == other.timeout
+        && same_text(&user.message, &other.message)
+}
+
+// What an Access-Challenge asks.
+fn same_challenge(user: &User, other: &User) -> bool
+    ensures { IsTrue result ↔ ((user.now.challenge ≡ other.now.challenge) × (user.now.answer ≡ other.now.answer)) }
+{
+    same_text(&user.challenge, &other.challenge) && same_text(&user.answer, &other.answer)
+}
+
+// Whether both are the same text, or neither is there.
+fn same_text(text: &Option<Text>, other: &Option<Text>) -> bool
+    ensures { IsTrue result ↔ (text.now ≡ other.now) }
+{
+    match (text, other) {
+        (Some(text), Some(other)) => text.same(other),
+        (None, None) => true,
+        _ => false,
+    }
+}

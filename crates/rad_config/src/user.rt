@@ -1,0 +1,103 @@
+//! Users, found by an index.
+use crate::text::Text;
+use indexmap::IndexSet;
+use std::alloc::{AllocError, Global};
+use std::marker::Model;
+
+/// The most users that a configuration has.
+pub const USERS_MAX: usize = 4_096;
+
+/// A user: who is granted access, and what a session of theirs is given.
+///
+/// In a configuration the name, the message and the challenge have 1 to 253 octets, the password and the answer 1 to 128
+/// without a zero; `sessions` is 1 to 4,096, `pool` a pool's place, counted from 0, and `timeout` at least 1. Challenge and
+/// answer are both there, or neither.
+#[derive(Drop)]
+pub struct User {
+    pub name: Text,
+    pub password: Text,
+    /// The place of the pool that addresses come from.
+    pub pool: Option<u32>,
+    /// How many sessions there may be at a time, those included that haven't begun.
+    pub sessions: u32,
+    /// The Service-Type of an Access-Accept.
+    pub service: Option<u32>,
+    /// The Framed-Protocol of an Access-Accept.
+    pub protocol: Option<u32>,
+    /// The Session-Timeout of an Access-Accept, in seconds.
+    pub timeout: Option<u32>,
+    /// The Reply-Message of an Access-Accept.
+    pub message: Option<Text>,
+    /// The Reply-Message of an Access-Challenge.
+    pub challenge: Option<Text>,
+    /// The password that answers the challenge.
+    pub answer: Option<Text>,
+}
+
+/// The users in the order of the text, at most `USERS_MAX`.
+#[derive(Drop)]
+pub struct Users {
+    rows: Vec<User>,
+    /// The users' names: a name has the place of its user.
+    names: IndexSet<Vec<u8>>,
+}
+
+impl Model for Users {
+    ghost use Rattle.std.specs.Prelude.{◌≡◌, ◌≤◌, List, length, map};
+    ghost use Rattle.rad_config.specs.Configurations.{users_max};
+    ghost use Rattle.rad_config.specs.Ranges.{AreNamedApart};
+    ghost use Rattle.rad_config.specs.declared.user.User.{User};
+
+    ghost Value = { List User };
+
+    ghost view = { λ users. users.rows.items };
+
+    ghost invariant = { λ users. (map (λ name. name.items) users.names.keys ≡ map (λ user. user.name) users.rows.items) × (length users.rows.items ≤ users_max) × AreNamedApart users.rows.items };
+}
+
+impl Users {
+    ghost use Rattle.std.specs.Prelude.{◌≡◌, ◌<◌, ◌≤◌, [], ◌∷◌, ◌++◌, length, OnOk, IfSome, None};
+    ghost use Rattle.rad_config.specs.Configurations.{user_place, users_max};
+    ghost use Rattle.rad_config.specs.Ranges.{AreNamedApart};
+
+    /// No users.
+    pub fn new(alloc: Global) -> Users
+        ensures { result ≡ [] }
+    {
+        Users {
+            rows: Vec::new(alloc),
+            names: IndexSet::new(alloc),
+        }
+    }
+
+    /// The users.
+    pub fn rows(&self) -> &[User]
+        ensures value { result.now ≡ self.now }
+        ensures bound { length self.now ≤ users_max }
+        ensures names { AreNamedApart self.now }
+    {
+        &self.rows
+    }
+
+    /// The place of the user with this name.
+    pub fn find(&self, name: &[u8]) -> Option<u32>
+        ensures value { result ≡ user_place self.now name.now }
+        ensures within { IfSome result (λ place. place < length self.now) }
+    {
+        let place = self.names.get_index_of(name)?;
+        Some(place as u32)
+    }
+
+    /// Adds a user, whose name is new, behind the others.
+    pub fn add(&mut self, user: User) -> Result<(), AllocError>
+        requires room { length self.old < users_max }
+        requires new { user_place self.old user.name ≡ None }
+        ensures { OnOk result (self.new ≡ self.old ++ user ∷ []) }
+    {
+        let name = Vec::from_slice(*self.rows.allocator(), user.name.octets())?;
+        self.rows.reserve(1)?;
+        self.names.insert(name)?;
+        self.rows.push(user).unwrap();
+        Ok(())
+    }
+}
