@@ -1,49 +1,240 @@
-//! The command line.
+//! The command line: what it may say, and what is then done.
 
+use crate::make::{KINDS, Kind, Make, MakeFault};
 use crate::replay::run_replay;
 use crate::run_fault::RunFault;
+use clap::error::ErrorKind;
+use clap::{Arg, ArgAction, ArgMatches, Command, value_parser};
+use std::alloc::{AllocError, Global};
+use std::convert::AsStr;
 use std::process::ExitCode;
 use std::rt::Env;
-use std::{env, fmt, io};
+use std::{env, io};
 
-/// The status after a fault of the input.
-const INPUT_FAULT: u8 = 1;
+const VERSION: &str = "0.1.0";
+
+/// The status after a fault of the input, of a read or a write, or of memory.
+const RUN_FAULT: u8 = 1;
 
 /// The status after a fault of the command line.
 const COMMAND_FAULT: u8 = 2;
 
-/// What is said of words that are no command.
-const UNKNOWN_COMMAND: &str = "unknown command";
+const PROGRAM_EXAMPLES: &str = "\
+Examples:
+  radpool make --kind account --secret xyzzy5461 --id 7
+  radpool replay < examples/requests.txt
+
+'radpool make --help' and 'radpool replay --help' say more.";
+
+const REPLAY_EXAMPLE: &str = "\
+The transcript has a configuration, a line '---', and a line for each datagram:
+MOMENT DOOR ADDRESS:PORT OCTETS
+
+Example:
+  radpool replay < examples/requests.txt";
+
+const MAKE_EXAMPLE: &str = "\
+Kind access has no password yet.
+
+Example:
+  radpool make --kind account --secret xyzzy5461 --id 7";
+
+/// What the command line asks for.
+#[derive(Clone, Copy)]
+enum Task<'a> {
+    Replay,
+    Make(Make<'a>),
+}
+
+/// Why a run ended without having done what was asked.
+#[derive(Drop)]
+enum Fault {
+    /// The words are no command, or ask for help or the version.
+    CommandLine(clap::Error),
+    /// A command came to its fault, or memory was refused.
+    Run(RunFault),
+}
+
+impl From<clap::Error> for Fault {
+    fn from(error: clap::Error) -> Fault {
+        if error.kind() == ErrorKind::OutOfMemory {
+            Fault::Run(RunFault::NoMemory)
+        } else {
+            Fault::CommandLine(error)
+        }
+    }
+}
+
+impl From<AllocError> for Fault {
+    fn from(_error: AllocError) -> Fault {
+        Fault::Run(RunFault::NoMemory)
+    }
+}
+
+impl From<RunFault> for Fault {
+    fn from(fault: RunFault) -> Fault {
+        Fault::Run(fault)
+    }
+}
 
 /// Does what the words after the program's name say, and answers the exit status.
 pub fn run<R: Env + Input + Print + Eprint + AllocGlobal>(rt: &R) -> ExitCode {
-    let mut words = match env::args(rt) {
-        Ok(words) => words,
-        Err(error) if error.kind() == io::ErrorKind::OutOfMemory => {
-            return fail(rt, RunFault::NoMemory, INPUT_FAULT);
-        }
-        // A word that isn't UTF-8.
-        Err(_) => return fail(rt, UNKNOWN_COMMAND, COMMAND_FAULT),
-    };
-    let _program = words.next();
-    let is_replay = words.next().is_some_and(|word| word.as_str() == "replay");
-    if is_replay && words.next().is_none() {
-        replay(rt)
-    } else {
-        fail(rt, UNKNOWN_COMMAND, COMMAND_FAULT)
-    }
-}
-
-// Replays standard input to standard output.
-fn replay<R: Input + Print + Eprint + AllocGlobal>(rt: &R) -> ExitCode {
-    match run_replay(rt.alloc(), &mut rt.reader(), &mut io::writer(rt)) {
+    match try_run(rt) {
         Ok(()) => ExitCode::SUCCESS,
-        Err(fault) => fail(rt, fault, INPUT_FAULT),
+        Err(Fault::CommandLine(error)) => {
+            let _ = rt.eprint(&error);
+            ExitCode::from(COMMAND_FAULT)
+        }
+        Err(Fault::Run(fault)) => {
+            let _ = eprintln!(rt; "radpool: {fault}");
+            ExitCode::from(RUN_FAULT)
+        }
     }
 }
 
-// Says on standard error why the program ends.
-fn fail<R: Eprint, D: fmt::Display + Drop>(rt: &R, reason: D, status: u8) -> ExitCode {
-    let _ = eprintln!(rt; "radpool: {reason}");
-    ExitCode::from(status)
+fn try_run<R: Env + Input + Print + AllocGlobal>(rt: &R) -> Result<(), Fault> {
+    let words = words(rt)?;
+    match task_of(rt.alloc(), words.as_slice())? {
+        Task::Replay => run_replay(rt.alloc(), &mut rt.reader(), &mut io::writer(rt))?,
+        Task::Make(make) => print_request(rt, make)?,
+    }
+    Ok(())
+}
+
+// The words of the command line, the program's name first.
+fn words<R: Env + AllocGlobal>(rt: &R) -> Result<Vec<String>, Fault> {
+    match env::args(rt) {
+        Ok(words) => Ok(words.collect(rt.alloc())?),
+        Err(error) if error.kind() == io::ErrorKind::OutOfMemory => {
+            Err(Fault::Run(RunFault::NoMemory))
+        }
+        Err(_) => {
+            let mut program = program(rt.alloc())?;
+            let text = "a word of the command line is not UTF-8";
+            Err(Fault::from(program.error(ErrorKind::InvalidValue, text)?))
+        }
+    }
+}
+
+// Makes a request, and prints it as a line.
+fn print_request<R: Print + AllocGlobal>(rt: &R, make: Make) -> Result<(), Fault> {
+    let request = match make.request(rt.alloc()) {
+        Ok(request) => request,
+        Err(MakeFault::NoMemory) => return Err(Fault::Run(RunFault::NoMemory)),
+        Err(fault) => return Err(Fault::from(unfit(rt.alloc(), fault)?)),
+    };
+    let line = hex::encode(rt.alloc(), request.octets())?;
+    match println!(rt; "{line}") {
+        Ok(()) => Ok(()),
+        Err(_) => Err(Fault::Run(RunFault::Write)),
+    }
+}
+
+// An option of `make` that doesn't fit, told as clap tells those that it finds.
+fn unfit(alloc: Global, fault: MakeFault) -> Result<clap::Error, AllocError> {
+    let text = fault.to_string(alloc)?;
+    let mut command = make_command(alloc)?.bin_name("radpool make")?;
+    command.error(ErrorKind::ValueValidation, &text)
+}
+
+// What the words ask for.
+fn task_of<'a, S: AsStr>(alloc: Global, words: &'a [S]) -> Result<Task<'a>, clap::Error> {
+    let mut program = program(alloc)?;
+    let matches = program.try_get_matches_from_mut(words)?;
+    match task_in(&matches) {
+        Some(task) => Ok(task),
+        // Not met: clap asks for a command, and gives each option that is required or has a default its value.
+        None => Err(program.error(ErrorKind::MissingSubcommand, "a command would fit")?),
+    }
+}
+
+fn task_in<'a>(matches: &ArgMatches<'a>) -> Option<Task<'a>> {
+    match matches.subcommand()? {
+        ("replay", _) => Some(Task::Replay),
+        ("make", found) => Some(Task::Make(make_in(found)?)),
+        _ => None,
+    }
+}
+
+fn make_in<'a>(found: &ArgMatches<'a>) -> Option<Make<'a>> {
+    Some(Make {
+        kind: Kind::named(found.get_str("kind")?)?,
+        secret: found.get_str("secret")?,
+        id: found.get_one::<u8>("id")?,
+        user: found.get_str("user"),
+        status: found.get_one::<u32>("status")?,
+        random: found.get_str("random")?,
+        extra: found.get_str("extra")?,
+        mac: found.get_flag("mac"),
+    })
+}
+
+// The whole command line.
+fn program<'a>(alloc: Global) -> Result<Command<'a>, AllocError> {
+    Command::new(alloc, "radpool")
+        .about("A RADIUS server, which for now answers transcripts of datagrams")
+        .version(VERSION)
+        .after_help(PROGRAM_EXAMPLES)
+        .subcommand_required(true)
+        .arg_required_else_help(true)
+        .disable_help_subcommand(true)
+        .subcommand(replay_command(alloc))?
+        .subcommand(make_command(alloc)?)
+}
+
+fn replay_command<'a>(alloc: Global) -> Command<'a> {
+    Command::new(alloc, "replay")
+        .about("Reads a transcript of datagrams from standard input, and prints a line for each")
+        .after_help(REPLAY_EXAMPLE)
+}
+
+fn make_command<'a>(alloc: Global) -> Result<Command<'a>, AllocError> {
+    let command = Command::new(alloc, "make")
+        .about("Prints a request as one line of hexadecimal")
+        .after_help(MAKE_EXAMPLE);
+    attribute_options(alloc, header_options(alloc, command)?)
+}
+
+// With the options that say how a request begins and is signed.
+fn header_options<'a>(alloc: Global, command: Command<'a>) -> Result<Command<'a>, AllocError> {
+    let kind = option(alloc, "kind", "KIND")
+        .help("Access-Request, Accounting-Request or Status-Server")
+        .required(true)
+        .value_parser(KINDS.as_slice());
+    let secret = option(alloc, "secret", "TEXT")
+        .help("The secret shared with the server, 1 to 128 octets")
+        .required(true);
+    let id = option(alloc, "id", "N")
+        .help("The Identifier, 0 to 255")
+        .default_value("0")
+        .value_parser(value_parser!(u8));
+    let random = option(alloc, "random", "HEX")
+        .help("The Request Authenticator of kinds access and status")
+        .default_value("00000000000000000000000000000000");
+    command.arg(kind)?.arg(secret)?.arg(id)?.arg(random)
+}
+
+// With the options that say which attributes a request has.
+fn attribute_options<'a>(alloc: Global, command: Command<'a>) -> Result<Command<'a>, AllocError> {
+    let user = option(alloc, "user", "TEXT").help("The User-Name, 1 to 253 octets");
+    let status = option(alloc, "status", "N")
+        .help("The Acct-Status-Type of kind account, 0 to 4294967295")
+        .default_value("1")
+        .value_parser(value_parser!(u32));
+    let extra = option(alloc, "extra", "HEX")
+        .help(
+            "Attributes to put last, the octets of Type, Length and Value of each [default: none]",
+        )
+        .default_value("")
+        .hide_default_value(true);
+    let mac = Arg::new(alloc, "mac")
+        .long("mac")
+        .action(ArgAction::SetTrue)
+        .help("Puts a Message-Authenticator first, in kind access; kind status always has one");
+    command.arg(user)?.arg(status)?.arg(extra)?.arg(mac)
+}
+
+// An option with a value.
+fn option<'a>(alloc: Global, name: &'a str, value: &'a str) -> Arg<'a> {
+    Arg::new(alloc, name).long(name).value_name(value)
 }

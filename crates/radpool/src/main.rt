@@ -1,4 +1,5 @@
-//! `radpool`: a RADIUS server. Its first command is `replay`, which answers the datagrams of a transcript.
+//! `radpool`: a RADIUS server. Its commands are `replay`, which answers the datagrams of a transcript, and `make`, which makes
+//! such datagrams.
 #![tactic(auto)]
 
 mod answers;
@@ -7,6 +8,7 @@ mod configuration;
 mod datagram_line;
 mod line;
 mod lines;
+mod make;
 mod replay;
 mod run_fault;
 mod step;

@@ -1,9 +1,10 @@
-//! Why a replay ended without an answer to each datagram.
+//! Why a command ended without having done all that was asked.
 
 use rad_config::ConfigFault;
 use thiserror::Error;
 
-/// Why a replay ended early. The first four are told in this order, before any datagram is answered.
+/// Why a command ended early. A replay tells the first four in this order, before any datagram is answered; `make` has `Write`
+/// and `NoMemory` alone.
 #[derive(Clone, Copy, Debug, PartialEq, Eq, Error)]
 pub enum RunFault {
     /// The reader failed. Nothing was written.

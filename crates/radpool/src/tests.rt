@@ -1,2 +1,4 @@
+mod command;
+mod fake;
 mod replay;
 mod text;

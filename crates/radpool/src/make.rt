@@ -1,0 +1,200 @@
+//! Requests as the options of `make` ask for them.
+ghost use Rattle.std.specs.Prelude.{◌≡◌, ◌≤◌, length, IfOk};
+ghost use Rattle.rad_packet.specs.Attributes.{value_max};
+ghost use Rattle.rad_auth.specs.Sealing.{IsRequestCode};
+
+use rad_auth::{SECRET_MAX, Secret, sign_request};
+use rad_packet::attribute::{ACCT_STATUS_TYPE, MESSAGE_AUTHENTICATOR, USER_NAME, VALUE_MAX};
+use rad_packet::code::{ACCESS_REQUEST, ACCOUNTING_REQUEST, STATUS_SERVER};
+use rad_packet::{Body, Frame, HEADER_SIZE, LENGTH_MAX, Packet};
+use std::alloc::{AllocError, Global};
+use thiserror::Error;
+
+/// What a request is.
+#[derive(Clone, Copy, Debug, PartialEq, Eq)]
+pub enum Kind {
+    /// An Access-Request.
+    Access,
+    /// An Accounting-Request.
+    Account,
+    /// A Status-Server.
+    Status,
+}
+
+/// The names of the kinds.
+pub const KINDS: [&str; 3] = ["access", "account", "status"];
+
+impl Kind {
+    /// The kind of this name.
+    pub fn named(name: &str) -> Option<Kind> {
+        match name {
+            "access" => Some(Kind::Access),
+            "account" => Some(Kind::Account),
+            "status" => Some(Kind::Status),
+            _ => None,
+        }
+    }
+
+    fn code(self) -> u8
+        ensures { IsRequestCode result }
+    {
+        match self {
+            Kind::Access => ACCESS_REQUEST,
+            Kind::Account => ACCOUNTING_REQUEST,
+            Kind::Status => STATUS_SERVER,
+        }
+    }
+}
+
+/// Why there is no request: an option's value doesn't fit, or memory was refused.
+#[derive(Clone, Copy, Debug, PartialEq, Eq, Error)]
+pub enum MakeFault {
+    #[error("invalid value for '--secret <TEXT>': a text of 1 to 128 octets would fit")]
+    Secret,
+    #[error("invalid value for '--random <HEX>': 32 hexadecimal digits would fit")]
+    Random,
+    #[error("invalid value for '--user <TEXT>': a text of 1 to 253 octets would fit")]
+    User,
+    /// `--extra` is no octets in hexadecimal.
+    #[error("invalid value for '--extra <HEX>': an even number of hexadecimal digits would fit")]
+    ExtraDigits,
+    /// `--extra` spells no attributes.
+    #[error("invalid value for '--extra <HEX>': whole attributes would fit, each of a Type, a Length of 2 to 255 that counts all its octets, and a Value")]
+    ExtraAttributes,
+    /// The request has more than `LENGTH_MAX` octets.
+    #[error("invalid value for '--extra <HEX>': attributes that leave the request at most 4096 octets would fit")]
+    TooLong,
+    #[error("out of memory")]
+    NoMemory,
+}
+
+impl From<AllocError> for MakeFault {
+    fn from(_error: AllocError) -> MakeFault {
+        MakeFault::NoMemory
+    }
+}
+
+/// The options of `make`, as they are given.
+#[derive(Clone, Copy)]
+pub struct Make<'a> {
+    pub kind: Kind,
+    pub secret: &'a str,
+    /// The Identifier.
+    pub id: u8,
+    /// The User-Name, if there is to be one.
+    pub user: Option<&'a str>,
+    /// The Acct-Status-Type of kind account.
+    pub status: u32,
+    /// The Request Authenticator of kinds access and status, in hexadecimal.
+    pub random: &'a str,
+    /// The last attributes as they are spelled, in hexadecimal.
+    pub extra: &'a str,
+    /// Whether kind access begins with a Message-Authenticator.
+    pub mac: bool,
+}
+
+impl<'a> Make<'a> {
+    /// The signed request.
+    ///
+    /// A secret that doesn't fit is told first, then `random`, which has to fit where the kind doesn't use it too, `user` and
+    /// `extra`.
+    pub fn request(&self, alloc: Global) -> Result<Frame, MakeFault> {
+        let secret = secret_of(self.secret)?;
+        let random = random_of(self.random)?;
+        let body = self.body(alloc)?;
+        let mut frame = Frame::new(alloc)?;
+        match sign_request(&body, self.id, &random, &secret, &mut frame) {
+            Ok(()) => Ok(frame),
+            Err(_) => Err(MakeFault::TooLong),
+        }
+    }
+
+    // What the request says before it is signed.
+    fn body(&self, alloc: Global) -> Result<Body, MakeFault>
+        ensures { IfOk result (λ body. IsRequestCode body.code) }
+    {
+        let mut body = Body::new(alloc, self.kind.code());
+        if self.has_message_authenticator() {
+            // Signing puts in its octets.
+            body.push(MESSAGE_AUTHENTICATOR, &[0; 16])?;
+        }
+        if let Some(user) = self.user {
+            body.push(USER_NAME, user_name(user)?)?;
+        }
+        if self.kind == Kind::Account {
+            body.push(ACCT_STATUS_TYPE, &self.status.to_be_bytes())?;
+        }
+        push_extra(alloc, self.extra, &mut body)?;
+        Ok(body)
+    }
+
+    fn has_message_authenticator(&self) -> bool {
+        match self.kind {
+            Kind::Access => self.mac,
+            Kind::Account => false,
+            Kind::Status => true,
+        }
+    }
+}
+
+fn secret_of(text: &str) -> Result<Secret, MakeFault> {
+    let octets = text.as_bytes();
+    if octets.is_empty() || octets.len() > SECRET_MAX {
+        return Err(MakeFault::Secret);
+    }
+    Ok(Secret::new(octets))
+}
+
+fn random_of(text: &str) -> Result<[u8; 16], MakeFault> {
+    let mut random = [0; 16];
+    match hex::decode_to_slice(text, &mut random) {
+        Ok(()) => Ok(random),
+        Err(_) => Err(MakeFault::Random),
+    }
+}
+
+fn user_name(text: &str) -> Result<&[u8], MakeFault>
+    ensures { IfOk result (λ name. length name.now ≤ value_max) }
+{
+    let octets = text.as_bytes();
+    if octets.is_empty() || octets.len() > VALUE_MAX {
+        return Err(MakeFault::User);
+    }
+    Ok(octets)
+}
+
+fn octets_of(alloc: Global, text: &str) -> Result<Vec<u8>, MakeFault> {
+    match hex::decode(alloc, text) {
+        Ok(octets) => Ok(octets),
+        Err(hex::FromHexError::OutOfMemory) => Err(MakeFault::NoMemory),
+        Err(_) => Err(MakeFault::ExtraDigits),
+    }
+}
+
+// Appends the attributes that these digits spell.
+fn push_extra(alloc: Global, text: &str, body: &mut Body) -> Result<(), MakeFault>
+    ensures { body.new.code ≡ body.old.code }
+{
+    let octets = packet_of(alloc, &octets_of(alloc, text)?)?;
+    let Ok(packet) = Packet::read(&octets) else {
+        return Err(MakeFault::ExtraAttributes);
+    };
+    let mut rest = packet.attributes();
+    while let Some(attribute) = rest.next() {
+        body.push(attribute.kind, attribute.value)?;
+    }
+    Ok(())
+}
+
+// The octets behind a packet's header, as if they were its attributes.
+fn packet_of(alloc: Global, octets: &[u8]) -> Result<Vec<u8>, MakeFault> {
+    if octets.len() > LENGTH_MAX - HEADER_SIZE {
+        return Err(MakeFault::TooLong);
+    }
+    let [high, low] = ((HEADER_SIZE + octets.len()) as u16).to_be_bytes();
+    let mut packet = Vec::new(alloc);
+    packet.extend_from_slice(&[ACCESS_REQUEST, 0, high, low])?;
+    packet.extend_from_slice(&[0; 16])?;
+    packet.extend_from_slice(octets)?;
+    Ok(packet)
+}

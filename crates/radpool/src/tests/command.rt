@@ -1,0 +1,366 @@
+//! Command lines, run over memory. The digests and sums were made with Python's `hashlib` and `hmac`.
+
+use crate::tests::fake::Fake;
+use std::process::Abort;
+use std::test::Fail;
+
+/// Options of `make`, and the request.
+const REQUESTS: [(&str, &str); 17] = [
+    (
+        "--kind account --id 7",
+        "0407001abf750299ba7111cf8a9def2b872d436c280600000001\n",
+    ),
+    (
+        "--kind account",
+        "0400001aad6261be82f985270c58019449983f2e280600000001\n",
+    ),
+    (
+        "--kind account --id 0 --status 0",
+        "0400001a002af0d10bff2a867e9671ca6a2641f0280600000000\n",
+    ),
+    (
+        "--kind account --id 255 --status 4294967295",
+        "04ff001a88d9f2427cfa3eef3f2644e010c443702806ffffffff\n",
+    ),
+    (
+        "--kind account --extra 2105616263 --user nemo",
+        "0400002546d205e77c81bcbe7c4af356352d3d4901066e656d6f2806000000012105616263\n",
+    ),
+    (
+        "--kind account --id 7 --mac --random ffffffffffffffffffffffffffffffff --extra=",
+        "0407001abf750299ba7111cf8a9def2b872d436c280600000001\n",
+    ),
+    (
+        "--kind account --extra 501200000000000000000000000000000000",
+        "0400002cacdf800697a1d3c7ba68bd6558c62ead280600000001501200000000000000000000000000000000\n",
+    ),
+    (
+        "--kind status",
+        "0c0000260000000000000000000000000000000050121b46ac6e2d069e881c85e22b935d4655\n",
+    ),
+    (
+        "--kind status --mac --status 7",
+        "0c0000260000000000000000000000000000000050121b46ac6e2d069e881c85e22b935d4655\n",
+    ),
+    (
+        "--kind status --id 9 --user nemo --random 0f403f9473978057bd83d5cb98f4227a --extra 2105616263",
+        "0c0900310f403f9473978057bd83d5cb98f4227a5012cf4ededb7e306180f6f39de38453fbe701066e656d6f2105616263\n",
+    ),
+    (
+        "--kind access --status 4294967295",
+        "0100001400000000000000000000000000000000\n",
+    ),
+    (
+        "--kind access --random 0F403F9473978057BD83D5CB98F4227A --user nemo --extra 0406C0A80110",
+        "010000200f403f9473978057bd83d5cb98f4227a01066e656d6f0406c0a80110\n",
+    ),
+    (
+        "--kind access --mac --user nemo --random 0f403f9473978057bd83d5cb98f4227a",
+        "0100002c0f403f9473978057bd83d5cb98f4227a5012a287e72ef53f2a9d242faf8a149df3ed01066e656d6f\n",
+    ),
+    // The first attribute 80 of 16 octets is filled in, and no other.
+    (
+        "--kind access --user nemo --extra 2105616263501200000000000000000000000000000000",
+        "010000310000000000000000000000000000000001066e656d6f21056162635012ebbda7ef5d033c503522ae1a48fd8354\n",
+    ),
+    (
+        "--kind access --mac --extra 501200000000000000000000000000000000",
+        "01000038000000000000000000000000000000005012c6abe1306176f9491cbaae7e8db8dab8501200000000000000000000000000000000\n",
+    ),
+    (
+        "--kind access --extra 5011000000000000000000000000000000",
+        "01000025000000000000000000000000000000005011000000000000000000000000000000\n",
+    ),
+    (
+        "--kind access --extra 2102",
+        "01000016000000000000000000000000000000002102\n",
+    ),
+];
+
+#[test]
+fn requests(rt: HostRuntime) -> Result<(), Fail> {
+    for (options, request) in REQUESTS {
+        let line = ["radpool make --secret xyzzy5461 ", options].concat(rt.alloc())?;
+        Fake::new(rt.alloc(), &line).ends(&rt, 0, request, "");
+    }
+    Ok(())
+}
+
+const MAKE_HELP: &str = "\
+Prints a request as one line of hexadecimal
+
+Usage: radpool make [OPTIONS] --kind <KIND> --secret <TEXT>
+
+Options:
+      --kind <KIND>    Access-Request, Accounting-Request or Status-Server [possible values: access, account, status]
+      --secret <TEXT>  The secret shared with the server, 1 to 128 octets
+      --id <N>         The Identifier, 0 to 255 [default: 0]
+      --random <HEX>   The Request Authenticator of kinds access and status [default: 00000000000000000000000000000000]
+      --user <TEXT>    The User-Name, 1 to 253 octets
+      --status <N>     The Acct-Status-Type of kind account, 0 to 4294967295 [default: 1]
+      --extra <HEX>    Attributes to put last, the octets of Type, Length and Value of each [default: none]
+      --mac            Puts a Message-Authenticator first, in kind access; kind status always has one
+  -h, --help           Print help
+
+Kind access has no password yet.
+
+Example:
+  radpool make --kind account --secret xyzzy5461 --id 7
+";
+
+/// Command lines that are no command, and how the text on standard error begins.
+const FAULTS: [(&str, &str); 16] = [
+    ("radpool", "A RADIUS server, "),
+    ("radpool --help", "A RADIUS server, "),
+    ("radpool --version", "radpool 0.1.0\n"),
+    ("radpool replay --help", "Reads a transcript "),
+    ("radpool make --help", MAKE_HELP),
+    ("radpool serve", "error: unrecognized subcommand 'serve'\n"),
+    ("radpool replay x", "error: unexpected argument 'x' found\n"),
+    (
+        "radpool replay --mac",
+        "error: unexpected argument '--mac' found\n",
+    ),
+    (
+        "radpool make --kind account",
+        "error: the following required arguments were not provided:\n  --secret <TEXT>\n",
+    ),
+    (
+        "radpool make --secret x",
+        "error: the following required arguments were not provided:\n  --kind <KIND>\n",
+    ),
+    (
+        "radpool make --kind Access --secret x",
+        "error: invalid value 'Access' for '--kind <KIND>'\n",
+    ),
+    (
+        "radpool make --kind account --secret=",
+        "error: invalid value for '--secret <TEXT>': a text of 1 to 128 octets would fit\n",
+    ),
+    (
+        "radpool make --kind account --secret x --secret x",
+        "error: the argument '--secret <TEXT>' cannot be used multiple times\n",
+    ),
+    (
+        "radpool make --kind account --secret x --mac --mac",
+        "error: the argument '--mac' cannot be used multiple times\n",
+    ),
+    (
+        "radpool make --kind access --secret x --password y",
+        "error: unexpected argument '--password' found\n",
+    ),
+    (
+        "radpool make --kind access --secret x --chap 1",
+        "error: unexpected argument '--chap' found\n",
+    ),
+];
+
+#[test]
+fn faults(rt: HostRuntime) {
+    for (line, text) in FAULTS {
+        Fake::new(rt.alloc(), line).ends(&rt, 2, "", text);
+    }
+    let mut fake = Fake::new(rt.alloc(), "");
+    fake.line = b"radpool replay \xff";
+    let text = "error: a word of the command line is not UTF-8\n";
+    fake.ends(&rt, 2, "", text);
+}
+
+const BAD_USER: &str = "'--user <TEXT>': a text of 1 to 253 octets would fit\n";
+
+const BAD_RANDOM: &str = "'--random <HEX>': 32 hexadecimal digits would fit\n";
+
+const BAD_DIGITS: &str = "'--extra <HEX>': an even number of hexadecimal digits would fit\n";
+
+const BAD_ATTRIBUTES: &str = "'--extra <HEX>': whole attributes would fit, ";
+
+const TOO_LONG: &str =
+    "'--extra <HEX>': attributes that leave the request at most 4096 octets would fit\n";
+
+/// Options of `make` whose last value doesn't fit, that value where clap tells it, and how the text ends.
+const UNFIT: [(&str, &str, &str); 16] = [
+    (
+        "account --id 256",
+        "'256' ",
+        "'--id <N>': 256 is not in 0..=255\n",
+    ),
+    ("account --id=-1", "'-1' ", "'--id <N>': "),
+    ("account --id=", "'' ", "'--id <N>': "),
+    (
+        "account --status 4294967296",
+        "'4294967296' ",
+        "'--status <N>': 4294967296 is not in 0..=4294967295\n",
+    ),
+    ("access --status x", "'x' ", "'--status <N>': "),
+    ("account --user=", "", BAD_USER),
+    (
+        "account --random ffffffffffffffffffffffffffffffg0",
+        "",
+        BAD_RANDOM,
+    ),
+    (
+        "access --random 0000000000000000000000000000000",
+        "",
+        BAD_RANDOM,
+    ),
+    (
+        "status --random 000000000000000000000000000000000",
+        "",
+        BAD_RANDOM,
+    ),
+    ("status --random=", "", BAD_RANDOM),
+    ("account --extra 280", "", BAD_DIGITS),
+    ("account --extra 28gg", "", BAD_DIGITS),
+    ("account --extra 28", "", BAD_ATTRIBUTES),
+    ("account --extra 2801", "", BAD_ATTRIBUTES),
+    ("account --extra 2803", "", BAD_ATTRIBUTES),
+    ("access --extra 210521", "", BAD_ATTRIBUTES),
+];
+
+fn refuses(
+    rt: &(impl Abort + AllocGlobal),
+    options: &[&str],
+    value: &str,
+    text: &str,
+) -> Result<(), Fail> {
+    let options = options.concat(rt.alloc())?;
+    let line = ["radpool make --secret x --kind ", options.as_str()].concat(rt.alloc())?;
+    let text = ["error: invalid value ", value, "for ", text].concat(rt.alloc())?;
+    Fake::new(rt.alloc(), &line).ends(rt, 2, "", &text);
+    Ok(())
+}
+
+#[test]
+fn unfit_values(rt: HostRuntime) -> Result<(), Fail> {
+    for (options, value, text) in UNFIT {
+        refuses(&rt, &[options], value, text)?;
+    }
+    Ok(())
+}
+
+/// The longest secret and User-Name, and one octet more of each.
+#[test]
+fn long_texts(rt: HostRuntime) -> Result<(), Fail> {
+    let secret = "a".repeat(rt.alloc(), 128)?;
+    let line = ["radpool make --kind account --secret ", secret.as_str()].concat(rt.alloc())?;
+    let request = "0400001a8aebfb3c25f641990ffa0000e4f27c36280600000001\n";
+    Fake::new(rt.alloc(), &line).ends(&rt, 0, request, "");
+    let line = [line.as_str(), "a"].concat(rt.alloc())?;
+    let text = "error: invalid value for '--secret <TEXT>': ";
+    Fake::new(rt.alloc(), &line).ends(&rt, 2, "", text);
+
+    let user = "n".repeat(rt.alloc(), 253)?;
+    let name = "6e".repeat(rt.alloc(), 253)?;
+    let line = [
+        "radpool make --kind account --secret xyzzy5461 --user ",
+        user.as_str(),
+    ]
+    .concat(rt.alloc())?;
+    let request = [
+        "040001190ed802ef7200da2744771e24e02e5af901ff",
+        name.as_str(),
+        "280600000001\n",
+    ]
+    .concat(rt.alloc())?;
+    Fake::new(rt.alloc(), &line).ends(&rt, 0, &request, "");
+    refuses(&rt, &["account --user n", user.as_str()], "", BAD_USER)
+}
+
+/// A request of 4,096 octets, one octet more, and attributes that alone are too many.
+#[test]
+fn long_attributes(rt: HostRuntime) -> Result<(), Fail> {
+    let value = "61".repeat(rt.alloc(), 253)?;
+    let attribute = ["21ff", value.as_str()].concat(rt.alloc())?;
+    let attributes = attribute.repeat(rt.alloc(), 15)?;
+    let value = "62".repeat(rt.alloc(), 243)?;
+    let most = [attributes.as_str(), "21f5", value.as_str()].concat(rt.alloc())?;
+    let line = [
+        "radpool make --kind account --secret xyzzy5461 --extra ",
+        most.as_str(),
+    ]
+    .concat(rt.alloc())?;
+    let request = [
+        "0400100086b3f0823b38ddca3a3f22cccaacd252280600000001",
+        most.as_str(),
+        "\n",
+    ]
+    .concat(rt.alloc())?;
+    Fake::new(rt.alloc(), &line).ends(&rt, 0, &request, "");
+
+    let over = [
+        "account --extra ",
+        attributes.as_str(),
+        "21f6",
+        value.as_str(),
+        "62",
+    ];
+    refuses(&rt, &over, "", TOO_LONG)?;
+    refuses(
+        &rt,
+        &["access --extra ", most.as_str(), "62626262626262"],
+        "",
+        TOO_LONG,
+    )
+}
+
+#[test]
+fn replays(rt: HostRuntime) {
+    let mut fake = Fake::new(rt.alloc(), "radpool replay");
+    fake.input = b"---\n0 acct 192.168.1.17:1813 -\n";
+    fake.ends(&rt, 0, "1 drop 1 UnknownClient\n", "");
+
+    let mut fake = Fake::new(rt.alloc(), "radpool replay");
+    fake.input = b"---\n0 acct 192.168.1.17:1813 -\nx\n";
+    let text = "radpool: datagram 2 is malformed\n";
+    fake.ends(&rt, 1, "1 drop 1 UnknownClient\n", text);
+}
+
+#[test]
+fn no_output(rt: HostRuntime) {
+    let mut fake = Fake::new(rt.alloc(), "radpool make --kind status --secret xyzzy5461");
+    fake.is_full = true;
+    fake.ends(&rt, 1, "", "radpool: write failed\n");
+}
+
+/// Configurations, each with its divider, and what is told of them.
+const FAULTY: [(&str, &str); 10] = [
+    ("hold = \"x\"\n---", "3 BadValue at top 0 hold\n"),
+    ("window = 30\nhold = 29\n---", "4 HoldBelowWindow\n"),
+    ("client = 3\n---", "3 BadValue at client 0 list\n"),
+    ("client = [1]\n---", "3 BadValue at client 1 entry\n"),
+    (
+        "[[client]]\naddress = \"192.168.1.16\"\n---",
+        "2 Missing at client 1 secret\n",
+    ),
+    (
+        "hold = 29\n[[client]]\naddress = \"192.168.1.16\"\n---",
+        "4 HoldBelowWindow\n",
+    ),
+    (
+        "client = [{address = \"1.2.3.4\", secret = \"a\"}, {address = \"1.2.3.4\", secret = \"b\"}]\n---",
+        "3 BadValue at client 2 address\n",
+    ),
+    (
+        "pool = [{name = \"a\", first = \"10.0.0.1\", last = \"10.0.0.9\"}, {name = \"b\", first = \"10.0.0.9\", last = \"10.0.0.9\"}]\n---",
+        "5 PoolsOverlap\n",
+    ),
+    (
+        "user = [{name = \"a\", password = \"b\", challenge = \"c\"}]\n---",
+        "2 Missing at user 1 answer\n",
+    ),
+    ("window = \n---", "1 Syntax\n"),
+];
+
+#[test]
+fn faulty_configurations(rt: HostRuntime) -> Result<(), Fail> {
+    for (input, told) in FAULTY {
+        let mut fake = Fake::new(rt.alloc(), "radpool replay");
+        fake.input = input.as_bytes();
+        let text = ["radpool: config fault ", told].concat(rt.alloc())?;
+        fake.ends(&rt, 1, "", &text);
+    }
+    let mut fake = Fake::new(rt.alloc(), "radpool replay");
+    fake.input = b"# \xff\n---";
+    fake.ends(&rt, 1, "", "radpool: config fault 1 Syntax\n");
+    Ok(())
+}

@@ -1,0 +1,143 @@
+//! A runtime over memory.
+
+use crate::command::run;
+use std::alloc::{Allocator, Global};
+use std::cell::RefCell;
+use std::env::FillError;
+use std::fmt::{Display, Write};
+use std::io;
+use std::io::{BufRead, Lines};
+use std::process::{Abort, ExitCode};
+use std::rt::Env;
+
+/// A runtime with a command line, whose words are parted by spaces, and with an input. It keeps what is printed.
+#[derive(Drop)]
+pub struct Fake<'a> {
+    alloc: Global,
+    pub line: &'a [u8],
+    pub input: &'static [u8],
+    /// Whether standard output takes nothing.
+    pub is_full: bool,
+    out: RefCell<String>,
+    err: RefCell<String>,
+}
+
+impl<'a> Env for Fake<'a> {
+    fn arg(&self, i: usize, buf: &mut [u8]) -> Result<usize, FillError> {
+        let Some(word) = self.line.split(|octet| *octet == b' ').nth(i) else {
+            return Err(FillError::NotPresent);
+        };
+        if word.len() > buf.len() {
+            return Err(FillError::TooLong);
+        }
+        buf[..word.len()].copy_from_slice(word);
+        Ok(word.len())
+    }
+
+    fn var(&self, _name: &str, _buf: &mut [u8]) -> Result<usize, FillError> {
+        Err(FillError::NotPresent)
+    }
+
+    fn var_at(&self, _i: usize, _buf: &mut [u8]) -> Result<usize, FillError> {
+        Err(FillError::NotPresent)
+    }
+}
+
+fn keep<D: Display + Drop>(text: &RefCell<String>, value: D, end: &str) -> io::Result<()> {
+    match text.try_borrow_mut() {
+        Ok(mut text) => match write!(text, "{value}{end}") {
+            Ok(()) => Ok(()),
+            Err(_) => Err(io::Error::from(io::ErrorKind::OutOfMemory)),
+        },
+        Err(_) => Err(io::Error::from(io::ErrorKind::Other)),
+    }
+}
+
+impl<'a> Print for Fake<'a> {
+    fn print<D: Display + Drop>(&self, value: D) -> io::Result<()> {
+        if self.is_full {
+            return Err(io::Error::from(io::ErrorKind::StorageFull));
+        }
+        keep(&self.out, value, "")
+    }
+
+    fn println<D: Display + Drop>(&self, value: D) -> io::Result<()> {
+        self.print(value)?;
+        self.print("\n")
+    }
+
+    fn write_all(&self, bytes: &[u8]) -> io::Result<()> {
+        match std::str::from_utf8(bytes) {
+            Ok(text) => self.print(text),
+            Err(_) => Err(io::Error::from(io::ErrorKind::InvalidData)),
+        }
+    }
+}
+
+impl<'a> Eprint for Fake<'a> {
+    fn eprint<D: Display + Drop>(&self, value: D) -> io::Result<()> {
+        keep(&self.err, value, "")
+    }
+
+    fn eprintln<D: Display + Drop>(&self, value: D) -> io::Result<()> {
+        keep(&self.err, value, "\n")
+    }
+}
+
+impl<'a> Input for Fake<'a> {
+    type Reader = &'static [u8];
+
+    fn read_line<A: Allocator + Clone>(&self, buf: &mut String<A>) -> io::Result<usize> {
+        self.reader().read_line(buf)
+    }
+
+    fn lines<A: Allocator>(&self, alloc: A) -> Lines<&'static [u8], A> {
+        self.reader().lines(alloc)
+    }
+
+    fn reader(&self) -> &'static [u8] {
+        self.input
+    }
+}
+
+impl<'a> Alloc for Fake<'a> {
+    type A = Global;
+
+    fn alloc(&self) -> Global {
+        self.alloc
+    }
+}
+
+impl<'a> Fake<'a> {
+    /// With this command line, no input, and room for output.
+    pub fn new(alloc: Global, line: &'a str) -> Fake<'a> {
+        Fake {
+            alloc,
+            line: line.as_bytes(),
+            input: b"",
+            is_full: false,
+            out: RefCell::new(String::new(alloc)),
+            err: RefCell::new(String::new(alloc)),
+        }
+    }
+
+    /// Runs, and asserts the status, the whole output, and how the error's text begins.
+    pub fn ends(self, rt: &impl Abort, status: u8, out: &str, err: &str) {
+        let line = std::str::from_utf8(self.line).unwrap_or("a line that is not UTF-8");
+        assert!(rt;
+            run(&self) == ExitCode::from(status),
+            "the status of {line}"
+        );
+        let said = self.out.into_inner();
+        assert_eq!(rt; said.as_str(), out, "the output of {line}");
+        let said = self.err.into_inner();
+        assert!(rt;
+            said.as_str().starts_with(err),
+            "the error of {line}: {said}"
+        );
+        assert!(rt;
+            said.is_empty() == err.is_empty(),
+            "no error of {line}: {said}"
+        );
+    }
+}
