@@ -1,0 +1,75 @@
+// Microseconds to read a configuration of 256 clients, 16 pools and more and more users, and nanoseconds to find a user.
+#include <stdarg.h>
+#include <stdint.h>
+#include <stdio.h>
+#include <stdlib.h>
+#include <time.h>
+
+enum { CLIENTS = 256, POOLS = 16, USERS = 4096, TRIES = 15, ROUNDS = 20, ROOM = 1 << 20 };
+
+// Of crates/config_c.
+size_t radpool_read(const uint8_t *text, size_t len);
+size_t radpool_find(const uint8_t *text, size_t len, uint32_t rounds);
+
+static char text[ROOM];
+static size_t len;
+
+static void add(const char *format, ...) {
+    va_list values;
+    va_start(values, format);
+    int more = vsnprintf(text + len, ROOM - len, format, values);
+    va_end(values);
+    if (more < 0 || (size_t)more >= ROOM - len) exit(1);
+    len += (size_t)more;
+}
+
+static void lay_out(int users) {
+    len = 0;
+    for (int n = 0; n < CLIENTS; n++) add("[[client]]\naddress = \"192.168.0.%d\"\nsecret = \"secret of %d\"\n", n, n);
+    for (int n = 0; n < POOLS; n++) add("[[pool]]\nname = \"hall %d\"\nfirst = \"10.0.%d.1\"\nlast = \"10.0.%d.254\"\n", n, n, n);
+    for (int n = 0; n < users; n++)
+        add("[[user]]\nname = \"student%d@campus.example\"\npassword = \"word %d\"\npool = \"hall %d\"\nsessions = 2\nservice = 2\nprotocol = 1\n",
+            n, n, n % POOLS);
+}
+
+static double now(void) {
+    struct timespec t;
+    clock_gettime(CLOCK_MONOTONIC, &t);
+    return (double)t.tv_sec * 1e9 + (double)t.tv_nsec;
+}
+
+static double read_time(int users) {
+    double best = 1e18;
+    for (int k = 0; k < TRIES; k++) {
+        double start = now();
+        if (radpool_read((const uint8_t *)text, len) != (size_t)users) exit(1);
+        double spent = now() - start;
+        if (spent < best) best = spent;
+    }
+    return best;
+}
+
+// The time of the look-ups alone: that of reading is taken off.
+static double find_time(int users, double reading) {
+    double best = 1e18;
+    for (int k = 0; k < TRIES; k++) {
+        double start = now();
+        if (radpool_find((const uint8_t *)text, len, ROUNDS) != (size_t)users * ROUNDS) exit(1);
+        double spent = now() - start - reading;
+        if (spent < best) best = spent;
+    }
+    return best / ((double)users * ROUNDS);
+}
+
+int main(void) {
+    double small = 0, reading = 0;
+    printf("%8s %10s %12s %12s %12s\n", "users", "octets", "us to read", "ns a user", "ns to find");
+    for (int users = 256; users <= USERS; users *= 2) {
+        lay_out(users);
+        reading = read_time(users);
+        if (users == 1024) small = reading;
+        printf("%8d %10zu %12.0f %12.0f %12.1f\n", users, len, reading / 1e3, reading / users, find_time(users, reading));
+    }
+    printf("4,096 users take %.2f times as long to read as 1,024\n", reading / small);
+    return 0;
+}
