@@ -3,4 +3,5 @@ pub mod ClientRowsLemmas
 pub mod LaneLemmas
 pub mod NotedLemmas
 pub mod ReplyLemmas
+pub mod SameOctetsLemmas
 pub mod SumsLemmas

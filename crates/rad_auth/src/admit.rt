@@ -12,6 +12,7 @@ use crate::client::Clients;
 use crate::discard::Discard;
 use crate::noted::Noted;
 use crate::request_sums::{accounting_authenticators, message_authenticators};
+use crate::same_octets::same_octets;
 use rad_md5::DIGEST_LEN;
 use rad_packet::attribute::MESSAGE_AUTHENTICATOR;
 use rad_packet::{Packet, code};
@@ -196,7 +197,7 @@ fn has_bad_authenticator(
     ensures { result ≡ ((candidate.now.request.packet.code == 4) && not (has_accounting_authenticator candidate.now.request.packet (secret_at clients.now candidate.now.request.client))) }
 {
     let packet = &candidate.request.packet;
-    packet.code() == code::ACCOUNTING_REQUEST && packet.authenticator() != *digest
+    packet.code() == code::ACCOUNTING_REQUEST && !same_octets(&packet.authenticator(), digest)
 }
 
 // Whether a Message-Authenticator that is looked at isn't this sum, or is doubled.
@@ -227,7 +228,7 @@ fn has_right_sum(candidate: &Candidate, sum: &[u8; DIGEST_LEN]) -> bool
     }
     match candidate.request.packet.first(MESSAGE_AUTHENTICATOR) {
         None => false,
-        Some(value) => value == sum.as_slice(),
+        Some(value) => same_octets(value, sum),
     }
 }
 

@@ -18,6 +18,7 @@ mod discard;
 mod noted;
 mod reply_sums;
 mod request_sums;
+mod same_octets;
 mod seal;
 mod secret;
 mod sums;

@@ -1,5 +1,4 @@
-use Rattle.std.proofs.Common.{◌≡◌, ◌==◌, true, nat_eq, Some, ap, sym, subst, ◌∙◌}
-use lib.Pointwise.{pointwise}
+use Rattle.std.proofs.Common.{◌≡◌, ◌==◌, true, Some, sym, subst, ◌∙◌}
 use Rattle.std.specs.Prelude.{IfSome}
 use Rattle.std.proofs.lemmas.Bool.{eq-eqb}
 use Rattle.rad_packet.specs.Attributes.{count, first_value}
@@ -15,4 +14,4 @@ returns-in-Some c = λ secret same.
     let once : (count 80 p.attributes == 1) ≡ true = eq-eqb (count 80 p.attributes) 1 (sym noted.message_authenticators ∙ c.if-not-stands_once.false) in
     let first : first_value 80 p.attributes ≡ Some c.in-Some.value.now = sym c.in-Some.ensures.value in
     let held = subst (λ o. IfSome o (λ n. c.args.sum.now ≡ message_authenticator p secret)) noted.behind_sum same in
-    rw (once, first) (c.eq.ensures ∙ ap (pointwise nat_eq c.in-Some.value.now) c.as_slice.ensures ∙ right_sum p.attributes c.in-Some.value.now c.args.sum.now (message_authenticator p secret) first held c.told-sum)
+    rw (once, first) (c.same_octets.ensures ∙ right_sum p.attributes c.in-Some.value.now c.args.sum.now (message_authenticator p secret) first held c.told-sum)
