@@ -1,9 +1,12 @@
 pub mod Admission
+pub mod Chap
 pub mod ClientRows
 pub mod Clients
 pub mod Datagrams
 pub mod Discards
 pub mod Noted
+pub mod PasswordLanes
+pub mod Passwords
 pub mod ReplyLanes
 pub mod RequestLanes
 pub mod Sealing

@@ -1,21 +1,24 @@
-//! Admission of datagrams, and sealing of replies, under shared secrets (RFC 2865, section 3; RFC 2866, section 3;
-//! RFC 3579, section 3.2; RFC 5997, section 3).
+//! Admission of datagrams, checks of passwords, and sealing of replies, under shared secrets (RFC 2865, sections 2.2, 3,
+//! 5.2 and 5.3; RFC 1994, section 4.1; RFC 2866, section 3; RFC 3579, section 3.2; RFC 5997, section 3).
 //!
 //! `check8` says of eight arrivals which are requests of a client, and which discard is told of the others; `seal8` writes
 //! eight replies with their Message-Authenticators and Response Authenticators. What is digested and summed is laid out as
-//! borrowed slices, and one pass over eight lanes makes all digests, another all sums. Of the crate's calls only
-//! `Clients::add` takes memory.
+//! borrowed slices, and one pass over eight lanes makes all digests, another all sums. `password_right` says whether a
+//! password is the one that a value hides, whose blocks are opened by one pass too; `chap_right` says whether it gives the
+//! response that was sent. Of the crate's calls only `Clients::add` takes memory.
 //!
-//! Others rest on this: each lane of `check8` is the verdict of `specs/Admission.antt`, and each frame of `seal8` has the
-//! octets of `specs/Sealing.antt`.
+//! Others rest on this: each lane of `check8` is the verdict of `specs/Admission.antt`, each frame of `seal8` has the
+//! octets of `specs/Sealing.antt`, and a password is right by `specs/Passwords.antt` or `specs/Chap.antt`.
 #![tactic(auto)]
 
 mod admit;
 mod arrival;
 mod candidate;
+mod chap;
 mod client;
 mod discard;
 mod noted;
+mod password;
 mod reply_sums;
 mod request_sums;
 mod same_octets;
@@ -25,8 +28,10 @@ mod sums;
 
 pub use admit::{PROXY_STATES_MAX, check8};
 pub use arrival::{Arrival, Door, Request};
+pub use chap::{CHAP_VALUE_LEN, chap_response, chap_right};
 pub use client::{CLIENTS_MAX, ClientFault, Clients};
 pub use discard::Discard;
+pub use password::{PASSWORD_MAX, hide, password_right, reveal, value_fits};
 pub use seal::{Job, response_authenticator, seal8, sign_request};
 pub use secret::{SECRET_MAX, Secret};
 

@@ -12,6 +12,9 @@ pub const USER_NAME: u8 = 1;
 /// RFC 2865, section 5.2.
 pub const USER_PASSWORD: u8 = 2;
 
+/// RFC 2865, section 5.3.
+pub const CHAP_PASSWORD: u8 = 3;
+
 /// RFC 2865, section 5.4.
 pub const NAS_IP_ADDRESS: u8 = 4;
 
