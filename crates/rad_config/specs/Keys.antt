@@ -7,6 +7,7 @@ use Rattle.std.specs.Str.{bytes_eq}
 use Rattle.toml.specs.Data.{Data, as_str, as_integer, as_bool}
 use Rattle.rad_packet.specs.Attributes.{value_max}
 use Rattle.rad_auth.specs.Clients.{secret_max}
+use Rattle.rad_auth.specs.Passwords.{password_max}
 use Rattle.rad_config.specs.Decimals.{address_of}
 use Rattle.rad_config.specs.declared.config_fault.Key.{Key}
 use Rattle.rad_config.specs.declared.config_fault.Key.TheVariants as keys
@@ -83,10 +84,6 @@ address_max = 4294967293
 -- how far the last address of a pool may lie above its first
 abbrev pub above_first_max : ℕ
 above_first_max = 65535
-
--- User-Password hides so many octets, and fills them up with zeros (RFC 2865, section 5.2)
-abbrev pub password_max : ℕ
-password_max = 128
 
 -- the greatest number of four octets, which is the greatest address too
 abbrev pub number_max : ℕ

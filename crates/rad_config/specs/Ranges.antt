@@ -2,8 +2,9 @@
 -- a whole list leave. Texts are lists of octets, times are in seconds. Clients keep their own ranges.
 use Rattle.std.specs.Prelude.{◌≡◌, ℕ, ◌+◌, ◌≤◌, ◌<◌, List, length, slice_get, All, Some, IfSome, is_some}
 use Rattle.rad_packet.specs.Attributes.{value_max}
+use Rattle.rad_auth.specs.Passwords.{password_max}
 use Rattle.rad_config.specs.Configurations.{Configuration, pools_max, user_place, users_max}
-use Rattle.rad_config.specs.Keys.{above_first_max, address_max, number_max, password_max}
+use Rattle.rad_config.specs.Keys.{above_first_max, address_max, number_max}
 use Rattle.rad_config.specs.declared.pool.Pool.{Pool}
 use Rattle.rad_config.specs.declared.user.User.{User}
 

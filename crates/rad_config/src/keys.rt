@@ -8,7 +8,7 @@ ghost use Rattle.rad_config.specs.Views.{text_fit};
 
 use crate::config_fault::Key;
 use crate::decimal;
-use rad_auth::SECRET_MAX;
+use rad_auth::{PASSWORD_MAX, SECRET_MAX};
 use rad_packet::attribute::VALUE_MAX;
 use toml::Value;
 
@@ -132,9 +132,7 @@ pub const USER_NAME: TextRow = TextRow {
     zeros: true,
 };
 
-/// User-Password hides so many octets, and fills them up with zeros (RFC 2865, section 5.2).
-const PASSWORD_MAX: usize = 128;
-
+/// A User-Password is filled up with zeros, from which one at its end couldn't be told (RFC 2865, section 5.2).
 pub const PASSWORD: TextRow = TextRow {
     key: Key::Password,
     least: 1,
