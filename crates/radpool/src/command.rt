@@ -33,11 +33,10 @@ MOMENT DOOR ADDRESS:PORT OCTETS
 Example:
   radpool replay < examples/requests.txt";
 
-const MAKE_EXAMPLE: &str = "\
-Kind access has no password yet.
-
-Example:
-  radpool make --kind account --secret xyzzy5461 --id 7";
+const MAKE_EXAMPLES: &str = "\
+Examples:
+  radpool make --kind account --secret xyzzy5461 --id 7
+  radpool make --kind access --secret xyzzy5461 --user nemo --password arctangent";
 
 /// What the command line asks for.
 #[derive(Clone, Copy)]
@@ -162,6 +161,8 @@ fn make_in<'a>(found: &ArgMatches<'a>) -> Option<Make<'a>> {
         secret: found.get_str("secret")?,
         id: found.get_one::<u8>("id")?,
         user: found.get_str("user"),
+        password: found.get_str("password"),
+        chap: found.get_one::<u8>("chap"),
         status: found.get_one::<u32>("status")?,
         random: found.get_str("random")?,
         extra: found.get_str("extra")?,
@@ -191,7 +192,7 @@ fn replay_command<'a>(alloc: Global) -> Command<'a> {
 fn make_command<'a>(alloc: Global) -> Result<Command<'a>, AllocError> {
     let command = Command::new(alloc, "make")
         .about("Prints a request as one line of hexadecimal")
-        .after_help(MAKE_EXAMPLE);
+        .after_help(MAKE_EXAMPLES);
     attribute_options(alloc, header_options(alloc, command)?)
 }
 
@@ -217,6 +218,14 @@ fn header_options<'a>(alloc: Global, command: Command<'a>) -> Result<Command<'a>
 // With the options that say which attributes a request has.
 fn attribute_options<'a>(alloc: Global, command: Command<'a>) -> Result<Command<'a>, AllocError> {
     let user = option(alloc, "user", "TEXT").help("The User-Name, 1 to 253 octets");
+    let password = option(alloc, "password", "TEXT").help(
+        "The password of kind access, at most 128 octets",
+    );
+    let chap = option(alloc, "chap", "N")
+        .help(
+            "Sends the password by CHAP with this CHAP identifier, 0 to 255, instead of hiding it",
+        )
+        .value_parser(value_parser!(u8));
     let status = option(alloc, "status", "N")
         .help("The Acct-Status-Type of kind account, 0 to 4294967295")
         .default_value("1")
@@ -231,7 +240,13 @@ fn attribute_options<'a>(alloc: Global, command: Command<'a>) -> Result<Command<
         .long("mac")
         .action(ArgAction::SetTrue)
         .help("Puts a Message-Authenticator first, in kind access; kind status always has one");
-    command.arg(user)?.arg(status)?.arg(extra)?.arg(mac)
+    command
+        .arg(user)?
+        .arg(password)?
+        .arg(chap)?
+        .arg(status)?
+        .arg(extra)?
+        .arg(mac)
 }
 
 // An option with a value.

@@ -1,10 +1,15 @@
 //! Requests as the options of `make` ask for them.
 ghost use Rattle.std.specs.Prelude.{◌≡◌, ◌≤◌, length, IfOk};
 ghost use Rattle.rad_packet.specs.Attributes.{value_max};
+ghost use Rattle.rad_auth.specs.Passwords.{password_max};
 ghost use Rattle.rad_auth.specs.Sealing.{IsRequestCode};
 
-use rad_auth::{SECRET_MAX, Secret, sign_request};
-use rad_packet::attribute::{ACCT_STATUS_TYPE, MESSAGE_AUTHENTICATOR, USER_NAME, VALUE_MAX};
+use rad_auth::{
+    CHAP_VALUE_LEN, PASSWORD_MAX, SECRET_MAX, Secret, chap_response, hide, sign_request,
+};
+use rad_packet::attribute::{
+    ACCT_STATUS_TYPE, CHAP_PASSWORD, MESSAGE_AUTHENTICATOR, USER_NAME, USER_PASSWORD, VALUE_MAX,
+};
 use rad_packet::code::{ACCESS_REQUEST, ACCOUNTING_REQUEST, STATUS_SERVER};
 use rad_packet::{Body, Frame, HEADER_SIZE, LENGTH_MAX, Packet};
 use std::alloc::{AllocError, Global};
@@ -55,6 +60,8 @@ pub enum MakeFault {
     Random,
     #[error("invalid value for '--user <TEXT>': a text of 1 to 253 octets would fit")]
     User,
+    #[error("invalid value for '--password <TEXT>': a text of at most 128 octets would fit")]
+    Password,
     /// `--extra` is no octets in hexadecimal.
     #[error("invalid value for '--extra <HEX>': an even number of hexadecimal digits would fit")]
     ExtraDigits,
@@ -83,6 +90,10 @@ pub struct Make<'a> {
     pub id: u8,
     /// The User-Name, if there is to be one.
     pub user: Option<&'a str>,
+    /// The password of kind access, if there is to be one.
+    pub password: Option<&'a str>,
+    /// The CHAP identifier, if the password is to be sent by CHAP.
+    pub chap: Option<u8>,
     /// The Acct-Status-Type of kind account.
     pub status: u32,
     /// The Request Authenticator of kinds access and status, in hexadecimal.
@@ -96,12 +107,12 @@ pub struct Make<'a> {
 impl<'a> Make<'a> {
     /// The signed request.
     ///
-    /// A secret that doesn't fit is told first, then `random`, which has to fit where the kind doesn't use it too, `user` and
-    /// `extra`.
+    /// A secret that doesn't fit is told first, then `random`, `user`, `password` and `extra`. `random` and `password` have to
+    /// fit where the kind doesn't use them too.
     pub fn request(&self, alloc: Global) -> Result<Frame, MakeFault> {
         let secret = secret_of(self.secret)?;
         let random = random_of(self.random)?;
-        let body = self.body(alloc)?;
+        let body = self.body(alloc, &secret, &random)?;
         let mut frame = Frame::new(alloc)?;
         match sign_request(&body, self.id, &random, &secret, &mut frame) {
             Ok(()) => Ok(frame),
@@ -110,7 +121,7 @@ impl<'a> Make<'a> {
     }
 
     // What the request says before it is signed.
-    fn body(&self, alloc: Global) -> Result<Body, MakeFault>
+    fn body(&self, alloc: Global, secret: &Secret, random: &[u8; 16]) -> Result<Body, MakeFault>
         ensures { IfOk result (λ body. IsRequestCode body.code) }
     {
         let mut body = Body::new(alloc, self.kind.code());
@@ -120,6 +131,12 @@ impl<'a> Make<'a> {
         }
         if let Some(user) = self.user {
             body.push(USER_NAME, user_name(user)?)?;
+        }
+        if let Some(password) = self.password {
+            let password = password_of(password)?;
+            if self.kind == Kind::Access {
+                push_password(secret, random, password, self.chap, &mut body)?;
+            }
         }
         if self.kind == Kind::Account {
             body.push(ACCT_STATUS_TYPE, &self.status.to_be_bytes())?;
@@ -161,6 +178,38 @@ fn user_name(text: &str) -> Result<&[u8], MakeFault>
         return Err(MakeFault::User);
     }
     Ok(octets)
+}
+
+fn password_of(text: &str) -> Result<&[u8], MakeFault>
+    ensures { IfOk result (λ password. length password.now ≤ password_max) }
+{
+    let octets = text.as_bytes();
+    if octets.len() > PASSWORD_MAX {
+        return Err(MakeFault::Password);
+    }
+    Ok(octets)
+}
+
+// Appends a password: by CHAP if there is an identifier, and else hidden.
+fn push_password(
+    secret: &Secret,
+    random: &[u8; 16],
+    password: &[u8],
+    chap: Option<u8>,
+    body: &mut Body,
+) -> Result<(), AllocError>
+    requires { length password.now ≤ password_max }
+    ensures { body.new.code ≡ body.old.code }
+{
+    if let Some(identifier) = chap {
+        // Without a CHAP-Challenge the Request Authenticator is the challenge.
+        let mut value = [identifier; CHAP_VALUE_LEN];
+        value[1..].copy_from_slice(&chap_response(identifier, password, random));
+        return body.push(CHAP_PASSWORD, &value);
+    }
+    let mut value = [0; PASSWORD_MAX];
+    let len = hide(secret, random, password, &mut value);
+    body.push(USER_PASSWORD, &value[..len])
 }
 
 fn octets_of(alloc: Global, text: &str) -> Result<Vec<u8>, MakeFault> {

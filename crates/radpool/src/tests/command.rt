@@ -5,7 +5,7 @@ use std::process::Abort;
 use std::test::Fail;
 
 /// Options of `make`, and the request.
-const REQUESTS: [(&str, &str); 17] = [
+const REQUESTS: [(&str, &str); 36] = [
     (
         "--kind account --id 7",
         "0407001abf750299ba7111cf8a9def2b872d436c280600000001\n",
@@ -75,6 +75,86 @@ const REQUESTS: [(&str, &str); 17] = [
         "--kind access --extra 2102",
         "01000016000000000000000000000000000000002102\n",
     ),
+    // RFC 2865, section 7.1.
+    (
+        "--kind access --random 0f403f9473978057bd83d5cb98f4227a --user nemo --password arctangent --extra 0406c0a80110050600000003",
+        "010000380f403f9473978057bd83d5cb98f4227a01066e656d6f02120dbe708d93d413ce3196e43f782a0aee0406c0a80110050600000003\n",
+    ),
+    (
+        "--kind access --password=",
+        "010000260000000000000000000000000000000002121d4da23f12904b2e98952cb37f163fb1\n",
+    ),
+    (
+        "--kind access --random 0f403f9473978057bd83d5cb98f4227a --password abcdefghijklmnop",
+        "010000260f403f9473978057bd83d5cb98f4227a02120dae709d97dc13c336888f531544659e\n",
+    ),
+    (
+        "--kind access --random 0f403f9473978057bd83d5cb98f4227a --password abcdefghijklmnopq",
+        "010000360f403f9473978057bd83d5cb98f4227a02220dae709d97dc13c336888f531544659e9dfdb37c466ec4f9651aae68ce803b35\n",
+    ),
+    (
+        "--kind access --random 0f403f9473978057bd83d5cb98f4227a --password é",
+        "010000260f403f9473978057bd83d5cb98f4227a0212af6513f9f2ba74ab5fe2e43f782a0aee\n",
+    ),
+    // The sum runs over the password too.
+    (
+        "--kind access --mac --password arctangent --user nemo --random 0f403f9473978057bd83d5cb98f4227a",
+        "0100003e0f403f9473978057bd83d5cb98f4227a501241287e85c3eb5cf152ff4bb7a21fbf2501066e656d6f02120dbe708d93d413ce3196e43f782a0aee\n",
+    ),
+    (
+        "--kind access --password arctangent --extra 501200000000000000000000000000000000",
+        "010000380000000000000000000000000000000002127c3fc14b73fe2c4bf6e12cb37f163fb1501279f3efaebe13c26a75ef68bfd622f644\n",
+    ),
+    (
+        "--kind account --id 7 --password arctangent",
+        "0407001abf750299ba7111cf8a9def2b872d436c280600000001\n",
+    ),
+    (
+        "--kind status --password arctangent",
+        "0c0000260000000000000000000000000000000050121b46ac6e2d069e881c85e22b935d4655\n",
+    ),
+    // RFC 2865, section 7.2. It doesn't tell the password, but its response is the one that this password gives.
+    (
+        "--kind access --id 1 --random 2aee86f08d0d55969ca5978e0d3367a2 --user flopsy --chap 22 --password arctangent --extra 0406c0a80110050600000014060600000002070600000001",
+        "010100472aee86f08d0d55969ca5978e0d3367a20108666c6f707379031316e97557c316185895f293ff63440772750406c0a80110050600000014060600000002070600000001\n",
+    ),
+    (
+        "--kind access --random 0f403f9473978057bd83d5cb98f4227a --user nemo --password arctangent --chap 0",
+        "0100002d0f403f9473978057bd83d5cb98f4227a01066e656d6f0313002cd8b8411751cb43761bb9f9bf6529c2\n",
+    ),
+    (
+        "--kind access --mac --random 0f403f9473978057bd83d5cb98f4227a --user nemo --password arctangent --chap 7",
+        "0100003f0f403f9473978057bd83d5cb98f4227a50129ba9560dba12a05eb41f500d3bcc565501066e656d6f0313073f25c9ea76486dbb6e08f6da1baf940b\n",
+    ),
+    // The Request Authenticator is the challenge, though there is a CHAP-Challenge.
+    (
+        "--kind access --random 0f403f9473978057bd83d5cb98f4227a --password arctangent --chap 007 --extra 3c073031323334",
+        "0100002e0f403f9473978057bd83d5cb98f4227a0313073f25c9ea76486dbb6e08f6da1baf940b3c073031323334\n",
+    ),
+    (
+        "--kind access --random 0f403f9473978057bd83d5cb98f4227a --password=-x",
+        "010000260f403f9473978057bd83d5cb98f4227a021241b413f9f2ba74ab5fe2e43f782a0aee\n",
+    ),
+    (
+        "--kind access --id 255 --password arctangent --chap 255",
+        "01ff0027000000000000000000000000000000000313ffa561a67ea3011c835948173132d59b93\n",
+    ),
+    (
+        "--kind access --password= --chap 7",
+        "01000027000000000000000000000000000000000313075b9cbe3c38834a210d6cf690e22a81c4\n",
+    ),
+    (
+        "--kind access --user nemo --chap 7",
+        "0100001a0000000000000000000000000000000001066e656d6f\n",
+    ),
+    (
+        "--kind account --id 7 --chap 7 --password arctangent",
+        "0407001abf750299ba7111cf8a9def2b872d436c280600000001\n",
+    ),
+    (
+        "--kind status --chap 7 --password arctangent",
+        "0c0000260000000000000000000000000000000050121b46ac6e2d069e881c85e22b935d4655\n",
+    ),
 ];
 
 #[test]
@@ -92,24 +172,25 @@ Prints a request as one line of hexadecimal
 Usage: radpool make [OPTIONS] --kind <KIND> --secret <TEXT>
 
 Options:
-      --kind <KIND>    Access-Request, Accounting-Request or Status-Server [possible values: access, account, status]
-      --secret <TEXT>  The secret shared with the server, 1 to 128 octets
-      --id <N>         The Identifier, 0 to 255 [default: 0]
-      --random <HEX>   The Request Authenticator of kinds access and status [default: 00000000000000000000000000000000]
-      --user <TEXT>    The User-Name, 1 to 253 octets
-      --status <N>     The Acct-Status-Type of kind account, 0 to 4294967295 [default: 1]
-      --extra <HEX>    Attributes to put last, the octets of Type, Length and Value of each [default: none]
-      --mac            Puts a Message-Authenticator first, in kind access; kind status always has one
-  -h, --help           Print help
+      --kind <KIND>      Access-Request, Accounting-Request or Status-Server [possible values: access, account, status]
+      --secret <TEXT>    The secret shared with the server, 1 to 128 octets
+      --id <N>           The Identifier, 0 to 255 [default: 0]
+      --random <HEX>     The Request Authenticator of kinds access and status [default: 00000000000000000000000000000000]
+      --user <TEXT>      The User-Name, 1 to 253 octets
+      --password <TEXT>  The password of kind access, at most 128 octets
+      --chap <N>         Sends the password by CHAP with this CHAP identifier, 0 to 255, instead of hiding it
+      --status <N>       The Acct-Status-Type of kind account, 0 to 4294967295 [default: 1]
+      --extra <HEX>      Attributes to put last, the octets of Type, Length and Value of each [default: none]
+      --mac              Puts a Message-Authenticator first, in kind access; kind status always has one
+  -h, --help             Print help
 
-Kind access has no password yet.
-
-Example:
+Examples:
   radpool make --kind account --secret xyzzy5461 --id 7
+  radpool make --kind access --secret xyzzy5461 --user nemo --password arctangent
 ";
 
 /// Command lines that are no command, and how the text on standard error begins.
-const FAULTS: [(&str, &str); 16] = [
+const FAULTS: [(&str, &str); 18] = [
     ("radpool", "A RADIUS server, "),
     ("radpool --help", "A RADIUS server, "),
     ("radpool --version", "radpool 0.1.0\n"),
@@ -146,12 +227,20 @@ const FAULTS: [(&str, &str); 16] = [
         "error: the argument '--mac' cannot be used multiple times\n",
     ),
     (
-        "radpool make --kind access --secret x --password y",
-        "error: unexpected argument '--password' found\n",
+        "radpool make --kind access --secret x --password y --password y",
+        "error: the argument '--password <TEXT>' cannot be used multiple times\n",
     ),
     (
-        "radpool make --kind access --secret x --chap 1",
-        "error: unexpected argument '--chap' found\n",
+        "radpool make --kind access --secret x --password",
+        "error: a value is required for '--password <TEXT>' but none was supplied\n",
+    ),
+    (
+        "radpool make --kind access --secret x --nas y",
+        "error: unexpected argument '--nas' found\n",
+    ),
+    (
+        "radpool make --kind access --secret x --chap 1 --chap 1",
+        "error: the argument '--chap <N>' cannot be used multiple times\n",
     ),
 ];
 
@@ -168,6 +257,8 @@ fn faults(rt: HostRuntime) {
 
 const BAD_USER: &str = "'--user <TEXT>': a text of 1 to 253 octets would fit\n";
 
+const BAD_PASSWORD: &str = "'--password <TEXT>': a text of at most 128 octets would fit\n";
+
 const BAD_RANDOM: &str = "'--random <HEX>': 32 hexadecimal digits would fit\n";
 
 const BAD_DIGITS: &str = "'--extra <HEX>': an even number of hexadecimal digits would fit\n";
@@ -178,7 +269,7 @@ const TOO_LONG: &str =
     "'--extra <HEX>': attributes that leave the request at most 4096 octets would fit\n";
 
 /// Options of `make` whose last value doesn't fit, that value where clap tells it, and how the text ends.
-const UNFIT: [(&str, &str, &str); 16] = [
+const UNFIT: [(&str, &str, &str); 20] = [
     (
         "account --id 256",
         "'256' ",
@@ -192,6 +283,14 @@ const UNFIT: [(&str, &str, &str); 16] = [
         "'--status <N>': 4294967296 is not in 0..=4294967295\n",
     ),
     ("access --status x", "'x' ", "'--status <N>': "),
+    (
+        "access --password y --chap 256",
+        "'256' ",
+        "'--chap <N>': 256 is not in 0..=255\n",
+    ),
+    ("access --chap x", "'x' ", "'--chap <N>': "),
+    ("account --chap=-1", "'-1' ", "'--chap <N>': "),
+    ("status --chap=", "'' ", "'--chap <N>': "),
     ("account --user=", "", BAD_USER),
     (
         "account --random ffffffffffffffffffffffffffffffg0",
@@ -264,6 +363,36 @@ fn long_texts(rt: HostRuntime) -> Result<(), Fail> {
     .concat(rt.alloc())?;
     Fake::new(rt.alloc(), &line).ends(&rt, 0, &request, "");
     refuses(&rt, &["account --user n", user.as_str()], "", BAD_USER)
+}
+
+/// The request of the longest password.
+const LONG_PASSWORD: &str =
+    "010000960f403f9473978057bd83d5cb98f4227a02821cbc638982ca04db2f92944f085a7a9eecf15fcf19aedfc40d6a2976e894b6ffa1ac2cd16b8989d355ad0b1b4596e71a3fa1b3258b3caea704fe416dae0c668fb55f7374f17ceb24c28255132731d2432b634c9c76516d7bdb6a88e692c6274d83bd5911da308327d11505e9e3211f095ac36111e1564124f7b3601bf5031a18\n";
+
+/// The longest password, hidden and by CHAP, and one octet more in each kind: that is told after the User-Name and before
+/// `--extra`.
+#[test]
+fn long_passwords(rt: HostRuntime) -> Result<(), Fail> {
+    let password = "p".repeat(rt.alloc(), 128)?;
+    let line = [
+        "radpool make --kind access --secret xyzzy5461 --random 0f403f9473978057bd83d5cb98f4227a --password ",
+        password.as_str(),
+    ]
+    .concat(rt.alloc())?;
+    Fake::new(rt.alloc(), &line).ends(&rt, 0, LONG_PASSWORD, "");
+    let line = [line.as_str(), " --chap 7"].concat(rt.alloc())?;
+    let request =
+        "010000270f403f9473978057bd83d5cb98f4227a03130763b829ab231dfe80d64a109454df67c5\n";
+    Fake::new(rt.alloc(), &line).ends(&rt, 0, request, "");
+
+    let options = ["access --extra 2 --password p", password.as_str()];
+    refuses(&rt, &options, "", BAD_PASSWORD)?;
+    let options = ["account --password p", password.as_str()];
+    refuses(&rt, &options, "", BAD_PASSWORD)?;
+    let options = ["status --chap 7 --password p", password.as_str()];
+    refuses(&rt, &options, "", BAD_PASSWORD)?;
+    let options = ["access --password p", password.as_str(), " --user="];
+    refuses(&rt, &options, "", BAD_USER)
 }
 
 /// A request of 4,096 octets, one octet more, and attributes that alone are too many.
