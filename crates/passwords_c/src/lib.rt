@@ -1,0 +1,120 @@
+//! Password checks for a program in C that measures them: `bench/passwords`.
+//!
+//! Each export checks all cases of a lot as many times as it is told, and answers how often a password was right.
+#![tactic(auto)]
+
+ghost use Rattle.std.specs.Prelude.{◌≤◌, length};
+ghost use Rattle.rad_auth.specs.Passwords.{password_max};
+
+use md5::{Digest, Md5};
+use rad_auth::{
+    CHAP_VALUE_LEN, PASSWORD_MAX, SECRET_MAX, Secret, chap_right, password_right, value_fits,
+};
+use std::simd::u8x16;
+
+/// A password, and the value for which it may be right. Each has as many octets as its length says.
+#[repr(C)]
+pub struct Case {
+    /// The Request Authenticator, which is the challenge of a CHAP-Password too.
+    pub authenticator: [u8; 16],
+    pub value: [u8; PASSWORD_MAX],
+    pub value_len: usize,
+    pub password: [u8; PASSWORD_MAX],
+    pub password_len: usize,
+}
+
+impl Case {
+    fn value(&self) -> &[u8] {
+        &self.value[..self.value_len.min(PASSWORD_MAX)]
+    }
+
+    fn password(&self) -> &[u8]
+        ensures { length result.now ≤ password_max }
+    {
+        &self.password[..self.password_len.min(PASSWORD_MAX)]
+    }
+}
+
+/// Cases, and the secret under which their User-Passwords are hidden. Its octets and their number come from C, so that
+/// no compiler knows them.
+#[repr(C)]
+pub struct Lot {
+    pub secret: [u8; SECRET_MAX],
+    pub secret_len: usize,
+    pub cases: [Case; 8],
+}
+
+impl Lot {
+    fn secret(&self) -> Secret {
+        Secret::new(&self.secret[..self.secret_len.clamp(1, SECRET_MAX)])
+    }
+
+    // How often a check of all cases finds a password right.
+    fn count<F: Fn(&Case) -> bool>(&self, rounds: u32, is_right: F) -> usize
+        requires { F.IsAlwaysCallable is_right }
+    {
+        let mut right: usize = 0;
+        for _ in 0..rounds {
+            for case in &self.cases {
+                if is_right(case) {
+                    right = right.wrapping_add(1);
+                }
+            }
+        }
+        right
+    }
+}
+
+// Hides a password block by block, each under the hidden block before it, and compares each with the value's.
+fn is_hidden_as(secret: &[u8], authenticator: &[u8; 16], value: &[u8], password: &[u8]) -> bool
+    requires { length password.now ≤ password_max }
+{
+    if password.len() > value.len() {
+        return false;
+    }
+    let mut text = [0; PASSWORD_MAX];
+    text[..password.len()].copy_from_slice(password);
+    let (text_blocks, _) = text.as_chunks::<16>();
+    let (value_blocks, _) = value.as_chunks::<16>();
+    let mut before = *authenticator;
+    let mut difference = u8x16::splat(0);
+    for (block, wanted) in text_blocks.iter().zip(value_blocks) {
+        let pad = Md5::new_with_prefix(secret)
+            .chain_update(&before)
+            .finalize();
+        let hidden = u8x16::from_array(*block) ^ u8x16::from_array(pad);
+        difference = difference | (hidden ^ u8x16::from_array(*wanted));
+        before = hidden.to_array();
+    }
+    difference.to_array() == [0; 16]
+}
+
+/// `password_right` for each case.
+#[unsafe(no_mangle)]
+pub extern "C" fn radpool_password(lot: &Lot, rounds: u32) -> usize {
+    let secret = lot.secret();
+    lot.count(rounds, |case| {
+        let value = case.value();
+        value_fits(value) && password_right(&secret, &case.authenticator, value, case.password())
+    })
+}
+
+/// The same check, one digest after the other by the toolchain's `md5`.
+#[unsafe(no_mangle)]
+pub extern "C" fn kit_password(lot: &Lot, rounds: u32) -> usize {
+    let secret = lot.secret();
+    lot.count(rounds, |case| {
+        let value = case.value();
+        value_fits(value)
+            && is_hidden_as(secret.octets(), &case.authenticator, value, case.password())
+    })
+}
+
+/// `chap_right` for each case.
+#[unsafe(no_mangle)]
+pub extern "C" fn radpool_chap(lot: &Lot, rounds: u32) -> usize {
+    lot.count(rounds, |case| {
+        let value = case.value();
+        value.len() == CHAP_VALUE_LEN && chap_right(value, case.password(), &case.authenticator)
+    })
+}
