@@ -1,10 +1,9 @@
 // Nanoseconds a datagram: rad_auth's check8 and seal8 beside checks and seals one by one with the toolchain's md5.
+#include "../bench.h"
 #include <stdbool.h>
 #include <stdint.h>
 #include <stdio.h>
-#include <stdlib.h>
 #include <string.h>
-#include <time.h>
 
 enum { REQUESTS = 64, CLIENTS = 4, SLOT = 128, ROUNDS = 50, TRIES = 1000 };
 
@@ -16,17 +15,6 @@ typedef bool work(uint32_t kind, uint32_t rounds, uint8_t *out, size_t out_len);
 work radpool_check, radpool_seal, radpool_both, kit_check, kit_seal, kit_both;
 
 static uint8_t out[2][SLOT * REQUESTS];
-
-static void end(const char *why) {
-    puts(why);
-    exit(1);
-}
-
-static double now(void) {
-    struct timespec t;
-    clock_gettime(CLOCK_MONOTONIC, &t);
-    return (double)t.tv_sec * 1e9 + (double)t.tv_nsec;
-}
 
 static void keep_best(work *work, uint32_t kind, uint32_t rounds, uint8_t *out, double *best) {
     double start = now();

@@ -1,9 +1,8 @@
 // Microseconds to read a configuration of 256 clients, 16 pools and more and more users, and nanoseconds to find a user.
+#include "../bench.h"
 #include <stdarg.h>
 #include <stdint.h>
 #include <stdio.h>
-#include <stdlib.h>
-#include <time.h>
 
 enum { CLIENTS = 256, POOLS = 16, USERS = 4096, TRIES = 15, ROUNDS = 20, ROOM = 1 << 20 };
 
@@ -30,12 +29,6 @@ static void lay_out(int users) {
     for (int n = 0; n < users; n++)
         add("[[user]]\nname = \"student%d@campus.example\"\npassword = \"word %d\"\npool = \"hall %d\"\nsessions = 2\nservice = 2\nprotocol = 1\n",
             n, n, n % POOLS);
-}
-
-static double now(void) {
-    struct timespec t;
-    clock_gettime(CLOCK_MONOTONIC, &t);
-    return (double)t.tv_sec * 1e9 + (double)t.tv_nsec;
 }
 
 static double read_time(int users) {

@@ -1,12 +1,11 @@
 // Nanoseconds a digest and a sum: rad_md5 and rad_hmac beside the toolchain's md5 and OpenSSL, over the same messages.
 #define OPENSSL_SUPPRESS_DEPRECATED
+#include "../bench.h"
 #include <openssl/md5.h>
 #include <stdbool.h>
 #include <stdint.h>
 #include <stdio.h>
-#include <stdlib.h>
 #include <string.h>
-#include <time.h>
 
 enum { MESSAGES = 64, SLOT = 256, DIGEST = 16, BLOCK = 64, ROUNDS = 50, TRIES = 1000 };
 
@@ -49,12 +48,6 @@ static void openssl_hmac(const uint8_t *slots, size_t slots_len, const uint32_t 
         }
 }
 
-static double now(void) {
-    struct timespec t;
-    clock_gettime(CLOCK_MONOTONIC, &t);
-    return (double)t.tv_sec * 1e9 + (double)t.tv_nsec;
-}
-
 static uint8_t slots[SLOT * MESSAGES];
 static uint32_t lengths[MESSAGES];
 
@@ -69,10 +62,7 @@ static void measure(work *const works[3], double best[3]) {
             double spent = (now() - start) / ROUNDS / MESSAGES;
             if (spent < best[j]) best[j] = spent;
         }
-    if (memcmp(out[0], out[1], sizeof out[0]) || memcmp(out[0], out[2], sizeof out[0])) {
-        puts("The answers differ.");
-        exit(1);
-    }
+    if (memcmp(out[0], out[1], sizeof out[0]) || memcmp(out[0], out[2], sizeof out[0])) end("The answers differ.");
 }
 
 int main(void) {

@@ -1,12 +1,11 @@
 // Nanoseconds a password check: rad_auth's password_right and chap_right beside the toolchain's md5 and OpenSSL.
 #define OPENSSL_SUPPRESS_DEPRECATED
+#include "../bench.h"
 #include <openssl/md5.h>
 #include <stdbool.h>
 #include <stdint.h>
 #include <stdio.h>
-#include <stdlib.h>
 #include <string.h>
-#include <time.h>
 
 enum { CASES = 8, LONGEST = 128, BLOCK = 16, ROUNDS = 50, TRIES = 50, PASSES = 40, WORKS = 3 };
 
@@ -114,17 +113,6 @@ static void lay_out(const struct row *row) {
             respond(checked, checked->value + 1);
         } else hide(&lot, checked->authenticator, checked->password, checked->value_len, checked->value);
     }
-}
-
-static void end(const char *why) {
-    puts(why);
-    exit(1);
-}
-
-static double now(void) {
-    struct timespec t;
-    clock_gettime(CLOCK_MONOTONIC, &t);
-    return (double)t.tv_sec * 1e9 + (double)t.tv_nsec;
 }
 
 static void keep_best(work *work, double *best) {
