@@ -4,7 +4,7 @@
 //! `check8` says of eight arrivals which are requests of a client, and which discard is told of the others; `seal8` writes
 //! eight replies with their Message-Authenticators and Response Authenticators. What is digested and summed is laid out as
 //! borrowed slices, and one pass over eight lanes makes all digests, another all sums. `password_right` says whether a
-//! password is the one that a value hides, whose blocks are opened by one pass too; `chap_right` says whether it gives the
+//! password is the one that a value hides, and one pass opens two blocks or more; `chap_right` says whether it gives the
 //! response that was sent. Of the crate's calls only `Clients::add` takes memory.
 //!
 //! Others rest on this: each lane of `check8` is the verdict of `specs/Admission.antt`, each frame of `seal8` has the
