@@ -7,6 +7,8 @@ demo:
 	(cat examples/radpool.toml; echo; echo ---) | crates/radpool/out/radpool replay
 	@echo "The output is that of examples/requests.expected. The program is crates/radpool/out/radpool."
 
-# Proves everything from nothing, tries the must-fail edits, and runs the tests and the program.
+# Proves everything from nothing, tries the must-fail edits, and runs the tests and the program, whose own run is the example.
 test:
+	@cmp examples/requests.txt crates/radpool/stdin
+	@cmp examples/requests.expected crates/radpool/stdout
 	@rt ci

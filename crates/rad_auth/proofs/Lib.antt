@@ -1,3 +1,4 @@
+pub mod AdmissionLemmas
 pub mod AttributeLemmas
 pub mod ClientRowsLemmas
 pub mod LaneLemmas

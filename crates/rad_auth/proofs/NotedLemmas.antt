@@ -6,8 +6,7 @@ use Rattle.std.specs.Cmp.Lexicographic.{same_text}
 use lib.Pointwise.{pointwise}
 use Rattle.std.specs.List.{list_any}
 use Rattle.std.specs.Option.{option_or}
-use Rattle.rad_packet.specs.Attributes.{Attribute, count, first_value, size}
-use Rattle.rad_auth.specs.Admission.{is_of}
+use Rattle.rad_packet.specs.Attributes.{Attribute, count, first_value, is_of, size}
 use Rattle.rad_auth.proofs.AttributeLemmas.{count-cons}
 use Rattle.rad_auth.specs.Noted.{behind_sum, first_behind}
 use Rattle.rad_auth.specs.Sums.{holds_sum}

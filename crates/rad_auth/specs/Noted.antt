@@ -1,8 +1,6 @@
 -- What one walk over a packet's attributes finds for the checks.
-use Rattle.std.specs.List.{list_any}
 use Rattle.std.specs.Prelude.{◌≡◌, ℕ, ◌+◌, ◌-◌, ◌==◌, ◌&&◌, if◌then◌else◌, List, [], ◌∷◌, ◌++◌, length, take, drop, Option, Some, None}
-use Rattle.rad_packet.specs.Attributes.{Attribute, count, of_kind, size}
-use Rattle.rad_auth.specs.Admission.{is_of, is_status_type}
+use Rattle.rad_packet.specs.Attributes.{Attribute, count, has, has_len, of_kind, size}
 use Rattle.rad_auth.specs.declared.noted.Noted.{Noted}
 use Rattle.rad_auth.specs.Sums.{holds_sum}
 
@@ -18,8 +16,8 @@ with_sum behind value octets = take (length octets - (behind + 16)) octets ++ va
 pub record IsNoted (list : List Attribute) (noted : Noted) : Type 0 where
   pub message_authenticators : noted.message_authenticators ≡ count 80 list
   pub behind_sum : noted.behind_sum ≡ behind_sum list
-  pub has_eap_message : noted.has_eap_message ≡ list_any (is_of 79) list
-  pub has_status_type : noted.has_status_type ≡ list_any is_status_type list
+  pub has_eap_message : noted.has_eap_message ≡ has 79 list
+  pub has_status_type : noted.has_status_type ≡ has_len 40 4 list
   pub proxy_states : noted.proxy_states ≡ size (of_kind 33 list)
 
 -- what is known of the place after one more attribute, with so many octets behind it

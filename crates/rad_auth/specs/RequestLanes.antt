@@ -1,39 +1,31 @@
 -- Eight lanes of arrivals on their way through the checks: what was read of each, and the digest and the sum that were
 -- made for it.
-use Rattle.std.specs.Prelude.{◌≡◌, ℕ, ◌<◌, ◌==◌, ◌&&◌, Bool, false, is_some, List, drop, length, Option, Some, None, Result, Ok, Err, option_map, IfOk, IfSome, IsTrue}
+use Rattle.std.specs.Prelude.{◌≡◌, ℕ, ◌<◌, ◌==◌, ◌&&◌, Bool, false, is_some, List, length, Option, Some, None, Result, Ok, Err, IfOk, IfSome, IsTrue}
 use Rattle.md5.specs.Md5.{md5}
 use Rattle.rad_hmac.specs.Hmac.{hmac, keyed_sum}
-use Rattle.rad_auth.specs.Admission.{Check, checks, first_failed, is_summed, is_taken, verdict}
+use Rattle.rad_packet.specs.Ladders.{◌>>=◌}
+use Rattle.rad_auth.specs.Admission.{content_checks, is_summed, own_datagram, request_in}
 use Rattle.rad_auth.specs.Clients.{Client, client_of, secret_at}
 use Rattle.rad_auth.specs.Sums.{accounting_authenticator, message_authenticator}
-use Rattle.rad_packet.specs.Packets.{Packet}
-use Rattle.rad_auth.specs.declared.arrival.Door.{Door}
 use Rattle.rad_auth.specs.declared.candidate.Candidate.{Candidate}
 use Rattle.rad_auth.specs.declared.arrival.Request.{Request}
 use Rattle.rad_auth.specs.declared.discard.Discard.{Discard}
 
--- the checks after that of the Code
-abbrev pub content_checks : Door → Client → Packet → List Check
-content_checks door client p = drop 1 (checks door client p)
-
--- the verdict, where the door took the request of a candidate
-abbrev pub told : List Client → Result Candidate Discard → Result Request Discard
-told clients (Err discard) = Err discard
-told clients (Ok candidate) =
-    verdict candidate.request (first_failed (content_checks candidate.request.door (client_of clients candidate.request.client) candidate.request.packet))
-
--- the verdict on a lane
-abbrev pub judged : List Client → Option (Result Candidate Discard) → Option (Result Request Discard)
-judged clients lane = option_map (told clients) lane
+-- the verdict on what was read of an arrival
+abbrev pub verdict_on : List Client → Result Candidate Discard → Result Request Discard
+verdict_on clients read = do
+  candidate ← read
+  checked ← content_checks (client_of clients candidate.request.client) candidate.request.packet
+  Ok candidate.request
 
 -- a fact about the candidate of a lane, where it has one
 abbrev pub OfCandidate : (Candidate → Type 0) → Option (Result Candidate Discard) → Type 0
 OfCandidate Holds lane = IfSome lane (λ read. IfOk read Holds)
 
--- the candidate is a client's, and its door took it
+-- the candidate is a client's, and its own octets hold it
 pub record IsCandidate (clients : List Client) (candidate : Candidate) : Type 0 where
   pub client : candidate.request.client < length clients
-  pub taken : IsTrue (is_taken candidate.request.door candidate.request.packet.code)
+  pub held : request_in clients (own_datagram candidate.request) ≡ Ok candidate.request
 
 -- the digest that an Accounting-Request has to have
 abbrev pub IsAccountingAuthenticator : List Client → List ℕ → Candidate → Type 0

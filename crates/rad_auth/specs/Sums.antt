@@ -1,9 +1,9 @@
 -- Over which octets each digest and sum runs. A digest is MD5 (RFC 1321), whose meaning is the crate md5's, and a sum is
 -- HMAC-MD5 (RFC 2104), as rad_hmac defines it. A secret is a list of octets, which are numbers below 256.
-use Rattle.std.specs.Prelude.{ℕ, ◌==◌, ◌&&◌, Bool, if◌then◌else◌, List, [], ◌∷◌, ◌++◌, length, replicate}
+use Rattle.std.specs.Prelude.{ℕ, Bool, if◌then◌else◌, List, [], ◌∷◌, ◌++◌, replicate}
 use Rattle.md5.specs.Md5.{md5}
 use Rattle.rad_hmac.specs.Hmac.{hmac}
-use Rattle.rad_packet.specs.Attributes.{Attribute}
+use Rattle.rad_packet.specs.Attributes.{Attribute, is_of_len}
 use Rattle.rad_packet.specs.Bodies.{Body, packet_of_body}
 use Rattle.rad_packet.specs.Packets.{Packet, packet_octets}
 
@@ -18,7 +18,7 @@ accounting_authenticator p secret = md5 (packet_octets (record p { authenticator
 
 -- an attribute that holds a sum: a Message-Authenticator, Type 80, with a Value of 16 octets
 abbrev pub holds_sum : Attribute → Bool
-holds_sum a = (a.kind == 80) && (length a.value == 16)
+holds_sum a = is_of_len 80 16 a
 
 -- the attributes with this Value in the first of them that holds a sum, if one does
 abbrev pub with_message_authenticator : List ℕ → List Attribute → List Attribute

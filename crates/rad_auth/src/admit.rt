@@ -1,9 +1,10 @@
-//! Admission: which datagrams are let in, and which discard is told first.
-ghost use Rattle.std.specs.Prelude.{◌≡◌, ℕ, ◌<◌, ◌-◌, ◌==◌, ◌&&◌, ◌||◌, List, length, map, option_map, not, All, IfOk, IfSome, None};
-ghost use Rattle.rad_auth.specs.Admission.{HoldsRequest, IsRequest, admission, first_failed, has, has_status_type, has_accounting_authenticator, has_right_message_authenticator, is_summed, is_taken, needs_message_authenticator};
-ghost use Rattle.rad_auth.specs.Clients.{client_of, secret_at};
+//! Admission: which datagrams are requests of a client, and which discard is told of the others.
+ghost use Rattle.std.specs.Prelude.{◌≡◌, ℕ, ◌<◌, List, length, map, option_map, All, IfOk, IfSome, Ok};
+ghost use Rattle.rad_packet.specs.Attributes.{has};
+ghost use Rattle.rad_auth.specs.Admission.{HoldsAdmitted, IsAdmitted, IsAnswerable, admission, content_checks, has_bad_authenticator, has_bad_message_authenticator, has_right_message_authenticator, is_summed, is_taken, lacks_message_authenticator, lacks_status_type, own_datagram, request_in};
+ghost use Rattle.rad_auth.specs.Clients.{Client, client_of};
 ghost use Rattle.rad_auth.specs.Datagrams.{datagram_of};
-ghost use Rattle.rad_auth.specs.RequestLanes.{IsAccountingAuthenticator, IsCandidate, IsMessageAuthenticator, OfCandidate, content_checks, judged, told};
+ghost use Rattle.rad_auth.specs.RequestLanes.{IsAccountingAuthenticator, IsCandidate, IsMessageAuthenticator, OfCandidate, verdict_on};
 ghost use Rattle.rad_auth.specs.Sums.{message_authenticator};
 
 use crate::arrival::{Arrival, Door, Request};
@@ -28,7 +29,7 @@ pub fn check8<'a>(
     arrivals: &[Option<Arrival<'a>>; 8],
 ) -> [Option<Result<Request<'a>, Discard>>; 8]
     ensures verdicts { result ≡ map (option_map (λ arrival. admission clients.now (datagram_of arrival))) arrivals.now }
-    ensures requests { All (HoldsRequest clients.now) result }
+    ensures requests { All (HoldsAdmitted clients.now) result }
 {
     let [a, b, c, d, e, f, g, h] = arrivals;
     let lanes = [
@@ -55,8 +56,16 @@ pub fn check8<'a>(
     ]
 }
 
+/// What every admitted request has.
+///
+/// It does nothing: it is the law on which those who answer requests rest.
+pub fn admitted_is_answerable(_clients: &Clients, _request: &Request)
+    requires { IsAdmitted _clients.now _request.now }
+    ensures { IsAnswerable _clients.now _request.now }
+{}
+
 fn read_lane<'a>(clients: &Clients, arrival: &Option<Arrival<'a>>) -> Lane<'a>
-    ensures verdict { option_map (λ arrival. admission clients.now (datagram_of arrival)) arrival.now ≡ judged clients.now result }
+    ensures verdict { option_map (λ arrival. admission clients.now (datagram_of arrival)) arrival.now ≡ option_map (verdict_on clients.now) result }
     ensures candidate { OfCandidate (IsCandidate clients.now) result }
 {
     match arrival {
@@ -65,11 +74,22 @@ fn read_lane<'a>(clients: &Clients, arrival: &Option<Arrival<'a>>) -> Lane<'a>
     }
 }
 
-// The checks that need no sum.
 #[tactic(auto, unfolding(crate::specs::Admission::admission))]
 fn read_candidate<'a>(clients: &Clients, arrival: &Arrival<'a>) -> Result<Candidate<'a>, Discard>
-    ensures verdict { admission clients.now (datagram_of arrival.now) ≡ told clients.now result }
+    ensures verdict { admission clients.now (datagram_of arrival.now) ≡ verdict_on clients.now result }
     ensures candidate { IfOk result (IsCandidate clients.now) }
+{
+    let request = read_request(clients, arrival)?;
+    let noted = Noted::of(request.packet.attributes());
+    Ok(Candidate { request, noted })
+}
+
+// The checks that need no sum.
+#[tactic(auto, unfolding(crate::specs::Admission::request_in))]
+fn read_request<'a>(clients: &Clients, arrival: &Arrival<'a>) -> Result<Request<'a>, Discard>
+    ensures read { result ≡ request_in clients.now (datagram_of arrival.now) }
+    ensures client { IfOk result (λ request. request.client < length clients.now) }
+    ensures held { IfOk result (λ request. request_in clients.now (own_datagram request) ≡ Ok request) }
 {
     let Some(client) = clients.find(arrival.source) else {
         return Err(Discard::UnknownClient);
@@ -78,15 +98,13 @@ fn read_candidate<'a>(clients: &Clients, arrival: &Arrival<'a>) -> Result<Candid
     if !is_taken(arrival.door, packet.code()) {
         return Err(Discard::WrongCode);
     }
-    let noted = Noted::of(packet.attributes());
-    let request = Request {
+    Ok(Request {
         client,
         source: arrival.source,
         port: arrival.port,
         door: arrival.door,
         packet,
-    };
-    Ok(Candidate { request, noted })
+    })
 }
 
 // Whether a door takes a Code.
@@ -116,8 +134,8 @@ fn judge<'a>(
     requires candidate { OfCandidate (IsCandidate clients.now) lane.now }
     requires digest { OfCandidate (IsAccountingAuthenticator clients.now digest.now) lane.now }
     requires sum { OfCandidate (IsMessageAuthenticator clients.now sum.now) lane.now }
-    ensures verdict { result ≡ judged clients.now lane.now }
-    ensures request { HoldsRequest clients.now result }
+    ensures verdict { result ≡ option_map (verdict_on clients.now) lane.now }
+    ensures request { HoldsAdmitted clients.now result }
 {
     match lane {
         None => None,
@@ -135,12 +153,11 @@ fn let_in<'a>(
     requires candidate { IsCandidate clients.now candidate.now }
     requires digest { IsAccountingAuthenticator clients.now digest.now candidate.now }
     requires sum { IsMessageAuthenticator clients.now sum.now candidate.now }
-    ensures verdict { result ≡ told clients.now (Ok candidate.now) }
-    ensures request { IfOk result (IsRequest clients.now) }
+    ensures verdict { result ≡ verdict_on clients.now (Ok candidate.now) }
+    ensures admitted { IfOk result (IsAdmitted clients.now) }
 {
-    if let Some(discard) = failed(clients, candidate, digest, sum) {
-        return Err(discard);
-    }
+    check_content(clients, candidate, digest, sum)?;
+    // The lanes are borrowed by what was made of them, so the request is built anew. No octet is copied.
     let Request {
         client,
         source,
@@ -157,34 +174,35 @@ fn let_in<'a>(
     })
 }
 
-// The first check of the content that fails.
-fn failed(
+// The checks of the content, over the digest and the sum that were made for it.
+#[tactic(auto, unfolding(crate::specs::Admission::content_checks))]
+fn check_content(
     clients: &Clients,
     candidate: &Candidate,
     digest: &[u8; DIGEST_LEN],
     sum: &[u8; DIGEST_LEN],
-) -> Option<Discard>
+) -> Result<(), Discard>
     requires candidate { IsCandidate clients.now candidate.now }
     requires digest { IsAccountingAuthenticator clients.now digest.now candidate.now }
     requires sum { IsMessageAuthenticator clients.now sum.now candidate.now }
-    ensures { result ≡ first_failed (content_checks candidate.now.request.door (client_of clients.now candidate.now.request.client) candidate.now.request.packet) }
+    ensures { result ≡ content_checks (client_of clients.now candidate.now.request.client) candidate.now.request.packet }
 {
     if has_bad_authenticator(clients, candidate, digest) {
-        return Some(Discard::BadAuthenticator);
+        return Err(Discard::BadAuthenticator);
     }
-    if has_bad_sum(clients, candidate, sum) {
-        return Some(Discard::BadMessageAuthenticator);
+    if has_bad_message_authenticator(clients, candidate, sum) {
+        return Err(Discard::BadMessageAuthenticator);
     }
-    if lacks_sum(clients, candidate) {
-        return Some(Discard::NoMessageAuthenticator);
+    if lacks_message_authenticator(clients, candidate) {
+        return Err(Discard::NoMessageAuthenticator);
     }
     if lacks_status_type(candidate) {
-        return Some(Discard::NoStatusType);
+        return Err(Discard::NoStatusType);
     }
     if candidate.noted.proxy_states > PROXY_STATES_MAX {
-        return Some(Discard::ProxyStateTooLong);
+        return Err(Discard::ProxyStateTooLong);
     }
-    None
+    Ok(())
 }
 
 // Whether an Accounting-Request has another Authenticator than this digest.
@@ -194,33 +212,37 @@ fn has_bad_authenticator(
     digest: &[u8; DIGEST_LEN],
 ) -> bool
     requires { IsAccountingAuthenticator clients.now digest.now candidate.now }
-    ensures { result ≡ ((candidate.now.request.packet.code == 4) && not (has_accounting_authenticator candidate.now.request.packet (secret_at clients.now candidate.now.request.client))) }
+    ensures { result ≡ has_bad_authenticator (client_of clients.now candidate.now.request.client) candidate.now.request.packet }
 {
     let packet = &candidate.request.packet;
     packet.code() == code::ACCOUNTING_REQUEST && !same_octets(&packet.authenticator(), digest)
 }
 
 // Whether a Message-Authenticator that is looked at isn't this sum, or is doubled.
-fn has_bad_sum(clients: &Clients, candidate: &Candidate, sum: &[u8; DIGEST_LEN]) -> bool
+fn has_bad_message_authenticator(
+    clients: &Clients,
+    candidate: &Candidate,
+    sum: &[u8; DIGEST_LEN],
+) -> bool
     requires { IsMessageAuthenticator clients.now sum.now candidate.now }
-    ensures { result ≡ (is_summed candidate.now.request.packet.code && (has 80 candidate.now.request.packet && not (has_right_message_authenticator candidate.now.request.packet (secret_at clients.now candidate.now.request.client)))) }
+    ensures { result ≡ has_bad_message_authenticator (client_of clients.now candidate.now.request.client) candidate.now.request.packet }
 {
     is_summed(candidate.request.packet.code())
-        && has_sum(candidate)
-        && !has_right_sum(candidate, sum)
+        && has_message_authenticator(candidate)
+        && !has_right_message_authenticator(candidate, sum)
 }
 
 // Whether a Message-Authenticator is there.
-fn has_sum(candidate: &Candidate) -> bool
-    ensures { result ≡ has 80 candidate.now.request.packet }
+fn has_message_authenticator(candidate: &Candidate) -> bool
+    ensures { result ≡ has 80 candidate.now.request.packet.attributes }
 {
     candidate.noted.message_authenticators > 0
 }
 
 // Whether the Message-Authenticator stands once, and is this sum.
-fn has_right_sum(candidate: &Candidate, sum: &[u8; DIGEST_LEN]) -> bool
-    ensures { (secret : List ℕ) → (IfSome candidate.now.noted.behind_sum (λ behind. sum.now ≡ message_authenticator candidate.now.request.packet secret))
-        → result ≡ has_right_message_authenticator candidate.now.request.packet secret }
+fn has_right_message_authenticator(candidate: &Candidate, sum: &[u8; DIGEST_LEN]) -> bool
+    ensures { (client : Client) → (IfSome candidate.now.noted.behind_sum (λ behind. sum.now ≡ message_authenticator candidate.now.request.packet client.secret))
+        → result ≡ has_right_message_authenticator client candidate.now.request.packet }
 {
     let stands_once = candidate.noted.message_authenticators == 1;
     if !stands_once {
@@ -233,11 +255,11 @@ fn has_right_sum(candidate: &Candidate, sum: &[u8; DIGEST_LEN]) -> bool
 }
 
 // Whether a Message-Authenticator must be there and isn't.
-fn lacks_sum(clients: &Clients, candidate: &Candidate) -> bool
+fn lacks_message_authenticator(clients: &Clients, candidate: &Candidate) -> bool
     requires { candidate.now.request.client < length clients.now }
-    ensures { result ≡ (not (has 80 candidate.now.request.packet) && needs_message_authenticator (client_of clients.now candidate.now.request.client) candidate.now.request.packet) }
+    ensures { result ≡ lacks_message_authenticator (client_of clients.now candidate.now.request.client) candidate.now.request.packet }
 {
-    if has_sum(candidate) {
+    if has_message_authenticator(candidate) {
         return false;
     }
     let Candidate { request, noted } = candidate;
@@ -252,7 +274,7 @@ fn lacks_sum(clients: &Clients, candidate: &Candidate) -> bool
 
 // Whether an Accounting-Request doesn't say its status.
 fn lacks_status_type(candidate: &Candidate) -> bool
-    ensures { result ≡ ((candidate.now.request.packet.code == 4) && not (has_status_type candidate.now.request.packet)) }
+    ensures { result ≡ lacks_status_type candidate.now.request.packet }
 {
     candidate.request.packet.code() == code::ACCOUNTING_REQUEST && !candidate.noted.has_status_type
 }

@@ -202,6 +202,21 @@ again d p is =
     ap packet_of e ∙ reads-attributes (packet_octets p ++ padding) (Some p.attributes) has (omega arith) list
     ∙ ap (λ (a : List ℕ). Ok (record { code = p.code; identifier = p.identifier; authenticator = a; attributes = p.attributes })) (datagram_authenticator p padding is.authenticator is.fits)
 
+-- a packet is read again from its octets alone
+pub unpadded : (d : List ℕ) (p : Packet) → IsPacket d p → packet_of (packet_octets p) ≡ Ok p
+unpadded d p is =
+    again (packet_octets p) p (record {
+      fits = is.fits;
+      authenticator = is.authenticator;
+      each = is.each;
+      spelled = ([], sym (append-nil (packet_octets p)));
+    })
+
+-- what was read is read again from its octets alone
+pub found_unpadded : (d : List ℕ) (r : Result Packet ReadFault) → IfOk r (IsPacket d) → IfOk r (λ p. packet_of (packet_octets p) ≡ Ok p)
+found_unpadded d (Err fault) is = tt
+found_unpadded d (Ok p) is = unpadded d p is
+
 -- octets that are a packet hold it, with no padding
 pub whole_packet : (o : List ℕ) → IsWhole o → IsPacket o (packet_in o)
 whole_packet o is =

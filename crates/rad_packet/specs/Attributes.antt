@@ -1,7 +1,7 @@
 -- Attributes (RFC 2865, section 5): Type, Length and Value. An octet is a number below 256, and octets in a row are a
 -- list of them.
-use Rattle.std.specs.Prelude.{◌≡◌, ℕ, zero, suc, ◌+◌, ◌-◌, ◌<◌, ◌≤◌, ◌==◌, ◌||◌, nat_lt, if◌then◌else◌, List, [], ◌∷◌, length, take, drop, Option, Some, None, option_map, unwrap_or, filter, find, count_by}
-use Rattle.std.specs.List.{flat_map, AllByRecursion}
+use Rattle.std.specs.Prelude.{◌≡◌, ℕ, zero, suc, ◌+◌, ◌-◌, ◌<◌, ◌≤◌, ◌==◌, ◌&&◌, ◌||◌, nat_lt, Bool, if◌then◌else◌, List, [], ◌∷◌, length, take, drop, Option, Some, None, option_map, unwrap_or, filter, find, count_by}
+use Rattle.std.specs.List.{flat_map, list_any, AllByRecursion}
 
 -- An attribute has a Type, which the code calls kind, and a Value.
 pub record Attribute : Type 0 where
@@ -51,17 +51,39 @@ attributes_of octets = attributes_within (length octets) octets
 abbrev pub attributes_in : List ℕ → List Attribute
 attributes_in octets = unwrap_or (attributes_of octets) []
 
+-- ---- the attributes of a Type
+
+-- whether an attribute is of a Type
+abbrev pub is_of : ℕ → Attribute → Bool
+is_of kind a = a.kind == kind
+
+-- whether an attribute is of a Type, with a Value of so many octets
+abbrev pub is_of_len : ℕ → ℕ → Attribute → Bool
+is_of_len kind len a = is_of kind a && (length a.value == len)
+
+-- whether an attribute of a Type is there
+abbrev pub has : ℕ → List Attribute → Bool
+has kind list = list_any (is_of kind) list
+
+-- whether an attribute of a Type is there with a Value of so many octets
+abbrev pub has_len : ℕ → ℕ → List Attribute → Bool
+has_len kind len list = list_any (is_of_len kind len) list
+
 -- the Value of the first attribute of a Type
 abbrev pub first_value : ℕ → List Attribute → Option (List ℕ)
-first_value kind list = option_map (λ a. a.value) (find (λ a. a.kind == kind) list)
+first_value kind list = option_map (λ a. a.value) (find (is_of kind) list)
+
+-- the Value of the first attribute of a Type that has so many octets
+abbrev pub first_value_of_len : ℕ → ℕ → List Attribute → Option (List ℕ)
+first_value_of_len kind len list = option_map (λ a. a.value) (find (is_of_len kind len) list)
 
 -- the attributes of a Type, in their order
 abbrev pub of_kind : ℕ → List Attribute → List Attribute
-of_kind kind list = filter (λ a. a.kind == kind) list
+of_kind kind list = filter (is_of kind) list
 
 -- how many attributes of a Type there are
 abbrev pub count : ℕ → List Attribute → ℕ
-count kind list = count_by (λ a. a.kind == kind) list
+count kind list = count_by (is_of kind) list
 
 -- The octets are this attribute and then the attributes that the rest is.
 pub record IsFirst (octets : List ℕ) (a : Attribute) (rest : List ℕ) : Type 0 where

@@ -1,4 +1,5 @@
 pub mod AttributeViews
 pub mod Attributes
 pub mod Bodies
+pub mod Ladders
 pub mod Packets

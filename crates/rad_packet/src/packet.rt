@@ -1,6 +1,6 @@
-ghost use Rattle.std.specs.Prelude.{◌≡◌, ◌≤◌, length, IfOk, IfErr, option_map};
+ghost use Rattle.std.specs.Prelude.{◌≡◌, ◌≤◌, length, IfOk, IfErr, Ok, option_map};
 ghost use Rattle.std.specs.List.{AllByRecursion};
-ghost use Rattle.rad_packet.specs.Attributes.{IsAttribute, first_value, count};
+ghost use Rattle.rad_packet.specs.Attributes.{IsAttribute, first_value, first_value_of_len, count};
 ghost use Rattle.rad_packet.specs.Packets.{Packet, packet_of, packet_octets, packet_length, length_field, length_max, IsPacket, IsFault};
 
 use crate::attribute::{Attributes, are_attributes};
@@ -64,6 +64,8 @@ impl<'a> Packet<'a> {
         ensures refused { IfErr result (IsFault datagram.now) }
         // The three before as one function, for those that compute with it.
         ensures exact { result ≡ packet_of datagram.now }
+        // Without its padding it is the same packet.
+        ensures unpadded { IfOk result (λ p. packet_of (packet_octets p) ≡ Ok p) }
     {
         held_by(datagram)
     }
@@ -126,6 +128,20 @@ impl<'a> Packet<'a> {
         while let Some(attribute) = rest.next() {
             if attribute.kind == kind {
                 return Some(attribute.value);
+            }
+        }
+        None
+    }
+
+    /// The Value of the first attribute of a Type that has so many octets.
+    pub fn first_of_len(&self, kind: u8, len: usize) -> Option<&'a [u8]>
+        ensures { option_map (λ value. value.now) result ≡ first_value_of_len kind len self.now.attributes }
+    {
+        let mut rest = self.attributes();
+        while let Some(attribute) = rest.next() {
+            let value = attribute.value;
+            if attribute.kind == kind && value.len() == len {
+                return Some(value);
             }
         }
         None

@@ -1,10 +1,8 @@
 //! The command line: what it may say, and what is then done.
 
-use crate::make::{KINDS, Kind, Make, MakeFault};
-use crate::replay::run_replay;
-use crate::run_fault::RunFault;
 use clap::error::ErrorKind;
 use clap::{Arg, ArgAction, ArgMatches, Command, value_parser};
+use rad_replay::{KINDS, Kind, Make, MakeFault, RunFault, run_replay};
 use std::alloc::{AllocError, Global};
 use std::convert::AsStr;
 use std::process::ExitCode;
@@ -47,7 +45,7 @@ enum Task<'a> {
 
 /// Why a run ended without having done what was asked.
 #[derive(Drop)]
-enum Fault {
+pub enum Fault {
     /// The words are no command, or ask for help or the version.
     CommandLine(clap::Error),
     /// A command came to its fault, or memory was refused.
@@ -80,11 +78,18 @@ impl From<RunFault> for Fault {
 pub fn run<R: Env + Input + Print + Eprint + AllocGlobal>(rt: &R) -> ExitCode {
     match try_run(rt) {
         Ok(()) => ExitCode::SUCCESS,
-        Err(Fault::CommandLine(error)) => {
+        Err(fault) => report(rt, fault),
+    }
+}
+
+/// Prints a fault on standard error, and answers the exit status.
+pub fn report<R: Eprint>(rt: &R, fault: Fault) -> ExitCode {
+    match fault {
+        Fault::CommandLine(error) => {
             let _ = rt.eprint(&error);
             ExitCode::from(COMMAND_FAULT)
         }
-        Err(Fault::Run(fault)) => {
+        Fault::Run(fault) => {
             let _ = eprintln!(rt; "radpool: {fault}");
             ExitCode::from(RUN_FAULT)
         }

@@ -2,16 +2,7 @@
 //! such datagrams.
 #![tactic(auto)]
 
-mod answers;
 mod command;
-mod configuration;
-mod datagram_line;
-mod line;
-mod lines;
-mod make;
-mod replay;
-mod run_fault;
-mod step;
 #[cfg(test)]
 mod tests;
 

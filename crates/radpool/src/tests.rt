@@ -1,4 +1,2 @@
 mod command;
 mod fake;
-mod replay;
-mod text;

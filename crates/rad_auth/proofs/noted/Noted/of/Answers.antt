@@ -1,8 +1,7 @@
 use Rattle.std.proofs.Common.{◌≡◌, ◌||◌, ◌∷◌, length, ap, subst, sym, ◌∙◌, arith}
 use Rattle.std.specs.List.{AllByRecursion, list_any}
 use Rattle.std.specs.Option.{option_or}
-use Rattle.rad_packet.specs.Attributes.{Attribute, IsAttribute, count, of_kind, size}
-use Rattle.rad_auth.specs.Admission.{is_of, is_status_type}
+use Rattle.rad_packet.specs.Attributes.{Attribute, IsAttribute, count, is_of, is_of_len, of_kind, size}
 use Rattle.rad_auth.specs.Noted.{behind_sum, first_behind}
 use Rattle.rad_auth.proofs.AttributeLemmas.{count-cons, count-size, size-of_kind, size-of_kind-cons}
 use Rattle.rad_auth.proofs.NotedLemmas.{any-step, behind_sum-step}
@@ -27,9 +26,9 @@ loop-attribute-preserved c =
           ∙ behind_sum-step was.behind_sum a others ∙ ap (λ list. option_or was.behind_sum (behind_sum list)) (sym e) ∙ known.behind_sum;
       has_eap_message = ap (λ told. told || list_any (is_of 79) others) c.add.ensures.has_eap_message
           ∙ any-step (is_of 79) was.has_eap_message a others ∙ ap (λ list. was.has_eap_message || list_any (is_of 79) list) (sym e) ∙ known.has_eap_message;
-      has_status_type = ap (λ told. told || list_any is_status_type others) c.add.ensures.has_status_type
-          ∙ any-step is_status_type was.has_status_type a others
-          ∙ ap (λ list. was.has_status_type || list_any is_status_type list) (sym e) ∙ known.has_status_type;
+      has_status_type = ap (λ told. told || list_any (is_of_len 40 4) others) c.add.ensures.has_status_type
+          ∙ any-step (is_of_len 40 4) was.has_status_type a others
+          ∙ ap (λ list. was.has_status_type || list_any (is_of_len 40 4) list) (sym e) ∙ known.has_status_type;
       proxy_states = omega (arith, c.add.ensures.proxy_states, known.proxy_states, ap (λ list. size (of_kind 33 list)) e, size-of_kind-cons 33 a others);
       each = (subst (AllByRecursion IsAttribute) e known.each).1;
     }

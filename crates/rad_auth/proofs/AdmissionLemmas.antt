@@ -1,0 +1,86 @@
+-- What admission says of the requests that it gives.
+use Rattle.std.proofs.Common.{◌≡◌, ℕ, ◌≤◌, Bool, true, false, not, ltb, List, Option, Some, None, Result, Ok, Err, refl, ap, sym, subst, ◌∙◌, arith}
+use Rattle.std.specs.Prelude.{IsTrue, ok_or, nat_lt}
+use Rattle.std.proofs.lemmas.Bool.{ltb-false}
+use Rattle.std.proofs.lemmas.List.Quantifiers.{position-Some}
+use Rattle.rad_packet.specs.Ladders.{◌>>=◌, refuse_if}
+use Rattle.rad_packet.specs.Packets.{Packet, packet_of}
+use Rattle.rad_packet.specs.declared.packet.ReadFault.{ReadFault}
+use Rattle.rad_auth.specs.Admission.{IsAdmitted, IsAnswerable, admission, content_checks, has_bad_authenticator, has_bad_message_authenticator, is_taken, lacks_message_authenticator, lacks_status_type, own_datagram, packet_or_discard, proxy_states_max, proxy_states_size, request_in, request_of}
+use Rattle.rad_auth.specs.Clients.{Client, client_at, client_of}
+use Rattle.rad_auth.specs.Datagrams.{Datagram}
+use Rattle.rad_auth.specs.declared.arrival.Request.{Request}
+use Rattle.rad_auth.specs.declared.discard.Discard.{Discard}
+use Rattle.rad_auth.specs.declared.discard.Discard.TheVariants.{UnknownClient, WrongCode, BadAuthenticator, BadMessageAuthenticator, NoMessageAuthenticator, NoStatusType, ProxyStateTooLong}
+
+refused_not : {E : Type 0} (b : Bool) (refusal : E) (u : Unit {0}) → refuse_if b refusal ≡ Ok u → b ≡ false
+refused_not true refusal u e = absurd (cc)
+refused_not false refusal u e = refl
+
+-- ---- a request that is held by its own octets
+
+pub admitted_again : (clients : List Client) (request : Request) (checked : Unit {0}) → request_in clients (own_datagram request) ≡ Ok request
+    → content_checks (client_of clients request.client) request.packet ≡ Ok checked → IsAdmitted clients request
+unfolding admission
+admitted_again clients request checked held content = rw (held, content) refl
+
+-- ---- what an admitted request has
+
+in_place : (o : Option ℕ) (read : Result Packet Discard) (datagram : Datagram) (request : Request)
+    → (ok_or o UnknownClient >>= λ place. (read >>= λ p. (refuse_if (not (is_taken datagram.door p.code)) WrongCode >>= λ taken. Ok (request_of datagram place p)))) ≡ Ok request
+    → (o ≡ Some request.client) × IsTrue (is_taken request.door request.packet.code)
+in_place None read datagram request e = absurd (cc)
+in_place (Some place) (Err discard) datagram request e = absurd (cc)
+in_place (Some place) (Ok p) datagram request e = at (is_taken datagram.door p.code) refl e
+  where
+    at : (b : Bool) → is_taken datagram.door p.code ≡ b → (refuse_if (not b) WrongCode >>= λ taken. Ok (request_of datagram place p)) ≡ Ok request
+        → (Some place ≡ Some request.client) × IsTrue (is_taken request.door request.packet.code)
+    at false taken e = absurd (cc)
+    at true taken e =
+        let same : request_of datagram place p ≡ request = cc in
+        (ap (λ (r : Request). Some r.client) same, subst (λ (r : Request). IsTrue (is_taken r.door r.packet.code)) same taken)
+
+held_in_place : (clients : List Client) (datagram : Datagram) (request : Request) → request_in clients datagram ≡ Ok request
+    → (client_at clients datagram.source ≡ Some request.client) × IsTrue (is_taken request.door request.packet.code)
+unfolding request_in
+held_in_place clients datagram request e = in_place (client_at clients datagram.source) (packet_or_discard (packet_of datagram.octets)) datagram request e
+
+last_rung : (a b c d e : Bool) (checked : Unit {0})
+    → (refuse_if a BadAuthenticator >>= λ _. (refuse_if b BadMessageAuthenticator >>= λ _. (refuse_if c NoMessageAuthenticator >>= λ _. (refuse_if d NoStatusType >>= λ _. refuse_if e ProxyStateTooLong)))) ≡ Ok checked
+    → e ≡ false
+last_rung true b c d e checked is = absurd (cc)
+last_rung false true c d e checked is = absurd (cc)
+last_rung false false true d e checked is = absurd (cc)
+last_rung false false false true e checked is = absurd (cc)
+last_rung false false false false e checked is = refused_not e ProxyStateTooLong checked is
+
+short_enough : (client : Client) (p : Packet) (checked : Unit {0}) → content_checks client p ≡ Ok checked → proxy_states_size p ≤ proxy_states_max
+unfolding content_checks
+short_enough client p checked e =
+    let short : nat_lt proxy_states_max (proxy_states_size p) ≡ false
+    = last_rung (has_bad_authenticator client p) (has_bad_message_authenticator client p) (lacks_message_authenticator client p) (lacks_status_type p) (nat_lt proxy_states_max (proxy_states_size p)) checked e in
+    ltb-false proxy_states_max (proxy_states_size p) short
+
+both : (clients : List Client) (read : Result Request Discard) (request : Request)
+    → (read >>= λ r. (content_checks (client_of clients r.client) r.packet >>= λ checked. Ok r)) ≡ Ok request
+    → (read ≡ Ok request) × (content_checks (client_of clients request.client) request.packet ≡ Ok tt)
+both clients (Err discard) request e = absurd (cc)
+both clients (Ok r) request e = let parts = at (content_checks (client_of clients r.client) r.packet) refl e in (ap Ok parts.0, parts.1)
+  where
+    at : (content : Result (Unit {0}) Discard) → content_checks (client_of clients r.client) r.packet ≡ content → (content >>= λ checked. Ok r) ≡ Ok request
+        → (r ≡ request) × (content_checks (client_of clients request.client) request.packet ≡ Ok tt)
+    at (Err discard) is e = absurd (cc)
+    at (Ok checked) is e =
+        let same : r ≡ request = cc in
+        (same, subst (λ (q : Request). content_checks (client_of clients q.client) q.packet ≡ Ok tt) same is)
+
+pub answerable : (clients : List Client) (request : Request) → IsAdmitted clients request → IsAnswerable clients request
+unfolding admission
+answerable clients request e =
+    let parts = both clients (request_in clients (own_datagram request)) request e in
+    let place = held_in_place clients (own_datagram request) request parts.0 in
+    record {
+      client = (position-Some _ clients request.client (client_of clients 0) place.0).0;
+      taken = place.1;
+      proxy_states = short_enough (client_of clients request.client) request.packet tt parts.1;
+    }

@@ -1,0 +1,7 @@
+pub mod Configuration
+pub mod DatagramLines
+pub mod Lines
+pub mod ReadLines
+pub mod Replays
+pub mod Steps
+pub mod Transcripts

@@ -1,0 +1,49 @@
+-- What the parts of a replay say: one line, and the answering of all datagram lines.
+use Rattle.std.specs.Prelude.{◌≡◌, ℕ, Bool, List, [], ◌∷◌, Some, None, Result, Ok, Err}
+use Rattle.rad_config.specs.Configurations.{Configuration}
+use Rattle.rad_auth.specs.declared.arrival.Request.{Request}
+use Rattle.rad_replay.specs.declared.run_fault.RunFault.{RunFault}
+use Rattle.rad_replay.specs.declared.run_fault.RunFault.TheVariants as run
+use Rattle.rad_replay.specs.declared.step.State.{State}
+use Rattle.rad_replay.specs.DatagramLines.{TimedDatagram}
+use Rattle.rad_replay.specs.Transcripts.{AnswersLines, line_of, line_of_verdict}
+
+-- What a replay keeps from line to line: its configuration, the server's state, and the line of the last datagram.
+pub record Replay : Type 0 where
+  pub configuration : Configuration
+  pub state : State
+  pub line : List ℕ
+
+-- these octets stand first
+abbrev pub IsFirstOf : List (List ℕ) → List ℕ → Type 0
+IsFirstOf frames octets = (others : List (List ℕ)) × (frames ≡ octets ∷ others)
+
+-- this is the line of the request and the state after it, with memory or without
+abbrev pub IsLineOfRequest : Configuration → ℕ → State → ℕ → Request → List ℕ → State → Type 0
+IsLineOfRequest configuration number old moment request text new =
+    (has_memory : Bool) × (line_of_verdict configuration has_memory number old moment (Ok request) ≡ (text, new))
+
+-- this is the line of the datagram and the state after it, with memory or without
+abbrev pub IsLineOf : Configuration → ℕ → State → TimedDatagram → List ℕ → State → Type 0
+IsLineOf configuration number old timed text new = (has_memory : Bool) × (line_of configuration has_memory number old timed ≡ (text, new))
+
+-- what the answering of datagram lines may end with
+abbrev pub EndsLines : Configuration → List (List ℕ) → (List ℕ → Type 0) → Result Unit RunFault → Type 0
+EndsLines configuration lines Writes (Ok done) = AnswersLines configuration lines Writes None
+EndsLines configuration lines Writes (Err (run.BadLine number)) = AnswersLines configuration lines Writes (Some number)
+EndsLines configuration lines Writes (Err run.Write) = Unit {0}
+EndsLines configuration lines Writes (Err run.NoMemory) = Writes []
+EndsLines configuration lines Writes (Err run.Read) = ⊥
+EndsLines configuration lines Writes (Err run.TooLong) = ⊥
+EndsLines configuration lines Writes (Err run.NoDivider) = ⊥
+EndsLines configuration lines Writes (Err (run.Config told)) = ⊥
+
+-- the faults that reading may end with
+abbrev pub IsReadFault : RunFault → Type 0
+IsReadFault run.Read = Unit {0}
+IsReadFault run.TooLong = Unit {0}
+IsReadFault run.NoMemory = Unit {0}
+IsReadFault run.NoDivider = ⊥
+IsReadFault (run.Config told) = ⊥
+IsReadFault (run.BadLine number) = ⊥
+IsReadFault run.Write = ⊥

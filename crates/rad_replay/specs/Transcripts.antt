@@ -1,0 +1,143 @@
+-- What a replay writes for the transcript that it reads: a line for each datagram, in order. A text is a list of octets,
+-- which are numbers below 256, and datagrams are numbered from 1.
+use Rattle.std.specs.Prelude.{◌≡◌, ◌⊎◌, ℕ, ◌+◌, ◌<◌, ◌≤◌, ◌==◌, Bool, true, false, not, List, [], ◌∷◌, ◌++◌, length, replicate, codes, decimal, Option, Some, None, Result, Ok, Err}
+use Rattle.std.specs.List.{list_any}
+use Rattle.std.specs.Int.{w64, to_be_bytes}
+use Rattle.std.specs.Io.KnownBytes.{Consumes}
+use Rattle.hex.specs.Hex.{encode_lower}
+use Rattle.rad_auth.specs.Admission.{admission}
+use Rattle.rad_auth.specs.Clients.{secret_at}
+use Rattle.rad_auth.specs.Discards.{discard_number, discard_name}
+use Rattle.rad_auth.specs.Sealing.{reply_octets}
+use Rattle.rad_auth.specs.declared.arrival.Request.{Request}
+use Rattle.rad_auth.specs.declared.discard.Discard.{Discard}
+use Rattle.rad_config.specs.Configurations.{Configuration}
+use Rattle.rad_config.specs.declared.config_fault.ConfigFault.TheVariants as fault
+use Rattle.rad_replay.specs.declared.run_fault.RunFault.{RunFault}
+use Rattle.rad_replay.specs.declared.run_fault.RunFault.TheVariants as run
+use Rattle.rad_replay.specs.declared.step.Answer.{Answer}
+use Rattle.rad_replay.specs.declared.step.Answer.TheVariants.{Send, Busy}
+use Rattle.rad_replay.specs.declared.step.State.{State}
+use Rattle.rad_replay.specs.Configuration.{configuration_of_octets}
+use Rattle.rad_replay.specs.DatagramLines.{TimedDatagram, timed_datagram_of}
+use Rattle.rad_replay.specs.Lines.{line_feed, lines_of, divided, text_of, datagram_lines}
+use Rattle.rad_replay.specs.Steps.{opening, step}
+
+-- ---- the line for one datagram
+
+-- the datagram's number, a space, these words and a line feed
+abbrev pub line : ℕ → List ℕ → List ℕ
+line number words = decimal number ++ 32 ∷ [] ++ words ++ line_feed ∷ []
+
+abbrev pub drop_line : ℕ → Discard → List ℕ
+drop_line number discard = line number (codes "drop " ++ decimal (discard_number discard) ++ 32 ∷ [] ++ discard_name discard)
+
+abbrev pub reply_line : ℕ → List ℕ → List ℕ
+reply_line number octets = line number (codes "reply " ++ encode_lower octets)
+
+abbrev pub busy_line : ℕ → List ℕ
+busy_line number = line number (codes "busy")
+
+abbrev pub nomemory_line : ℕ → List ℕ
+nomemory_line number = line number (codes "nomemory")
+
+-- the draw of a datagram: its number in 16 octets, most significant octet first
+abbrev pub draw_of : ℕ → List ℕ
+draw_of number = replicate 8 0 ++ to_be_bytes w64 number
+
+-- the line of an answer, which is sealed under the client's secret
+abbrev pub answer_line : Configuration → ℕ → Request → Answer → List ℕ
+answer_line configuration number request (Send body) =
+    reply_line number (reply_octets body request.packet.identifier request.packet.authenticator (secret_at configuration.clients request.client))
+answer_line configuration number request Busy = busy_line number
+
+-- the line of a request that the step answers, and the state after it
+abbrev pub answered : Configuration → ℕ → Request → Answer × State → List ℕ × State
+answered configuration number request (answer, state) = (answer_line configuration number request answer, state)
+
+-- the line of what was let in or discarded, and the state after it; where memory is wanting no step is made
+abbrev pub line_of_verdict : Configuration → Bool → ℕ → State → ℕ → Result Request Discard → List ℕ × State
+line_of_verdict configuration has_memory number state moment (Err discard) = (drop_line number discard, state)
+line_of_verdict configuration true number state moment (Ok request) = answered configuration number request (step configuration state request moment (draw_of number))
+line_of_verdict configuration false number state moment (Ok request) = (nomemory_line number, state)
+
+-- the line for a datagram, and the state after it
+abbrev pub line_of : Configuration → Bool → ℕ → State → TimedDatagram → List ℕ × State
+line_of configuration has_memory number state timed = line_of_verdict configuration has_memory number state timed.moment (admission configuration.clients timed.datagram)
+
+-- ---- the lines for a list of datagrams
+
+abbrev pub is_among : ℕ → List ℕ → Bool
+is_among number numbers = list_any (λ n. n == number) numbers
+
+-- The lines for datagrams, of which the first has this number, and the state after them. Memory is wanting for the
+-- datagrams with these numbers.
+unfoldable pub replay : Configuration → List ℕ → ℕ → State → List TimedDatagram → List ℕ × State
+replay configuration without_memory number state [] = ([], state)
+replay configuration without_memory number state (timed ∷ others) =
+    let first = line_of configuration (not (is_among number without_memory)) number state timed in
+    let rest = replay configuration without_memory (number + 1) first.1 others in
+    (first.0 ++ rest.0, rest.1)
+
+-- what is written for datagrams, from the opening state
+abbrev pub written : Configuration → List ℕ → List TimedDatagram → List ℕ
+written configuration without_memory datagrams = (replay configuration without_memory 1 opening datagrams).0
+
+-- ---- a whole run
+
+-- what stands in front of others where it is there
+abbrev pub in_front : Option TimedDatagram → List TimedDatagram → List TimedDatagram
+in_front None others = []
+in_front (Some timed) others = timed ∷ others
+
+-- the datagrams of the lines before the first malformed one
+abbrev pub datagrams_of : List (List ℕ) → List TimedDatagram
+datagrams_of [] = []
+datagrams_of (text ∷ lines) = in_front (timed_datagram_of text) (datagrams_of lines)
+
+abbrev pub number_unless : ℕ → Option TimedDatagram → Option ℕ → Option ℕ
+number_unless number None later = Some number
+number_unless number (Some timed) later = later
+
+-- the number of the first malformed line, where the first line has this number
+abbrev pub first_malformed : ℕ → List (List ℕ) → Option ℕ
+first_malformed number [] = None
+first_malformed number (text ∷ lines) = number_unless number (timed_datagram_of text) (first_malformed (number + 1) lines)
+
+-- the most octets of a transcript
+abbrev pub text_max : ℕ
+text_max = 16777216
+
+-- a reader gave at most so many octets
+abbrev pub GivesAtMost : ℕ → Option (List ℕ) → Option (List ℕ) → Type 0
+GivesAtMost most old new = (octets : List ℕ) × Consumes old new octets × (length octets ≤ most)
+
+-- The input is the text of this configuration, a divider, and these datagram lines.
+pub record IsInput (text : List ℕ) (configuration : Configuration) (lines : List (List ℕ)) : Type 0 where
+  pub short : length text ≤ text_max
+  pub parts : (before : List (List ℕ)) × (after : List (List ℕ)) × (divided (lines_of text) ≡ Some (before, after))
+      × (configuration_of_octets (text_of before) ≡ Ok configuration) × (lines ≡ datagram_lines after)
+
+-- The lines up to the first malformed one, if there is one, were answered, and nothing else was written. It is told which
+-- line is malformed.
+abbrev pub AnswersLines : Configuration → List (List ℕ) → (List ℕ → Type 0) → Option ℕ → Type 0
+AnswersLines configuration lines Writes malformed =
+    (without_memory : List ℕ) × (first_malformed 1 lines ≡ malformed) × Writes (written configuration without_memory (datagrams_of lines))
+
+-- a fact about the configuration and the datagram lines of an input
+abbrev pub OfInput : List ℕ → (Configuration → List (List ℕ) → Type 0) → Type 0
+OfInput text Holds = (configuration : Configuration) × (lines : List (List ℕ)) × IsInput text configuration lines × Holds configuration lines
+
+-- What a run ends with, for an input and what was written. TooLong, NoDivider and Config are told in this order, and they,
+-- Read and NoMemory before any line is answered. Of what went out before a Write fault nothing is said.
+abbrev pub EndsRun : List ℕ → (List ℕ → Type 0) → Result Unit RunFault → Type 0
+EndsRun text Writes (Ok done) = OfInput text (λ configuration lines. AnswersLines configuration lines Writes None)
+EndsRun text Writes (Err run.Read) = Writes []
+EndsRun text Writes (Err run.TooLong) = (text_max < length text) × Writes []
+EndsRun text Writes (Err run.NoDivider) = (length text ≤ text_max) × (divided (lines_of text) ≡ None) × Writes []
+EndsRun text Writes (Err (run.Config told)) =
+    (length text ≤ text_max) × (before : List (List ℕ)) × (after : List (List ℕ)) × (divided (lines_of text) ≡ Some (before, after))
+    × ((told ≡ fault.NoMemory) ⊎ (configuration_of_octets (text_of before) ≡ Err told)) × Writes []
+EndsRun text Writes (Err (run.BadLine number)) = OfInput text (λ configuration lines. AnswersLines configuration lines Writes (Some number))
+EndsRun text Writes (Err run.Write) = OfInput text (λ configuration lines. Unit {0})
+EndsRun text Writes (Err run.NoMemory) = Writes []

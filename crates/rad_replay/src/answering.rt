@@ -1,0 +1,141 @@
+//! The answering of one datagram after the other, with the server's state carried along.
+ghost use Rattle.std.specs.Prelude.{◌≡◌, ◌≤◌, ◌<◌, ◌^◌, length, IfOk};
+ghost use Rattle.rad_auth.specs.Admission.{HoldsAdmitted, IsAdmitted, IsAnswerable, admission};
+ghost use Rattle.rad_auth.specs.Clients.{secret_at};
+ghost use Rattle.rad_auth.specs.Datagrams.{datagram_of};
+ghost use Rattle.rad_auth.specs.Sealing.{IsReply, reply_octets};
+ghost use Rattle.rad_replay.specs.Steps.{opening};
+ghost use Rattle.rad_replay.specs.Replays.{IsFirstOf, IsLineOf, IsLineOfRequest};
+ghost use Rattle.rad_replay.specs.Transcripts.{draw_of};
+
+use crate::line::Line;
+use crate::step::{Answer, State};
+use rad_auth::{Arrival, Clients, Discard, Job, Request, admitted_is_answerable, check8, seal8};
+use rad_config::Config;
+use rad_packet::{Body, Frame};
+use std::alloc::{AllocError, Global};
+use std::marker::Model;
+
+/// What a replay keeps from line to line: the configuration, the server's state, the line of the last datagram, and frames to
+/// seal in.
+#[derive(Drop)]
+pub struct Replay<'a> {
+    config: &'a Config,
+    state: State,
+    line: Line,
+    frames: [Frame; 8],
+}
+
+impl<'a> Model for Replay<'a> {
+    ghost use Rattle.rad_replay.specs.Replays.{Replay};
+
+    ghost Value = { Replay };
+
+    ghost view = { λ replay. record { configuration = replay.config.now; state = replay.state; line = replay.line } };
+}
+
+impl<'a> Replay<'a> {
+    /// The opening state, and all the memory that a line needs beside that of its step.
+    pub fn open(alloc: Global, config: &'a Config) -> Result<Replay<'a>, AllocError>
+        ensures configuration { IfOk result (λ replay. replay.configuration ≡ config.now) }
+        ensures state { IfOk result (λ replay. replay.state ≡ opening) }
+    {
+        let line = Line::new(alloc)?;
+        let frames = [
+            Frame::new(alloc)?,
+            Frame::new(alloc)?,
+            Frame::new(alloc)?,
+            Frame::new(alloc)?,
+            Frame::new(alloc)?,
+            Frame::new(alloc)?,
+            Frame::new(alloc)?,
+            Frame::new(alloc)?,
+        ];
+        Ok(Replay {
+            config,
+            state: State::opening(),
+            line,
+            frames,
+        })
+    }
+
+    /// The line of the last datagram.
+    pub fn line(&self) -> &[u8]
+        ensures { result.now ≡ self.now.line }
+    {
+        self.line.octets()
+    }
+
+    /// Makes the line for a datagram, and goes on to the next state.
+    pub fn answer(&mut self, alloc: Global, number: u64, moment: u64, arrival: Arrival)
+        requires { moment ≤ 2 ^ 62 }
+        ensures line { IsLineOf self.old.configuration number self.old.state (record { moment = moment; datagram = datagram_of arrival.entry }) self.new.line self.new.state }
+        ensures configuration { self.new.configuration ≡ self.old.configuration }
+    {
+        match admit(self.config.clients(), arrival) {
+            Err(discard) => self.line.write_drop(number, discard),
+            Ok(request) => self.answer_request(alloc, number, moment, &request),
+        }
+    }
+
+    fn answer_request(&mut self, alloc: Global, number: u64, moment: u64, request: &Request)
+        requires moment { moment ≤ 2 ^ 62 }
+        requires admitted { IsAdmitted self.old.configuration.clients request.now }
+        ensures line { IsLineOfRequest self.old.configuration number self.old.state moment request.now self.new.line self.new.state }
+        ensures configuration { self.new.configuration ≡ self.old.configuration }
+    {
+        let Replay {
+            config,
+            state,
+            line,
+            frames,
+        } = self;
+        match state.step(alloc, config, request, moment, &draw_of(number)) {
+            Err(_) => line.write_nomemory(number),
+            Ok(Answer::Busy) => line.write_busy(number),
+            Ok(Answer::Send(body)) => {
+                seal(config.clients(), request, &body, frames);
+                let [sealed, ..] = &*frames;
+                line.write_reply(number, sealed.octets());
+            }
+        }
+    }
+}
+
+// Seals a reply into the first frame.
+fn seal<'x>(clients: &'x Clients, request: &Request, body: &'x Body, frames: &mut [Frame; 8])
+    requires reply { IsReply body.now }
+    requires admitted { IsAdmitted clients.now request.now }
+    ensures { IsFirstOf frames.new (reply_octets body.now request.now.packet.identifier request.now.packet.authenticator (secret_at clients.now request.now.client)) }
+{
+    admitted_is_answerable(clients, request);
+    let job = Job {
+        body,
+        id: request.packet.identifier(),
+        request_authenticator: request.packet.authenticator(),
+        secret: clients.secret(request.client),
+    };
+    let jobs = [Some(job), None, None, None, None, None, None, None];
+    seal8(&jobs, frames);
+}
+
+// The verdict on one arrival.
+fn admit<'a>(clients: &Clients, arrival: Arrival<'a>) -> Result<Request<'a>, Discard>
+    ensures verdict { result ≡ admission clients.now (datagram_of arrival.entry) }
+    ensures admitted { IfOk result (IsAdmitted clients.now) }
+{
+    let arrivals = [Some(arrival), None, None, None, None, None, None, None];
+    let mut verdicts = check8(clients, &arrivals).into_iter();
+    match verdicts.next() {
+        Some(Some(verdict)) => verdict,
+        _ => unreachable!(),
+    }
+}
+
+// The draw of a datagram: its number in 16 octets, most significant octet first.
+fn draw_of(number: u64) -> [u8; 16]
+    ensures { result ≡ draw_of number }
+{
+    let [a, b, c, d, e, f, g, h] = number.to_be_bytes();
+    [0, 0, 0, 0, 0, 0, 0, 0, a, b, c, d, e, f, g, h]
+}

@@ -1,0 +1,97 @@
+//! A datagram line of a transcript: `MOMENT DOOR ADDRESS:PORT OCTETS`.
+ghost use Rattle.std.specs.Prelude.{◌≡◌, ◌≤◌, ◌^◌, length, take, None, MatchOption, IfSome};
+ghost use Rattle.rad_packet.specs.Packets.{length_max};
+ghost use Rattle.rad_replay.specs.DatagramLines.{moment_of, port_of, door_of, octets_of, timed_datagram_of};
+ghost use Rattle.rad_replay.specs.ReadLines.{timed_datagram};
+
+use rad_auth::Door;
+use rad_config::decimal::{address, number, parted};
+use rad_packet::LENGTH_MAX;
+
+/// A datagram and when it came.
+#[derive(Clone, Copy, Debug, PartialEq, Eq)]
+pub struct DatagramLine {
+    /// In milliseconds.
+    pub moment: u64,
+    /// An IPv4 address, most significant octet first.
+    pub source: u32,
+    pub port: u16,
+    pub door: Door,
+    /// How many octets the datagram has.
+    pub len: usize,
+}
+
+// The moment that up to 19 decimal digits spell, in milliseconds.
+#[tactic(auto, unfolding(crate::specs::DatagramLines::moment_of))]
+fn moment(text: &[u8]) -> Option<u64>
+    ensures value { result ≡ moment_of text.now }
+    ensures bound { IfSome result (λ moment. moment ≤ 2 ^ 62) }
+{
+    number(text, 19, 1 << 62)
+}
+
+// The port that up to five decimal digits spell.
+#[tactic(auto, unfolding(crate::specs::DatagramLines::port_of))]
+fn port(text: &[u8]) -> Option<u16>
+    ensures { result ≡ port_of text.now }
+{
+    Some(number(text, 5, 65535)? as u16)
+}
+
+// The door that a word names.
+#[tactic(auto, unfolding(crate::specs::DatagramLines::door_of))]
+fn door(text: &[u8]) -> Option<Door>
+    ensures { result ≡ door_of text.now }
+{
+    if text == b"auth".as_slice() {
+        Some(Door::Auth)
+    } else if text == b"acct".as_slice() {
+        Some(Door::Acct)
+    } else {
+        None
+    }
+}
+
+// Decodes hexadecimal digits into the front of `octets`, and says how many octets they are.
+#[tactic(auto, unfolding(crate::specs::DatagramLines::octets_of))]
+fn decode_octets(text: &[u8], octets: &mut [u8]) -> Option<usize>
+    requires { length octets.old ≡ length_max }
+    ensures octets { MatchOption result (octets_of text.now ≡ None) (λ len. octets_of text.now ≡ Some (take len octets.new)) }
+    ensures len { IfSome result (λ len. len ≤ length_max) }
+{
+    if text == b"-".as_slice() {
+        return Some(0);
+    }
+    if text.len() < 2 || text.len() > 2 * LENGTH_MAX {
+        return None;
+    }
+    let len = text.len() / 2;
+    hex::decode_to_slice(text, &mut octets[..len]).ok()?;
+    Some(len)
+}
+
+/// Reads a datagram line, and decodes the datagram into the front of `octets`.
+#[tactic(auto, unfolding(crate::specs::DatagramLines::timed_datagram_of))]
+pub fn read_datagram_line(line: &[u8], octets: &mut [u8]) -> Option<DatagramLine>
+    requires { length octets.old ≡ length_max }
+    ensures datagram { MatchOption result (timed_datagram_of line.now ≡ None) (λ found. timed_datagram_of line.now ≡ Some (timed_datagram found octets.new)) }
+    ensures len { IfSome result (λ found. found.len ≤ length_max) }
+    ensures moment { IfSome result (λ found. found.moment ≤ 2 ^ 62) }
+{
+    let (moment_text, rest) = parted(line, b' ')?;
+    let (door_text, rest) = parted(rest, b' ')?;
+    let (source_text, octets_text) = parted(rest, b' ')?;
+    let (address_text, port_text) = parted(source_text, b':')?;
+    let moment = moment(moment_text)?;
+    let door = door(door_text)?;
+    let source = address(address_text)?;
+    let port = port(port_text)?;
+    let len = decode_octets(octets_text, octets)?;
+    Some(DatagramLine {
+        moment,
+        source,
+        port,
+        door,
+        len,
+    })
+}

@@ -1,0 +1,23 @@
+//! Transcripts of datagrams: `run_replay` answers one, `Make` makes the requests for one.
+//!
+//! A transcript has a configuration, a line `---`, and a line for each datagram. A replay admits each datagram by `rad_auth`,
+//! lets the step answer it, and seals the reply. The programs above hand in a reader, a writer and options.
+//!
+//! Others rest on this: what `run_replay` writes is what `specs/Transcripts.antt` says of what it reads.
+#![tactic(auto)]
+
+mod answering;
+mod configuration;
+mod datagram_line;
+mod line;
+mod lines;
+mod make;
+mod replay;
+mod run_fault;
+mod step;
+
+pub use datagram_line::{DatagramLine, read_datagram_line};
+pub use lines::{DatagramLines, divide};
+pub use make::{KINDS, Kind, Make, MakeFault};
+pub use replay::{TEXT_MAX, run_replay};
+pub use run_fault::RunFault;

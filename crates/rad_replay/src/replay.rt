@@ -1,0 +1,139 @@
+//! A replay: reads a transcript, and writes a line for each datagram.
+ghost use Rattle.std.specs.Prelude.{◌≡◌, ◌+◌, ◌≤◌, ◌<◌, ◌++◌, [], length, take, IfOk, IfErr, IfSome, OnErr, OnOk, Some};
+ghost use Rattle.std.specs.Io.KnownBytes.{Appends, Consumes, IsAtEnd, Keeps};
+ghost use Rattle.rad_replay.specs.Lines.{datagram_lines, lines_of};
+ghost use Rattle.rad_replay.specs.Replays.{EndsLines, IsReadFault};
+ghost use Rattle.rad_replay.specs.Transcripts.{EndsRun, GivesAtMost, text_max};
+ghost use Rattle.rad_replay.specs.declared.run_fault.RunFault.TheVariants.{TooLong, NoMemory, Read as ReadFailed, Write as WriteFailed};
+
+use crate::answering::Replay;
+use crate::configuration::read_configuration;
+use crate::datagram_line::read_datagram_line;
+use crate::lines::{DatagramLines, divide};
+use crate::run_fault::RunFault;
+use rad_auth::Arrival;
+use rad_config::Config;
+use rad_packet::LENGTH_MAX;
+use std::alloc::Global;
+use std::io::{Read, Write};
+
+/// The most octets of an input.
+pub const TEXT_MAX: usize = 16_777_216;
+
+/// How many octets are asked for at once.
+const CHUNK: usize = 8192;
+
+/// Reads a transcript, and writes a line for each datagram.
+///
+/// `TooLong`, `NoDivider` and `Config` are told in this order; at these, at `Read` and at `NoMemory` nothing was written.
+/// Before `BadLine` the lines before the malformed one were answered.
+pub fn run_replay<R: Read, W: Write>(
+    alloc: Global,
+    reader: &mut R,
+    writer: &mut W,
+) -> Result<(), RunFault>
+    ensures ends { IfSome (R.remaining reader.old) (λ text. EndsRun text (Appends (W.contents writer.old) (W.contents writer.new)) result) }
+    ensures all_read { OnOk result (IfSome (R.remaining reader.old) (λ _. R.remaining reader.new ≡ Some [])) }
+    ensures bounded { GivesAtMost (text_max + 1) (R.remaining reader.old) (R.remaining reader.new) }
+{
+    let text = read_text(alloc, reader)?;
+    let Some((configuration, datagrams)) = divide(&text) else {
+        return Err(RunFault::NoDivider);
+    };
+    let config = match read_configuration(alloc, configuration) {
+        Ok(config) => config,
+        Err(fault) => return Err(RunFault::Config(fault)),
+    };
+    answer_lines(alloc, &config, datagrams, writer)
+}
+
+// Reads all that there is, one octet more than allowed at most.
+fn read_text<R: Read>(alloc: Global, reader: &mut R) -> Result<Vec<u8>, RunFault>
+    ensures read { IfOk result (λ text. Consumes (R.remaining reader.old) (R.remaining reader.new) text.items) }
+    ensures end { OnOk result (IsAtEnd (R.remaining reader.new)) }
+    ensures short { IfOk result (λ text. length text.items ≤ TEXT_MAX) }
+    ensures too_long { IfErr result (λ fault. fault ≡ TooLong → IfSome (R.remaining reader.old) (λ text. TEXT_MAX < length text)) }
+    ensures faults { IfErr result IsReadFault }
+    ensures bounded { GivesAtMost (text_max + 1) (R.remaining reader.old) (R.remaining reader.new) }
+{
+    let mut text = Vec::new(alloc);
+    let mut chunk = [0; CHUNK];
+    while text.len() <= TEXT_MAX {
+        let room = CHUNK.min(TEXT_MAX + 1 - text.len());
+        let count = read_some(reader, &mut chunk[..room])?;
+        if count == 0 {
+            return Ok(text);
+        }
+        append(&mut text, &chunk[..count])?;
+    }
+    Err(RunFault::TooLong)
+}
+
+// One read, whose first error is told.
+fn read_some<R: Read>(reader: &mut R, room: &mut [u8]) -> Result<usize, RunFault>
+    requires { 0 < length room.old }
+    ensures bound { IfOk result (λ count. count ≤ length room.new) }
+    ensures read { IfOk result (λ count. Consumes (R.remaining reader.old) (R.remaining reader.new) (take count room.new)) }
+    ensures end { IfOk result (λ count. count ≡ 0 → IsAtEnd (R.remaining reader.new)) }
+    ensures fault { IfErr result (λ fault. fault ≡ ReadFailed) }
+    ensures kept { OnErr result (Keeps (R.remaining reader.old) (R.remaining reader.new)) }
+{
+    match reader.read(room) {
+        Ok(count) => Ok(count),
+        Err(_) => Err(RunFault::Read),
+    }
+}
+
+fn append(text: &mut Vec<u8>, part: &[u8]) -> Result<(), RunFault>
+    ensures appended { OnOk result (text.new.items ≡ text.old.items ++ part.now) }
+    ensures fault { IfErr result (λ fault. fault ≡ NoMemory) }
+{
+    match text.extend_from_slice(part) {
+        Ok(()) => Ok(()),
+        Err(_) => Err(RunFault::NoMemory),
+    }
+}
+
+// Answers the datagram lines of a text, up to the first malformed one.
+fn answer_lines<W: Write>(
+    alloc: Global,
+    config: &Config,
+    datagrams: &[u8],
+    writer: &mut W,
+) -> Result<(), RunFault>
+    requires { length (datagram_lines (lines_of datagrams.now)) ≤ TEXT_MAX }
+    ensures { EndsLines config.now (datagram_lines (lines_of datagrams.now)) (Appends (W.contents writer.old) (W.contents writer.new)) result }
+{
+    let mut replay = match Replay::open(alloc, config) {
+        Ok(replay) => replay,
+        Err(_) => return Err(RunFault::NoMemory),
+    };
+    let mut octets = [0; LENGTH_MAX];
+    let mut number = 0;
+    let mut lines = DatagramLines::new(datagrams);
+    while let Some(line) = lines.next() {
+        number += 1;
+        let Some(found) = read_datagram_line(line, &mut octets) else {
+            return Err(RunFault::BadLine(number));
+        };
+        let arrival = Arrival {
+            source: found.source,
+            port: found.port,
+            door: found.door,
+            octets: &octets[..found.len],
+        };
+        replay.answer(alloc, number, found.moment, arrival);
+        write_line(writer, replay.line())?;
+    }
+    Ok(())
+}
+
+fn write_line<W: Write>(writer: &mut W, line: &[u8]) -> Result<(), RunFault>
+    ensures written { OnOk result (Appends (W.contents writer.old) (W.contents writer.new) line.now) }
+    ensures fault { IfErr result (λ fault. fault ≡ WriteFailed) }
+{
+    match writer.write_all(line) {
+        Ok(()) => Ok(()),
+        Err(_) => Err(RunFault::Write),
+    }
+}

@@ -1,6 +1,0 @@
-use Rattle.std.proofs.Common.{refl}
-use Rattle.radpool.proofs.LineLemmas.{first_or_whole, not_empty}
-use Rattle.radpool.proofs.lines.next_line.Goals as goal
-
-pub returns : goal.returns
-returns c = rw c.or.ensures (first_or_whole (λ parts. (parts.0.now, parts.1.now)) c.parted.result _ c.args.text.now c.parted.ensures (not_empty c.args.text.now c.if-is_empty.ensures) refl)

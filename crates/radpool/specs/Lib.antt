@@ -1,7 +1,0 @@
-pub mod Answers
-pub mod Configuration
-pub mod DatagramLines
-pub mod Lines
-pub mod ReadLines
-pub mod Steps
-pub mod Transcripts

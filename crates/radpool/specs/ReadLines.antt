@@ -1,9 +1,0 @@
--- What a datagram line is read as.
-use Rattle.std.specs.Prelude.{ℕ, List, take}
-use Rattle.radpool.specs.declared.datagram_line.DatagramLine.{DatagramLine}
-use Rattle.radpool.specs.DatagramLines.{TimedDatagram}
-
--- the datagram that was found, whose octets are the first of these
-abbrev pub timed_datagram : DatagramLine → List ℕ → TimedDatagram
-timed_datagram found octets =
-    record { moment = found.moment; datagram = record { source = found.source; port = found.port; door = found.door; octets = take found.len octets } }
