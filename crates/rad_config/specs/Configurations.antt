@@ -5,6 +5,7 @@ use Rattle.std.specs.List.{list_any}
 use Rattle.std.specs.Str.{bytes_eq}
 use Rattle.toml.specs.Data.{Data, as_array, as_table, Items, no_items, item, Members, get_member}
 use Rattle.toml.specs.Parse.{parse_document}
+use Rattle.rad_packet.specs.Ladders.{◌>>=◌, refuse_if}
 use Rattle.rad_auth.specs.Clients.{Client, client_at, clients_max}
 use Rattle.rad_config.specs.declared.config_fault.Key.{Key}
 use Rattle.rad_config.specs.declared.config_fault.Key.TheVariants as keys
@@ -34,11 +35,6 @@ pub record Configuration : Type 0 where
   pub pools : List Pool
   pub users : List User
 
-infixl 10 ◌>>=◌
-abbrev pub ◌>>=◌ : {A B : Type 0} → Result A ConfigFault → (A → Result B ConfigFault) → Result B ConfigFault
-(Ok x) >>= f = f x
-(Err fault) >>= f = Err fault
-
 -- what a call returned, seen by view, is what is read, unless memory ran out
 abbrev pub Gives : {X Y : Type 0} → (X → Y) → Result X ConfigFault → Result Y ConfigFault → Type 0
 Gives view (Ok value) read = read ≡ Ok (view value)
@@ -65,11 +61,6 @@ value_at at row None = ok_or row.absent (Missing at)
 
 unfoldable pub value : {A : Type 0} → EntryData → Row A → Result A ConfigFault
 value e row = value_at (spot e row.key) row (at_key e row.key)
-
--- the fault, where this holds
-abbrev pub refuse_if : Bool → ConfigFault → Result (Unit {0}) ConfigFault
-refuse_if true fault = Err fault
-refuse_if false fault = Ok tt
 
 -- ---- lists of entries
 
