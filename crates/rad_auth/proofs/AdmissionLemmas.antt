@@ -1,8 +1,9 @@
 -- What admission says of the requests that it gives.
-use Rattle.std.proofs.Common.{◌≡◌, ℕ, ◌≤◌, Bool, true, false, not, ltb, List, Option, Some, None, Result, Ok, Err, refl, ap, sym, subst, ◌∙◌, arith}
+use Rattle.std.proofs.Common.{◌≡◌, ℕ, ◌≤◌, ◌==◌, ◌&&◌, Bool, true, false, not, ltb, List, Option, Some, None, Result, Ok, Err, refl, ap, sym, subst, ◌∙◌, arith}
 use Rattle.std.specs.Prelude.{IsTrue, ok_or, nat_lt}
-use Rattle.std.proofs.lemmas.Bool.{ltb-false}
+use Rattle.std.proofs.lemmas.Bool.{eq-eqb, ltb-false}
 use Rattle.std.proofs.lemmas.List.Quantifiers.{position-Some}
+use Rattle.rad_packet.specs.Attributes.{has_len}
 use Rattle.rad_packet.specs.Ladders.{◌>>=◌, refuse_if}
 use Rattle.rad_packet.specs.Packets.{Packet, packet_of}
 use Rattle.rad_packet.specs.declared.packet.ReadFault.{ReadFault}
@@ -45,21 +46,28 @@ held_in_place : (clients : List Client) (datagram : Datagram) (request : Request
 unfolding request_in
 held_in_place clients datagram request e = in_place (client_at clients datagram.source) (packet_or_discard (packet_of datagram.octets)) datagram request e
 
-last_rung : (a b c d e : Bool) (checked : Unit {0})
+last_rungs : (a b c d e : Bool) (checked : Unit {0})
     → (refuse_if a BadAuthenticator >>= λ _. (refuse_if b BadMessageAuthenticator >>= λ _. (refuse_if c NoMessageAuthenticator >>= λ _. (refuse_if d NoStatusType >>= λ _. refuse_if e ProxyStateTooLong)))) ≡ Ok checked
-    → e ≡ false
-last_rung true b c d e checked is = absurd (cc)
-last_rung false true c d e checked is = absurd (cc)
-last_rung false false true d e checked is = absurd (cc)
-last_rung false false false true e checked is = absurd (cc)
-last_rung false false false false e checked is = refused_not e ProxyStateTooLong checked is
+    → (d ≡ false) × (e ≡ false)
+last_rungs true b c d e checked is = absurd (cc)
+last_rungs false true c d e checked is = absurd (cc)
+last_rungs false false true d e checked is = absurd (cc)
+last_rungs false false false true e checked is = absurd (cc)
+last_rungs false false false false e checked is = (refl, refused_not e ProxyStateTooLong checked is)
 
-short_enough : (client : Client) (p : Packet) (checked : Unit {0}) → content_checks client p ≡ Ok checked → proxy_states_size p ≤ proxy_states_max
+-- a status is said, and the Proxy-States are short enough
+content_fits : (client : Client) (p : Packet) (checked : Unit {0}) → content_checks client p ≡ Ok checked
+    → (p.code ≡ 4 → IsTrue (has_len 40 4 p.attributes)) × (proxy_states_size p ≤ proxy_states_max)
 unfolding content_checks
-short_enough client p checked e =
-    let short : nat_lt proxy_states_max (proxy_states_size p) ≡ false
-    = last_rung (has_bad_authenticator client p) (has_bad_message_authenticator client p) (lacks_message_authenticator client p) (lacks_status_type p) (nat_lt proxy_states_max (proxy_states_size p)) checked e in
-    ltb-false proxy_states_max (proxy_states_size p) short
+content_fits client p checked e =
+    let last : (lacks_status_type p ≡ false) × (nat_lt proxy_states_max (proxy_states_size p) ≡ false)
+        = last_rungs (has_bad_authenticator client p) (has_bad_message_authenticator client p) (lacks_message_authenticator client p) (lacks_status_type p) (nat_lt proxy_states_max (proxy_states_size p)) checked e in
+    (λ is. said (p.code == 4) (has_len 40 4 p.attributes) (eq-eqb p.code 4 is) last.0, ltb-false proxy_states_max (proxy_states_size p) last.1)
+  where
+    said : (accounting has_status : Bool) → accounting ≡ true → (accounting && not has_status) ≡ false → IsTrue has_status
+    said true true is lacks = refl
+    said true false is lacks = absurd (cc)
+    said false has_status is lacks = absurd (cc)
 
 both : (clients : List Client) (read : Result Request Discard) (request : Request)
     → (read >>= λ r. (content_checks (client_of clients r.client) r.packet >>= λ checked. Ok r)) ≡ Ok request
@@ -79,8 +87,10 @@ unfolding admission
 answerable clients request e =
     let parts = both clients (request_in clients (own_datagram request)) request e in
     let place = held_in_place clients (own_datagram request) request parts.0 in
+    let content = content_fits (client_of clients request.client) request.packet tt parts.1 in
     record {
       client = (position-Some _ clients request.client (client_of clients 0) place.0).0;
       taken = place.1;
-      proxy_states = short_enough (client_of clients request.client) request.packet tt parts.1;
+      status = content.0;
+      proxy_states = content.1;
     }

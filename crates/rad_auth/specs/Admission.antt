@@ -1,18 +1,19 @@
 -- Which datagrams are admitted (RFC 2865, section 3; RFC 2866, section 3; RFC 3579, section 3; RFC 5997, section 3): the
 -- checks in the order of the discards' numbers, each made only where none before it failed.
-use Rattle.std.specs.Prelude.{◌≡◌, ℕ, ◌==◌, ◌&&◌, ◌||◌, nat_lt, Bool, false, not, IsTrue, List, Option, Some, None, Result, Ok, Err, ok_or, ◌<◌, ◌≤◌, length, IfOk, IfSome}
+use Rattle.std.specs.Prelude.{◌≡◌, ℕ, ◌==◌, ◌&&◌, ◌||◌, nat_lt, Bool, false, not, IsTrue, List, Option, Some, None, Result, Ok, Err, ok_or, option_map, ◌<◌, ◌≤◌, length, IfOk, IfSome}
 use lib.Pointwise.{pointwise}
 use Rattle.rad_packet.specs.declared.packet.ReadFault.{ReadFault}
 use Rattle.rad_packet.specs.Attributes.{count, first_value, has, has_len, of_kind, size}
 use Rattle.rad_packet.specs.Ladders.{◌>>=◌, refuse_if}
 use Rattle.rad_packet.specs.Packets.{Packet, packet_octets, packet_of}
+use Rattle.rad_auth.specs.declared.arrival.Arrival.{Arrival}
 use Rattle.rad_auth.specs.declared.arrival.Door.{Door}
 use Rattle.rad_auth.specs.declared.arrival.Door.TheVariants.{Auth, Acct}
 use Rattle.rad_auth.specs.declared.arrival.Request.{Request}
 use Rattle.rad_auth.specs.declared.discard.Discard.{Discard}
 use Rattle.rad_auth.specs.declared.discard.Discard.TheVariants.{UnknownClient, WrongCode, BadAuthenticator, BadMessageAuthenticator, NoMessageAuthenticator, NoStatusType, ProxyStateTooLong}
 use Rattle.rad_auth.specs.Clients.{Client, client_at, client_of}
-use Rattle.rad_auth.specs.Datagrams.{Datagram}
+use Rattle.rad_auth.specs.Datagrams.{Datagram, datagram_of}
 use Rattle.rad_auth.specs.Discards.{discard_of_fault}
 use Rattle.rad_auth.specs.Sums.{accounting_authenticator, message_authenticator}
 
@@ -112,6 +113,10 @@ admission clients datagram = do
   checked ← content_checks (client_of clients request.client) request.packet
   Ok request
 
+-- the verdict on what came in a lane
+abbrev pub lane_admission : List Client → Option Arrival → Option (Result Request Discard)
+lane_admission clients lane = option_map (λ arrival. admission clients (datagram_of arrival)) lane
+
 -- ---- admitted requests
 
 -- the datagram that a request is by itself: its octets up to Length, with no padding
@@ -131,9 +136,10 @@ IsAdmitted clients request = admission clients (own_datagram request) ≡ Ok req
 abbrev pub HoldsAdmitted : List Client → Option (Result Request Discard) → Type 0
 HoldsAdmitted clients lane = IfSome lane (λ verdict. IfOk verdict (IsAdmitted clients))
 
--- what those who answer a request use of it: its client is one of the list, its door takes its Code, and its Proxy-State
--- attributes are short enough
+-- what those who answer a request use of it: its client is one of the list, its door takes its Code, an Accounting-Request
+-- says its status, and its Proxy-State attributes have at most so many octets in sum
 pub record IsAnswerable (clients : List Client) (request : Request) : Type 0 where
   pub client : request.client < length clients
   pub taken : IsTrue (is_taken request.door request.packet.code)
+  pub status : request.packet.code ≡ 4 → IsTrue (has_len 40 4 request.packet.attributes)
   pub proxy_states : proxy_states_size request.packet ≤ proxy_states_max

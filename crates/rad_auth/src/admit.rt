@@ -1,11 +1,10 @@
 //! Admission: which datagrams are requests of a client, and which discard is told of the others.
-ghost use Rattle.std.specs.Prelude.{◌≡◌, ℕ, ◌<◌, List, length, map, option_map, All, IfOk, IfSome, Ok};
+ghost use Rattle.std.specs.Prelude.{◌≡◌, ◌<◌, length, map, All, IfOk, Ok};
 ghost use Rattle.rad_packet.specs.Attributes.{has};
-ghost use Rattle.rad_auth.specs.Admission.{HoldsAdmitted, IsAdmitted, IsAnswerable, admission, content_checks, has_bad_authenticator, has_bad_message_authenticator, has_right_message_authenticator, is_summed, is_taken, lacks_message_authenticator, lacks_status_type, own_datagram, request_in};
-ghost use Rattle.rad_auth.specs.Clients.{Client, client_of};
+ghost use Rattle.rad_auth.specs.Admission.{HoldsAdmitted, IsAdmitted, IsAnswerable, admission, content_checks, has_bad_authenticator, has_bad_message_authenticator, has_right_message_authenticator, is_summed, is_taken, lane_admission, lacks_message_authenticator, lacks_status_type, own_datagram, request_in};
+ghost use Rattle.rad_auth.specs.Clients.{Client};
 ghost use Rattle.rad_auth.specs.Datagrams.{datagram_of};
-ghost use Rattle.rad_auth.specs.RequestLanes.{IsAccountingAuthenticator, IsCandidate, IsMessageAuthenticator, OfCandidate, verdict_on};
-ghost use Rattle.rad_auth.specs.Sums.{message_authenticator};
+ghost use Rattle.rad_auth.specs.RequestLanes.{IsAccountingAuthenticator, IsCandidate, IsMessageAuthenticator, IsSumUnder, OfCandidate, asked_of, verdict_on, verdict_on_lane};
 
 use crate::arrival::{Arrival, Door, Request};
 use crate::candidate::{Candidate, Lane};
@@ -28,7 +27,7 @@ pub fn check8<'a>(
     clients: &Clients,
     arrivals: &[Option<Arrival<'a>>; 8],
 ) -> [Option<Result<Request<'a>, Discard>>; 8]
-    ensures verdicts { result ≡ map (option_map (λ arrival. admission clients.now (datagram_of arrival))) arrivals.now }
+    ensures verdicts { result ≡ map (lane_admission clients.now) arrivals.now }
     ensures requests { All (HoldsAdmitted clients.now) result }
 {
     let [a, b, c, d, e, f, g, h] = arrivals;
@@ -65,7 +64,7 @@ pub fn admitted_is_answerable(_clients: &Clients, _request: &Request)
 {}
 
 fn read_lane<'a>(clients: &Clients, arrival: &Option<Arrival<'a>>) -> Lane<'a>
-    ensures verdict { option_map (λ arrival. admission clients.now (datagram_of arrival)) arrival.now ≡ option_map (verdict_on clients.now) result }
+    ensures verdict { lane_admission clients.now arrival.now ≡ verdict_on_lane clients.now result }
     ensures candidate { OfCandidate (IsCandidate clients.now) result }
 {
     match arrival {
@@ -134,7 +133,7 @@ fn judge<'a>(
     requires candidate { OfCandidate (IsCandidate clients.now) lane.now }
     requires digest { OfCandidate (IsAccountingAuthenticator clients.now digest.now) lane.now }
     requires sum { OfCandidate (IsMessageAuthenticator clients.now sum.now) lane.now }
-    ensures verdict { result ≡ option_map (verdict_on clients.now) lane.now }
+    ensures verdict { result ≡ verdict_on_lane clients.now lane.now }
     ensures request { HoldsAdmitted clients.now result }
 {
     match lane {
@@ -185,7 +184,7 @@ fn check_content(
     requires candidate { IsCandidate clients.now candidate.now }
     requires digest { IsAccountingAuthenticator clients.now digest.now candidate.now }
     requires sum { IsMessageAuthenticator clients.now sum.now candidate.now }
-    ensures { result ≡ content_checks (client_of clients.now candidate.now.request.client) candidate.now.request.packet }
+    ensures { result ≡ asked_of content_checks clients.now candidate.now }
 {
     if has_bad_authenticator(clients, candidate, digest) {
         return Err(Discard::BadAuthenticator);
@@ -212,7 +211,7 @@ fn has_bad_authenticator(
     digest: &[u8; DIGEST_LEN],
 ) -> bool
     requires { IsAccountingAuthenticator clients.now digest.now candidate.now }
-    ensures { result ≡ has_bad_authenticator (client_of clients.now candidate.now.request.client) candidate.now.request.packet }
+    ensures { result ≡ asked_of has_bad_authenticator clients.now candidate.now }
 {
     let packet = &candidate.request.packet;
     packet.code() == code::ACCOUNTING_REQUEST && !same_octets(&packet.authenticator(), digest)
@@ -225,7 +224,7 @@ fn has_bad_message_authenticator(
     sum: &[u8; DIGEST_LEN],
 ) -> bool
     requires { IsMessageAuthenticator clients.now sum.now candidate.now }
-    ensures { result ≡ has_bad_message_authenticator (client_of clients.now candidate.now.request.client) candidate.now.request.packet }
+    ensures { result ≡ asked_of has_bad_message_authenticator clients.now candidate.now }
 {
     is_summed(candidate.request.packet.code())
         && has_message_authenticator(candidate)
@@ -241,7 +240,7 @@ fn has_message_authenticator(candidate: &Candidate) -> bool
 
 // Whether the Message-Authenticator stands once, and is this sum.
 fn has_right_message_authenticator(candidate: &Candidate, sum: &[u8; DIGEST_LEN]) -> bool
-    ensures { (client : Client) → (IfSome candidate.now.noted.behind_sum (λ behind. sum.now ≡ message_authenticator candidate.now.request.packet client.secret))
+    ensures { (client : Client) → IsSumUnder client.secret sum.now candidate.now
         → result ≡ has_right_message_authenticator client candidate.now.request.packet }
 {
     let stands_once = candidate.noted.message_authenticators == 1;
@@ -257,7 +256,7 @@ fn has_right_message_authenticator(candidate: &Candidate, sum: &[u8; DIGEST_LEN]
 // Whether a Message-Authenticator must be there and isn't.
 fn lacks_message_authenticator(clients: &Clients, candidate: &Candidate) -> bool
     requires { candidate.now.request.client < length clients.now }
-    ensures { result ≡ lacks_message_authenticator (client_of clients.now candidate.now.request.client) candidate.now.request.packet }
+    ensures { result ≡ asked_of lacks_message_authenticator clients.now candidate.now }
 {
     if has_message_authenticator(candidate) {
         return false;

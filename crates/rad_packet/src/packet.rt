@@ -1,5 +1,6 @@
-ghost use Rattle.std.specs.Prelude.{◌≡◌, ◌≤◌, length, IfOk, IfErr, Ok, option_map};
+ghost use Rattle.std.specs.Prelude.{◌≡◌, ◌≤◌, length, IfOk, IfErr, IfSome, Ok, option_map};
 ghost use Rattle.std.specs.List.{AllByRecursion};
+ghost use Rattle.std.specs.Option.{option_copied};
 ghost use Rattle.rad_packet.specs.Attributes.{IsAttribute, first_value, first_value_of_len, count};
 ghost use Rattle.rad_packet.specs.Packets.{Packet, packet_of, packet_octets, packet_length, length_field, length_max, IsPacket, IsFault};
 
@@ -135,7 +136,8 @@ impl<'a> Packet<'a> {
 
     /// The Value of the first attribute of a Type that has so many octets.
     pub fn first_of_len(&self, kind: u8, len: usize) -> Option<&'a [u8]>
-        ensures { option_map (λ value. value.now) result ≡ first_value_of_len kind len self.now.attributes }
+        ensures value { option_copied result ≡ first_value_of_len kind len self.now.attributes }
+        ensures len { IfSome result (λ value. length value.now ≡ len) }
     {
         let mut rest = self.attributes();
         while let Some(attribute) = rest.next() {

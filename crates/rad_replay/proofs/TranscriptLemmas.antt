@@ -7,7 +7,6 @@ use Rattle.rad_config.specs.Configurations.{Configuration}
 use Rattle.rad_replay.specs.declared.step.State.{State}
 use Rattle.rad_replay.specs.DatagramLines.{TimedDatagram, timed_datagram_of}
 use Rattle.rad_replay.specs.Steps.{opening}
-use Rattle.rad_replay.specs.Replays.{IsLineOf}
 use Rattle.rad_replay.specs.Transcripts.{AnswersLines, datagrams_of, first_malformed, in_front, number_unless, is_among, line_of, replay, written}
 
 -- ---- one more datagram
@@ -71,7 +70,7 @@ begins configuration lines = record {
 }
 
 pub goes_on : (configuration : Configuration) (lines left : List (List ℕ)) (line : List ℕ) (number : ℕ) (old new : State) (text more : List ℕ) (timed : TimedDatagram)
-    → Progress configuration lines (line ∷ left) number old text → timed_datagram_of line ≡ Some timed → IsLineOf configuration (number + 1) old timed more new
+    → Progress configuration lines (line ∷ left) number old text → timed_datagram_of line ≡ Some timed → (has_memory : Bool) × (line_of configuration has_memory (number + 1) old timed ≡ (more, new))
     → Progress configuration lines left (number + 1) new (text ++ more)
 goes_on configuration lines left line number old new text more timed so_far found is = by_memory is.0 is.1
   where

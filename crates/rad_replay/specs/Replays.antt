@@ -1,6 +1,8 @@
 -- What the parts of a replay say: one line, and the answering of all datagram lines.
 use Rattle.std.specs.Prelude.{◌≡◌, ℕ, Bool, List, [], ◌∷◌, Some, None, Result, Ok, Err}
 use Rattle.rad_config.specs.Configurations.{Configuration}
+use Rattle.rad_auth.specs.Datagrams.{datagram_of}
+use Rattle.rad_auth.specs.declared.arrival.Arrival.{Arrival}
 use Rattle.rad_auth.specs.declared.arrival.Request.{Request}
 use Rattle.rad_replay.specs.declared.run_fault.RunFault.{RunFault}
 use Rattle.rad_replay.specs.declared.run_fault.RunFault.TheVariants as run
@@ -18,14 +20,18 @@ pub record Replay : Type 0 where
 abbrev pub IsFirstOf : List (List ℕ) → List ℕ → Type 0
 IsFirstOf frames octets = (others : List (List ℕ)) × (frames ≡ octets ∷ others)
 
--- this is the line of the request and the state after it, with memory or without
-abbrev pub IsLineOfRequest : Configuration → ℕ → State → ℕ → Request → List ℕ → State → Type 0
-IsLineOfRequest configuration number old moment request text new =
-    (has_memory : Bool) × (line_of_verdict configuration has_memory number old moment (Ok request) ≡ (text, new))
+-- the new line is that of the request with this number, and the new state the one after it; with memory or without
+abbrev pub IsLineOfRequest : ℕ → ℕ → Request → Replay → Replay → Type 0
+IsLineOfRequest number moment request old new =
+    (has_memory : Bool) × (line_of_verdict old.configuration has_memory number old.state moment (Ok request) ≡ (new.line, new.state))
 
--- this is the line of the datagram and the state after it, with memory or without
-abbrev pub IsLineOf : Configuration → ℕ → State → TimedDatagram → List ℕ → State → Type 0
-IsLineOf configuration number old timed text new = (has_memory : Bool) × (line_of configuration has_memory number old timed ≡ (text, new))
+-- the same of the datagram with this number
+abbrev pub IsLineOf : ℕ → TimedDatagram → Replay → Replay → Type 0
+IsLineOf number timed old new = (has_memory : Bool) × (line_of old.configuration has_memory number old.state timed ≡ (new.line, new.state))
+
+-- an arrival and its moment
+abbrev pub timed_of : ℕ → Arrival → TimedDatagram
+timed_of moment arrival = record { moment = moment; datagram = datagram_of arrival }
 
 -- what the answering of datagram lines may end with
 abbrev pub EndsLines : Configuration → List (List ℕ) → (List ℕ → Type 0) → Result Unit RunFault → Type 0

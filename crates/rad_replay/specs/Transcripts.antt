@@ -85,7 +85,7 @@ written configuration without_memory datagrams = (replay configuration without_m
 
 -- ---- a whole run
 
--- what stands in front of others where it is there
+-- a datagram and those after it; none of them where its line is malformed
 abbrev pub in_front : Option TimedDatagram → List TimedDatagram → List TimedDatagram
 in_front None others = []
 in_front (Some timed) others = timed ∷ others
@@ -118,8 +118,8 @@ pub record IsInput (text : List ℕ) (configuration : Configuration) (lines : Li
   pub parts : (before : List (List ℕ)) × (after : List (List ℕ)) × (divided (lines_of text) ≡ Some (before, after))
       × (configuration_of_octets (text_of before) ≡ Ok configuration) × (lines ≡ datagram_lines after)
 
--- The lines up to the first malformed one, if there is one, were answered, and nothing else was written. It is told which
--- line is malformed.
+-- The datagrams of the lines before the first malformed one, if there is one, have each got their line, and nothing else was
+-- written. It is told which line is malformed.
 abbrev pub AnswersLines : Configuration → List (List ℕ) → (List ℕ → Type 0) → Option ℕ → Type 0
 AnswersLines configuration lines Writes malformed =
     (without_memory : List ℕ) × (first_malformed 1 lines ≡ malformed) × Writes (written configuration without_memory (datagrams_of lines))

@@ -5,7 +5,7 @@ ghost use Rattle.rad_auth.specs.Clients.{secret_at};
 ghost use Rattle.rad_auth.specs.Datagrams.{datagram_of};
 ghost use Rattle.rad_auth.specs.Sealing.{IsReply, reply_octets};
 ghost use Rattle.rad_replay.specs.Steps.{opening};
-ghost use Rattle.rad_replay.specs.Replays.{IsFirstOf, IsLineOf, IsLineOfRequest};
+ghost use Rattle.rad_replay.specs.Replays.{IsFirstOf, IsLineOf, IsLineOfRequest, timed_of};
 ghost use Rattle.rad_replay.specs.Transcripts.{draw_of};
 
 use crate::line::Line;
@@ -69,7 +69,7 @@ impl<'a> Replay<'a> {
     /// Makes the line for a datagram, and goes on to the next state.
     pub fn answer(&mut self, alloc: Global, number: u64, moment: u64, arrival: Arrival)
         requires { moment ≤ 2 ^ 62 }
-        ensures line { IsLineOf self.old.configuration number self.old.state (record { moment = moment; datagram = datagram_of arrival.entry }) self.new.line self.new.state }
+        ensures line { IsLineOf number (timed_of moment arrival.entry) self.old self.new }
         ensures configuration { self.new.configuration ≡ self.old.configuration }
     {
         match admit(self.config.clients(), arrival) {
@@ -81,7 +81,7 @@ impl<'a> Replay<'a> {
     fn answer_request(&mut self, alloc: Global, number: u64, moment: u64, request: &Request)
         requires moment { moment ≤ 2 ^ 62 }
         requires admitted { IsAdmitted self.old.configuration.clients request.now }
-        ensures line { IsLineOfRequest self.old.configuration number self.old.state moment request.now self.new.line self.new.state }
+        ensures line { IsLineOfRequest number moment request.now self.old self.new }
         ensures configuration { self.new.configuration ≡ self.old.configuration }
     {
         let Replay {

@@ -26,7 +26,7 @@ const CHUNK: usize = 8192;
 /// Reads a transcript, and writes a line for each datagram.
 ///
 /// `TooLong`, `NoDivider` and `Config` are told in this order; at these, at `Read` and at `NoMemory` nothing was written.
-/// Before `BadLine` the lines before the malformed one were answered.
+/// Before `BadLine` each datagram line before the malformed one got its line. Of what went out before `Write` nothing is said.
 pub fn run_replay<R: Read, W: Write>(
     alloc: Global,
     reader: &mut R,
@@ -102,7 +102,8 @@ fn answer_lines<W: Write>(
     writer: &mut W,
 ) -> Result<(), RunFault>
     requires { length (datagram_lines (lines_of datagrams.now)) ≤ TEXT_MAX }
-    ensures { EndsLines config.now (datagram_lines (lines_of datagrams.now)) (Appends (W.contents writer.old) (W.contents writer.new)) result }
+    ensures { EndsLines config.now (datagram_lines (lines_of datagrams.now))
+        (Appends (W.contents writer.old) (W.contents writer.new)) result }
 {
     let mut replay = match Replay::open(alloc, config) {
         Ok(replay) => replay,

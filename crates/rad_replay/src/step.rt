@@ -47,7 +47,8 @@ impl State {
     ) -> Result<Answer, AllocError>
         requires moment { moment ≤ 2 ^ 62 }
         requires admitted { IsAdmitted config.now.clients request.now }
-        ensures answered { IfOk result (λ answer. step config.now self.old request.now moment draw.now ≡ (answer, self.new)) }
+        ensures answered { IfOk result (λ answer.
+            step config.now self.old request.now moment draw.now ≡ (answer, self.new)) }
         ensures sealable { IfOk result IsSealable }
         ensures unchanged { OnErr result (self.new ≡ self.old) }
     {
