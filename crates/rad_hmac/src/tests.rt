@@ -6,6 +6,12 @@ ghost use Rattle.rad_hmac.specs.Hmac.{hmac};
 use crate::{Key, hmac8};
 use md5::{Digest, Md5};
 use rad_md5::Pieces;
+use std::process::Abort;
+
+// Each case asserts by this: `what` is so in the case `name`.
+fn holds(rt: &impl Abort, it: bool, what: &str, name: &str) {
+    assert!(rt; it, "{what}, {name}");
+}
 
 // A message in three slices of which one is empty.
 fn pieces(octets: &[u8]) -> Pieces<'_>
@@ -42,7 +48,9 @@ fn turned(octets: &[u8]) -> [u8; 80]
 {
     let mut turned = [0; 80];
     turned[..octets.len()].copy_from_slice(octets);
-    turned[octets.len() / 2] ^= 1;
+    if let Some(octet) = turned.get_mut(octets.len() / 2) {
+        *octet ^= 1;
+    }
     turned
 }
 
@@ -99,21 +107,39 @@ const CASES: [Case; 7] = [
     ),
 ];
 
+// A bit of the message or of the key turned gives another sum.
+fn turned_has_another(rt: &impl Abort, key: &[u8], message: &[u8], want: &[u8; 16], name: &str)
+    requires key { length key.now ≤ 80 }
+    requires message { length message.now ≤ 80 }
+{
+    let other_message = sum(key, &turned(message)[..message.len()]);
+    holds(rt, other_message != *want, "a bit of the message", name);
+    let other_key = sum(&turned(key)[..key.len()], message);
+    holds(rt, other_key != *want, "a bit of the key", name);
+}
+
+fn has_its_sum(rt: &impl Abort, (name, key, message, want): Case) {
+    assert!(rt; key.len() <= 80 && message.len() <= 80, "{name}");
+    holds(rt, sum(key, message) == *want, "the sum", name);
+    turned_has_another(rt, key, message, want, name);
+}
+
 #[test]
 fn messages_have_the_sums_of_the_rfc(rt: HostRuntime) {
-    for (name, key, message, want) in CASES {
-        assert!(rt; key.len() <= 80 && message.len() <= 80, "{name}");
-        assert_eq!(rt; sum(key, message), *want, "{name}");
-        let other_message = sum(key, &turned(message)[..message.len()]);
-        assert!(rt; other_message != *want, "{name}: a bit of the message");
-        let other_key = sum(&turned(key)[..key.len()], message);
-        assert!(rt; other_key != *want, "{name}: a bit of the key");
+    for case in CASES.iter() {
+        has_its_sum(&rt, *case);
     }
 }
 
 // 200 octets of text.
 const TEXT: &[u8; 200] =
     b"This document describes HMAC, a mechanism for message authentication using cryptographic hash functions. HMAC can be used with any iterative cryptographic hash function, e.g., MD5, SHA-1, in combinati";
+
+fn is_sum(rt: &impl Abort, key: &[u8], message: &[u8], want: &[u8; 16], name: &str)
+    requires { length message.now ≤ 80 }
+{
+    holds(rt, sum(key, message) == *want, "the sum", name);
+}
 
 #[test]
 fn a_key_is_digested_from_65_octets_on(rt: HostRuntime) {
@@ -122,22 +148,24 @@ fn a_key_is_digested_from_65_octets_on(rt: HostRuntime) {
     let of_64_octets = b"\xc5\x0f\x12\xc9\x5f\x2f\x4b\xb7\x1d\xba\xa8\xcf\xd4\x71\x2b\xce";
     let of_65_octets = b"\x18\x3e\xbc\x5e\x13\x2e\x65\xa1\xdf\x13\x07\xfc\x45\xcf\x13\x08";
     let digest_of_65_octets = b"\x34\x53\x0d\xab\xb7\xcb\x68\xaf\x86\x6f\xa2\x15\x61\x55\x0f\x98";
-    assert_eq!(rt; sum(&[], &[]), *of_no_octets, "no octets");
-    assert_eq!(rt; sum(&TEXT[..63], b"Hi There"), *of_63_octets, "63 octets");
-    assert_eq!(rt; sum(&TEXT[..64], b"Hi There"), *of_64_octets, "64 octets");
-    assert_eq!(rt; sum(&TEXT[..65], b"Hi There"), *of_65_octets, "65 octets");
-    assert_eq!(rt;
-        sum(digest_of_65_octets, b"Hi There"),
-        *of_65_octets,
-        "their digest"
+    is_sum(&rt, &[], &[], of_no_octets, "no octets");
+    is_sum(&rt, &TEXT[..63], b"Hi There", of_63_octets, "63 octets");
+    is_sum(&rt, &TEXT[..64], b"Hi There", of_64_octets, "64 octets");
+    is_sum(&rt, &TEXT[..65], b"Hi There", of_65_octets, "65 octets");
+    is_sum(
+        &rt,
+        digest_of_65_octets,
+        b"Hi There",
+        of_65_octets,
+        "their digest",
     );
 }
 
 // The digest of a message behind each octet of a key with this one turned into it.
 fn padded_digest(key: &[u8; 64], pad: u8, message: &[u8]) -> [u8; 16] {
     let mut block = *key;
-    for place in 0..64 {
-        block[place] ^= pad;
+    for octet in block.iter_mut() {
+        *octet ^= pad;
     }
     Md5::new_with_prefix(&block)
         .chain_update(message)
@@ -188,11 +216,11 @@ fn each_lane_has_its_own_key_and_message(rt: HostRuntime) {
         (&Key::new(keys[6]), pieces(messages[6])),
         (&Key::new(keys[7]), pieces(messages[7])),
     ]);
+    let names = [
+        "lane 0", "lane 1", "lane 2", "lane 3", "lane 4", "lane 5", "lane 6", "lane 7",
+    ];
     for lane in 0..8 {
-        assert_eq!(rt;
-            sums[lane],
-            plain_sum(keys[lane], messages[lane]),
-            "lane {lane}"
-        );
+        let want = plain_sum(keys[lane], messages[lane]);
+        holds(&rt, sums[lane] == want, "the sum", names[lane]);
     }
 }
