@@ -1,5 +1,5 @@
 //! The exchange of RFC 2865, section 7.1, and the limits of datagrams and packets.
-ghost use Rattle.std.specs.Prelude.{◌≤◌, length};
+ghost use Rattle.std.specs.Prelude.{◌+◌, ◌≤◌, length};
 ghost use Rattle.rad_packet.specs.Attributes.{value_max};
 
 use super::*;
@@ -28,119 +28,205 @@ const REPLY: [u8; 38] = *b"\
 const REPLY_AUTHENTICATOR: [u8; 16] =
     *b"\x86\xfe\x22\x0e\x76\x24\xba\x2a\x10\x05\xf6\xbf\x9b\x55\xe0\xb2";
 
+const REQUEST_ATTRIBUTES: [Attribute<'static>; 4] = [
+    Attribute {
+        kind: attribute::USER_NAME,
+        value: b"nemo",
+    },
+    Attribute {
+        kind: attribute::USER_PASSWORD,
+        value: b"\x0d\xbe\x70\x8d\x93\xd4\x13\xce\x31\x96\xe4\x3f\x78\x2a\x0a\xee",
+    },
+    Attribute {
+        kind: attribute::NAS_IP_ADDRESS,
+        value: b"\xc0\xa8\x01\x10",
+    },
+    Attribute {
+        kind: attribute::NAS_PORT,
+        value: b"\x00\x00\x00\x03",
+    },
+];
+
+// Each case asserts by this: `what` is so in the case `name`.
+fn holds(rt: &impl Abort, it: bool, what: &str, name: &str) {
+    assert!(rt; it, "{what}, {name}");
+}
+
 // The request with another Length, more octets behind it, and then cut or filled up with octets 2. Two such octets are
 // an attribute with no Value.
 fn datagram(alloc: Global, len: u16, more: &[u8], came: usize) -> Result<Vec<u8>, AllocError> {
-    let mut octets = Vec::new(alloc);
-    octets.extend_from_slice(&REQUEST[..2])?;
-    octets.extend_from_slice(&len.to_be_bytes())?;
-    octets.extend_from_slice(&REQUEST[4..])?;
+    let mut octets = REQUEST.to_vec(alloc)?;
+    octets[2..4].copy_from_slice(&len.to_be_bytes());
     octets.extend_from_slice(more)?;
     octets.resize(came, 2)?;
     Ok(octets)
 }
 
+// The packet has this attribute once.
+fn has_attribute(rt: &impl Abort, packet: &Packet<'_>, want: Attribute<'_>, name: &str) {
+    let is_first = packet.first(want.kind) == Some(want.value);
+    holds(rt, is_first, "the first of a Type", name);
+    holds(
+        rt,
+        packet.count(want.kind) == 1,
+        "the count of a Type",
+        name,
+    );
+}
+
+fn has_request_attributes(rt: &impl Abort, packet: &Packet<'_>, name: &str) {
+    let mut attributes = packet.attributes();
+    for want in REQUEST_ATTRIBUTES.iter() {
+        let is_next = attributes.next() == Some(*want);
+        holds(rt, is_next, "the next attribute", name);
+        has_attribute(rt, packet, *want, name);
+    }
+    holds(rt, attributes.next().is_none(), "the end", name);
+    holds(rt, packet.first(80).is_none(), "the first 80", name);
+    holds(rt, packet.count(80) == 0, "the count of 80", name);
+}
+
 fn is_request(rt: &impl Abort, name: &str, octets: &[u8]) -> Result<(), Fail> {
     let packet = Packet::read(octets)?;
-    assert_eq!(rt; packet.code(), code::ACCESS_REQUEST, "the Code of {name}");
-    assert_eq!(rt; packet.identifier(), 0, "the Identifier of {name}");
-    assert_eq!(rt;
-        packet.authenticator(),
-        REQUEST_AUTHENTICATOR,
-        "the Authenticator of {name}"
+    holds(rt, packet.code() == code::ACCESS_REQUEST, "the Code", name);
+    holds(rt, packet.identifier() == 0, "the Identifier", name);
+    holds(
+        rt,
+        packet.authenticator() == REQUEST_AUTHENTICATOR,
+        "the Authenticator",
+        name,
     );
-    assert_eq!(rt; packet.octets(), REQUEST.as_slice(), "the octets of {name}");
-    let mut attributes = packet.attributes();
-    for (kind, value) in [
-        (attribute::USER_NAME, b"nemo".as_slice()),
-        (attribute::USER_PASSWORD, &REQUEST[28..44]),
-        (attribute::NAS_IP_ADDRESS, b"\xc0\xa8\x01\x10"),
-        (attribute::NAS_PORT, b"\x00\x00\x00\x03"),
-    ] {
-        assert_eq!(rt;
-            attributes.next(),
-            Some(Attribute { kind, value }),
-            "attribute {kind} of {name}"
-        );
-        assert_eq!(rt;
-            packet.first(kind),
-            Some(value),
-            "the first {kind} of {name}"
-        );
-        assert_eq!(rt; packet.count(kind), 1, "the count of {kind} of {name}");
-    }
-    assert_eq!(rt; attributes.next(), None, "the end of {name}");
-    assert_eq!(rt; packet.first(80), None, "the first 80 of {name}");
-    assert_eq!(rt; packet.count(80), 0, "the count of 80 of {name}");
+    holds(
+        rt,
+        packet.octets() == REQUEST.as_slice(),
+        "the octets",
+        name,
+    );
+    has_request_attributes(rt, &packet, name);
     Ok(())
 }
 
 #[test]
 fn reads_the_request(rt: HostRuntime) -> Result<(), Fail> {
     is_request(&rt, "the request", &REQUEST)?;
-    is_request(
-        &rt,
-        "the padded request",
-        &datagram(rt.alloc(), 56, b"", 59)?,
-    )
+    let padded = datagram(rt.alloc(), 56, b"", 59)?;
+    is_request(&rt, "the padded request", &padded)
 }
 
-#[test]
-fn tells_the_first_fault(rt: HostRuntime) -> Result<(), Fail> {
-    use ReadFault::{BadAttributes, BadLength, Short, Truncated};
+const ODD: Result<usize, ReadFault> = Err(ReadFault::BadAttributes);
 
-    let odd = Err(BadAttributes);
-    // What it is, Length, what stands behind the request, the datagram's size, and the packet's size.
-    for (name, len, more, came, found) in [
-        ("no octet", 56, b"".as_slice(), 0, Err(Short)),
-        ("19 octets", 19, b"", 19, Err(Short)),
-        ("Length 19", 19, b"", 5000, Err(BadLength)),
-        ("Length 20", 20, b"", 5000, Ok(20)),
-        ("Length 4096", 4096, b"", 5000, Ok(4096)),
-        ("Length 4097", 4097, b"", 5000, Err(BadLength)),
-        ("Length 4097, cut", 4097, b"", 4096, Err(BadLength)),
-        ("Length 4096, whole", 4096, b"", 4096, Ok(4096)),
-        ("Length 4096, cut", 4096, b"", 4095, Err(Truncated)),
-        ("Length 57, cut", 57, b"", 56, Err(Truncated)),
-        ("one octet too many", 57, b"", 57, odd),
-        ("an attribute of Length 0", 58, b"\x07\x00", 58, odd),
-        ("an attribute of Length 1", 58, b"\x07\x01", 58, odd),
-        ("Length 1 and an octet", 59, b"\x07\x01\x02", 59, odd),
-        ("an attribute of Length 2", 58, b"\x07\x02", 58, Ok(58)),
-        ("Length past the end", 59, b"\x07\x04\x00", 59, odd),
-        ("Length into the padding", 59, b"\x07\x04\x00", 99, odd),
-    ] {
-        let octets = datagram(rt.alloc(), len, more, came)?;
-        let size = Packet::read(&octets).map(|packet| packet.octets().len());
-        assert_eq!(rt; size, found, "{name}");
-    }
+// What it is, Length, what stands behind the request, the datagram's size, and the packet's size or the fault.
+type Datagram = (
+    &'static str,
+    u16,
+    &'static [u8],
+    usize,
+    Result<usize, ReadFault>,
+);
+
+const DATAGRAMS: [Datagram; 17] = [
+    ("no octet", 56, b"", 0, Err(ReadFault::Short)),
+    ("19 octets", 19, b"", 19, Err(ReadFault::Short)),
+    ("Length 19", 19, b"", 5000, Err(ReadFault::BadLength)),
+    ("Length 20", 20, b"", 5000, Ok(20)),
+    ("Length 4096", 4096, b"", 5000, Ok(4096)),
+    ("Length 4097", 4097, b"", 5000, Err(ReadFault::BadLength)),
+    (
+        "Length 4097, cut",
+        4097,
+        b"",
+        4096,
+        Err(ReadFault::BadLength),
+    ),
+    ("Length 4096, whole", 4096, b"", 4096, Ok(4096)),
+    (
+        "Length 4096, cut",
+        4096,
+        b"",
+        4095,
+        Err(ReadFault::Truncated),
+    ),
+    ("Length 57, cut", 57, b"", 56, Err(ReadFault::Truncated)),
+    ("one octet too many", 57, b"", 57, ODD),
+    ("an attribute of Length 0", 58, b"\x07\x00", 58, ODD),
+    ("an attribute of Length 1", 58, b"\x07\x01", 58, ODD),
+    ("Length 1 and an octet", 59, b"\x07\x01\x02", 59, ODD),
+    ("an attribute of Length 2", 58, b"\x07\x02", 58, Ok(58)),
+    ("Length past the end", 59, b"\x07\x04\x00", 59, ODD),
+    ("Length into the padding", 59, b"\x07\x04\x00", 99, ODD),
+];
+
+fn is_read_as(
+    rt: &impl Abort,
+    alloc: Global,
+    (name, len, more, came, found): Datagram,
+) -> Result<(), AllocError> {
+    let octets = datagram(alloc, len, more, came)?;
+    let size = Packet::read(&octets).map(|packet| packet.octets().len());
+    holds(rt, size == found, "the size or the fault", name);
     Ok(())
 }
 
 #[test]
-fn writes_the_reply(rt: HostRuntime) -> Result<(), Fail> {
-    let mut frame = Frame::new(rt.alloc())?;
-    assert_eq!(rt; frame.octets(), b"".as_slice(), "an empty frame");
+fn tells_the_first_fault(rt: HostRuntime) -> Result<(), Fail> {
+    for row in DATAGRAMS.iter() {
+        is_read_as(&rt, rt.alloc(), *row)?;
+    }
+    Ok(())
+}
 
-    let mut body = Body::new(rt.alloc(), code::ACCESS_ACCEPT);
-    body.push(6, &[0, 0, 0, 1])?;
-    body.push(15, &[0, 0, 0, 0])?;
-    body.push(14, &[192, 168, 1, 3])?;
-    assert_eq!(rt; body.code(), 2, "the Code of the reply");
-    assert_eq!(rt; body.size(), 18, "the size of the reply's attributes");
-    assert_eq!(rt;
-        body.attributes_octets(),
-        &REPLY[20..],
-        "the attributes of the reply"
+// The body with one attribute more.
+fn with(body: Body, kind: u8, value: &[u8]) -> Result<Body, AllocError>
+    requires { length value.now ≤ value_max }
+{
+    let mut body = body;
+    body.push(kind, value)?;
+    Ok(body)
+}
+
+fn says(rt: &impl Abort, body: &Body, code: u8, attributes: &[u8], name: &str) {
+    holds(rt, body.code() == code, "the Code", name);
+    holds(rt, body.size() == attributes.len(), "the size", name);
+    holds(
+        rt,
+        body.attributes_octets() == attributes,
+        "the attributes",
+        name,
+    );
+}
+
+#[test]
+fn writes_the_reply(rt: HostRuntime) -> Result<(), Fail> {
+    let body = Body::new(rt.alloc(), code::ACCESS_ACCEPT);
+    let body = with(body, 6, &[0, 0, 0, 1])?;
+    let body = with(body, 15, &[0, 0, 0, 0])?;
+    let body = with(body, 14, &[192, 168, 1, 3])?;
+    says(&rt, &body, 2, &REPLY[20..], "the reply");
+    let mut frame = Frame::new(rt.alloc())?;
+    holds(
+        &rt,
+        frame.octets().is_empty(),
+        "the octets",
+        "an empty frame",
     );
     write(&body, 0, &REPLY_AUTHENTICATOR, &mut frame)?;
-    assert_eq!(rt; frame.octets(), REPLY.as_slice(), "the reply");
+    holds(
+        &rt,
+        frame.octets() == REPLY.as_slice(),
+        "the octets",
+        "the reply",
+    );
+    Ok(())
+}
 
+#[test]
+fn writes_a_packet_of_no_attribute(rt: HostRuntime) -> Result<(), Fail> {
     let empty = Body::new(rt.alloc(), code::ACCESS_REJECT);
-    assert_eq!(rt; empty.size(), 0, "the size of no attribute");
+    says(&rt, &empty, 3, b"", "no attribute");
+    let mut frame = Frame::new(rt.alloc())?;
     write(&empty, 7, b"sixteen octets..", &mut frame)?;
     let spelled = b"\x03\x07\x00\x14sixteen octets..".as_slice();
-    assert_eq!(rt; frame.octets(), spelled, "a packet of no attribute");
+    holds(&rt, frame.octets() == spelled, "the octets", "no attribute");
     Ok(())
 }
 
@@ -152,88 +238,143 @@ fn long_body(alloc: Global, last: &[u8]) -> Result<Body, AllocError>
     for kind in 100..116 {
         body.push(kind, &[kind; 252])?;
     }
-    body.push(200, last)?;
-    Ok(body)
+    with(body, 200, last)
+}
+
+fn begins(rt: &impl Abort, frame: &Frame, front: &[u8], size: usize, name: &str) {
+    holds(rt, frame.octets().starts_with(front), "the header", name);
+    holds(rt, frame.octets().len() == size, "the size", name);
+}
+
+// A body of this size is written, and the frame then begins so and is of `len` octets.
+fn writes(
+    rt: &impl Abort,
+    (body, size): (&Body, usize),
+    identifier: u8,
+    frame: &mut Frame,
+    (front, len): (&[u8], usize),
+    name: &str,
+) {
+    holds(rt, body.size() == size, "the attributes' size", name);
+    let given = write(body, identifier, &[9; 16], frame);
+    holds(rt, given.is_ok(), "what the call gives", name);
+    begins(rt, frame, front, len, name);
+}
+
+// One octet more is refused, and the frame keeps what was there.
+fn refuses_over(
+    rt: &impl Abort,
+    alloc: Global,
+    identifier: u8,
+    frame: &mut Frame,
+    name: &str,
+) -> Result<(), AllocError> {
+    let over = long_body(alloc, &[5; 11])?;
+    holds(rt, over.size() == 4077, "the attributes' size", name);
+    let before = frame.octets().to_vec(alloc)?;
+    let given = write(&over, identifier, &[9; 16], frame);
+    holds(rt, given == Err(TooLong), "what the call gives", name);
+    let is_kept = frame.octets() == before.as_slice();
+    holds(rt, is_kept, "what was there", name);
+    Ok(())
+}
+
+fn writes_longest(rt: &impl Abort, alloc: Global, frame: &mut Frame) -> Result<(), AllocError> {
+    let longest = long_body(alloc, &[5; 10])?;
+    let begun = (b"\x0b\x02\x10\x00".as_slice(), 4096);
+    writes(rt, (&longest, 4076), 2, frame, begun, "longest");
+    Ok(())
+}
+
+fn writes_short(rt: &impl Abort, alloc: Global, frame: &mut Frame) -> Result<(), AllocError> {
+    let short = with(Body::new(alloc, code::ACCESS_CHALLENGE), 79, &[5; 253])?;
+    let begun = (b"\x0b\x04\x01\x13".as_slice(), 275);
+    writes(rt, (&short, 255), 4, frame, begun, "short");
+    Ok(())
 }
 
 #[test]
 fn writes_up_to_4096_octets(rt: HostRuntime) -> Result<(), Fail> {
-    let longest = long_body(rt.alloc(), &[5; 10])?;
-    let over = long_body(rt.alloc(), &[5; 11])?;
-    let mut short = Body::new(rt.alloc(), code::ACCESS_CHALLENGE);
-    short.push(79, &[5; 253])?;
-    assert_eq!(rt; longest.size(), 4076, "the size of the longest");
-    assert_eq!(rt; over.size(), 4077, "the size of one octet more");
-    assert_eq!(rt; short.size(), 255, "the size of the longest Value");
-
     let mut frame = Frame::new(rt.alloc())?;
-    let written = Ok(());
-    let refused = Err(TooLong);
-    // What it is, the Identifier, the body, what the call gives, and then the frame's first octets and its size.
-    for (name, identifier, body, gives, front, size) in [
-        ("over", 1, &over, refused, b"".as_slice(), 0),
-        ("longest", 2, &longest, written, b"\x0b\x02\x10\x00", 4096),
-        ("over again", 3, &over, refused, b"\x0b\x02\x10\x00", 4096),
-        ("short", 4, &short, written, b"\x0b\x04\x01\x13", 275),
-        ("over at last", 5, &over, refused, b"\x0b\x04\x01\x13", 275),
-    ] {
-        let before = frame.octets().to_vec(rt.alloc())?;
-        let given = write(body, identifier, &[9; 16], &mut frame);
-        assert_eq!(rt; given, gives, "{name}");
-        assert!(rt; frame.octets().starts_with(front), "the header, {name}");
-        assert_eq!(rt; frame.octets().len(), size, "the size, {name}");
-        if given.is_err() {
-            assert_eq!(rt; frame.octets(), before.as_slice(), "what was there, {name}");
-        }
-    }
+    refuses_over(&rt, rt.alloc(), 1, &mut frame, "over")?;
+    begins(&rt, &frame, b"", 0, "over");
+    writes_longest(&rt, rt.alloc(), &mut frame)?;
+    refuses_over(&rt, rt.alloc(), 3, &mut frame, "over again")?;
+    writes_short(&rt, rt.alloc(), &mut frame)?;
+    refuses_over(&rt, rt.alloc(), 5, &mut frame, "over at last")?;
     Ok(())
 }
 
 #[test]
 fn a_copy_is_the_same_until_it_is_changed(rt: HostRuntime) -> Result<(), Fail> {
-    let mut body = Body::new(rt.alloc(), code::ACCESS_REJECT);
-    body.push(attribute::REPLY_MESSAGE, b"access denied")?;
-    body.push(attribute::PROXY_STATE, b"abc")?;
-    let mut copy = body.copy()?;
-    assert!(rt; copy.same(&body), "a copy");
-    copy.push(attribute::PROXY_STATE, b"")?;
-    assert!(rt; !copy.same(&body), "one attribute more");
-    body.push(attribute::PROXY_STATE, b"")?;
-    assert!(rt; copy.same(&body), "the same attribute");
-    let other = Body::new(rt.alloc(), code::ACCESS_ACCEPT);
-    let empty = Body::new(rt.alloc(), code::ACCESS_REJECT);
-    assert!(rt; !other.same(&empty), "another Code");
+    let body = Body::new(rt.alloc(), code::ACCESS_REJECT);
+    let body = with(body, attribute::REPLY_MESSAGE, b"access denied")?;
+    let body = with(body, attribute::PROXY_STATE, b"abc")?;
+    let copy = body.copy()?;
+    holds(&rt, copy.same(&body), "the same", "a copy");
+    let copy = with(copy, attribute::PROXY_STATE, b"")?;
+    holds(&rt, !copy.same(&body), "not the same", "one attribute more");
+    let body = with(body, attribute::PROXY_STATE, b"")?;
+    holds(&rt, copy.same(&body), "the same", "the same attribute");
     Ok(())
 }
 
 #[test]
+fn another_code_is_another_body(rt: HostRuntime) {
+    let accept = Body::new(rt.alloc(), code::ACCESS_ACCEPT);
+    let reject = Body::new(rt.alloc(), code::ACCESS_REJECT);
+    holds(&rt, !accept.same(&reject), "not the same", "another Code");
+}
+
+// Overwrites octets of a frame of 25.
+fn is_overwritten(rt: &impl Abort, frame: &mut Frame, place: usize, octets: &[u8], want: &[u8; 25])
+    requires { place + length octets.now ≤ 25 }
+{
+    assert!(rt; frame.octets().len() == 25, "the size of the frame");
+    frame.overwrite(place, octets);
+    holds(
+        rt,
+        frame.octets() == want.as_slice(),
+        "the octets",
+        "an overwritten frame",
+    );
+}
+
+#[test]
 fn octets_of_a_frame_are_overwritten(rt: HostRuntime) -> Result<(), Fail> {
-    let mut body = Body::new(rt.alloc(), code::ACCESS_REJECT);
-    body.push(attribute::PROXY_STATE, b"abc")?;
+    let body = Body::new(rt.alloc(), code::ACCESS_REJECT);
+    let body = with(body, attribute::PROXY_STATE, b"abc")?;
     let mut frame = Frame::new(rt.alloc())?;
     write(&body, 1, b"0123456789abcdef", &mut frame)?;
-    frame.overwrite(22, b"xyz");
-    assert_eq!(rt;
-        frame.octets(),
-        b"\x03\x01\x00\x190123456789abcdef\x21\x05xyz".as_slice()
-    );
-    frame.overwrite(0, b"\x02");
-    assert_eq!(rt;
-        frame.octets(),
-        b"\x02\x01\x00\x190123456789abcdef\x21\x05xyz".as_slice()
-    );
+    let value = b"\x03\x01\x00\x190123456789abcdef\x21\x05xyz";
+    is_overwritten(&rt, &mut frame, 22, b"xyz", value);
+    let code = b"\x02\x01\x00\x190123456789abcdef\x21\x05xyz";
+    is_overwritten(&rt, &mut frame, 0, b"\x02", code);
     Ok(())
 }
 
 #[test]
 fn attributes_that_are_left_have_their_octets(rt: HostRuntime) -> Result<(), Fail> {
-    let mut body = Body::new(rt.alloc(), code::ACCESS_REJECT);
-    body.push(attribute::REPLY_MESSAGE, b"no")?;
-    body.push(attribute::PROXY_STATE, b"abc")?;
+    let body = Body::new(rt.alloc(), code::ACCESS_REJECT);
+    let body = with(body, attribute::REPLY_MESSAGE, b"no")?;
+    let body = with(body, attribute::PROXY_STATE, b"abc")?;
     let mut rest = body.attributes();
-    assert_eq!(rt; rest.octets(), b"\x12\x04no\x21\x05abc".as_slice());
-    let first = rest.next();
-    assert!(rt; matches!(first, Some(attribute) if attribute.kind == attribute::REPLY_MESSAGE));
-    assert_eq!(rt; rest.octets(), b"\x21\x05abc".as_slice());
+    holds(
+        &rt,
+        rest.octets() == b"\x12\x04no\x21\x05abc".as_slice(),
+        "the octets",
+        "both",
+    );
+    let first = Attribute {
+        kind: attribute::REPLY_MESSAGE,
+        value: b"no",
+    };
+    holds(&rt, rest.next() == Some(first), "the first", "both");
+    holds(
+        &rt,
+        rest.octets() == b"\x21\x05abc".as_slice(),
+        "the octets",
+        "the second",
+    );
     Ok(())
 }
