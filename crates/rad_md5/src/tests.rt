@@ -3,7 +3,24 @@ ghost use Rattle.std.specs.Prelude.{◌<◌, ◌^◌, ◌≤◌, length};
 
 use crate::{DIGEST_LEN, Pieces, digest_each, digest8};
 use md5::{Digest, Md5};
+use std::alloc::{AllocError, Global};
+use std::process::Abort;
 use std::test::Fail;
+
+// Each case asserts by one of these: `what` is so, or message i of so many has this digest, in the case `name`.
+fn holds(rt: &impl Abort, it: bool, what: &str, name: &str) {
+    assert!(rt; it, "{what}, {name}");
+}
+
+fn is_digest(
+    rt: &impl Abort,
+    digest: &[u8; DIGEST_LEN],
+    want: &[u8; DIGEST_LEN],
+    (i, count): (u8, u8),
+    name: &str,
+) {
+    assert!(rt; digest == want, "message {i} of {count}, {name}");
+}
 
 // A message in slices of these lengths, as far as its octets reach. The fifth slice has the rest.
 fn cut(octets: &[u8], lens: [usize; 4]) -> Pieces<'_>
@@ -47,7 +64,9 @@ fn turned(octets: &[u8]) -> [u8; 80]
 {
     let mut turned = [0; 80];
     turned[..octets.len()].copy_from_slice(octets);
-    turned[octets.len() / 2] ^= 1;
+    if let Some(octet) = turned.get_mut(octets.len() / 2) {
+        *octet ^= 1;
+    }
     turned
 }
 
@@ -93,16 +112,27 @@ const CASES: [Case; 7] = [
     ("80 digits", DIGITS, DIGEST_OF_DIGITS),
 ];
 
+// With its middle octet turned a message has another digest, which is that of its octets.
+fn turned_has_another(rt: &impl Abort, octets: &[u8], want: &[u8; DIGEST_LEN], name: &str)
+    requires { length octets.now ≤ 80 }
+{
+    let turned = turned(octets);
+    let other = &turned[..octets.len().max(1)];
+    let changed = digest(other);
+    holds(rt, changed != *want, "a change is seen", name);
+    holds(rt, changed == Md5::digest(other), "changed", name);
+}
+
+fn has_its_digest(rt: &impl Abort, (name, octets, want): Case) {
+    assert!(rt; octets.len() <= 80, "{name}");
+    holds(rt, digest(octets) == want, "the digest", name);
+    turned_has_another(rt, octets, &want, name);
+}
+
 #[test]
 fn messages_have_the_digests_of_the_rfc(rt: HostRuntime) {
-    for (name, octets, want) in CASES {
-        assert!(rt; octets.len() <= 80, "{name}");
-        assert_eq!(rt; digest(octets), want, "{name}");
-        let turned = turned(octets);
-        let other = &turned[..octets.len().max(1)];
-        let changed = digest(other);
-        assert!(rt; changed != want, "{name}: a change is not seen");
-        assert_eq!(rt; changed, Md5::digest(other), "{name}: changed");
+    for case in CASES.iter() {
+        has_its_digest(&rt, *case);
     }
 }
 
@@ -116,42 +146,54 @@ const CUTS: [(&str, [usize; 4]); 6] = [
     ("at the ends of blocks", [64, 64, 0, 3712]),
 ];
 
-// The octets of eight messages: they have 1, 1, 1, 2, 2, 2, 2 and 65 blocks.
-const LENS: [usize; 8] = [0, 3, 55, 56, 64, 80, 119, 4096];
-
 // The messages begin alike, and octets that are a block apart differ.
-fn text() -> [u8; 4096] {
-    let mut text = [0; 4096];
-    for place in 0..4096 {
-        text[place] = (place % 251) as u8;
+fn text(alloc: Global) -> Result<Vec<u8>, AllocError> {
+    let mut text = Vec::new(alloc);
+    for place in 0..4096u16 {
+        text.push((place % 251) as u8)?;
     }
-    text
+    Ok(text)
+}
+
+// The octets of eight messages: they have 1, 1, 1, 2, 2, 2, 2 and 65 blocks.
+const LENS: [u16; 8] = [0, 3, 55, 56, 64, 80, 119, 4096];
+
+// The first octets, or all of them where there are fewer.
+fn front(octets: &[u8], len: u16) -> &[u8]
+    ensures { length result.now < 2 ^ 32 }
+{
+    &octets[..octets.len().min(len as usize)]
+}
+
+fn are_digests_of(rt: &impl Abort, digests: &[[u8; DIGEST_LEN]; 8], text: &[u8], name: &str) {
+    for lane in 0..8 {
+        let want = Md5::digest(front(text, LENS[lane as usize]));
+        is_digest(rt, &digests[lane as usize], &want, (lane, 8), name);
+    }
+}
+
+fn are_digested_by_lane(rt: &impl Abort, text: &[u8], (name, at): (&str, [usize; 4])) {
+    let digests = digest8(&[
+        cut(front(text, LENS[0]), at),
+        cut(front(text, LENS[1]), at),
+        cut(front(text, LENS[2]), at),
+        cut(front(text, LENS[3]), at),
+        cut(front(text, LENS[4]), at),
+        cut(front(text, LENS[5]), at),
+        cut(front(text, LENS[6]), at),
+        cut(front(text, LENS[7]), at),
+    ]);
+    are_digests_of(rt, &digests, text, name);
 }
 
 #[test]
-fn each_lane_digests_its_own_message(rt: HostRuntime) {
-    let text = text();
-    for (name, at) in CUTS {
-        let digests = digest8(&[
-            cut(&text[..LENS[0]], at),
-            cut(&text[..LENS[1]], at),
-            cut(&text[..LENS[2]], at),
-            cut(&text[..LENS[3]], at),
-            cut(&text[..LENS[4]], at),
-            cut(&text[..LENS[5]], at),
-            cut(&text[..LENS[6]], at),
-            cut(&text[..LENS[7]], at),
-        ]);
-        for lane in 0..8 {
-            let len = LENS[lane];
-            assert!(rt; len <= text.len(), "lane {lane}");
-            assert_eq!(rt;
-                digests[lane],
-                Md5::digest(&text[..len]),
-                "{len} octets {name}"
-            );
-        }
+fn each_lane_digests_its_own_message(rt: HostRuntime) -> Result<(), Fail> {
+    let text = text(rt.alloc())?;
+    holds(&rt, text.len() == 4096, "the size", "the text");
+    for case in CUTS.iter() {
+        are_digested_by_lane(&rt, &text, *case);
     }
+    Ok(())
 }
 
 #[test]
@@ -174,31 +216,65 @@ fn a_lane_goes_on_after_the_others_have_ended(rt: HostRuntime) {
         ]),
     ]);
     for lane in 0..7 {
-        assert_eq!(rt; digests[lane], DIGEST_OF_NOTHING, "lane {lane}");
+        let ended = &digests[lane as usize];
+        is_digest(&rt, ended, &DIGEST_OF_NOTHING, (lane, 8), "no octets");
     }
-    assert_eq!(rt; digests[7], DIGEST_OF_DIGITS, "lane 7");
+    is_digest(&rt, &digests[7], &DIGEST_OF_DIGITS, (7, 8), "80 digits");
 }
 
 // How many octets message i has: each one more than the one before, and in no order.
-const LENGTHS: [(&str, usize, usize); 2] = [("rising", 1, 0), ("in no order", 53, 61)];
+const LENGTHS: [(&str, u8, u8); 2] = [("rising", 1, 0), ("in no order", 53, 61)];
+
+// The octets of message i.
+fn octets_of(i: u8, factor: u8, first: u8) -> &'static [u8]
+    ensures { length result.now < 2 ^ 32 }
+{
+    front(
+        &[0x61; 131],
+        (i as u16 * factor as u16 + first as u16) % 131,
+    )
+}
+
+fn messages_of(
+    alloc: Global,
+    count: u8,
+    factor: u8,
+    first: u8,
+) -> Result<Vec<Pieces<'static>>, AllocError> {
+    let mut messages = Vec::new(alloc);
+    for i in 0..count {
+        let octets = octets_of(i, factor, first);
+        messages.push(cut(octets, [i as usize, 0, 1, i as usize % 7]))?;
+    }
+    Ok(messages)
+}
+
+fn digests_of(alloc: Global, messages: &[Pieces<'_>]) -> Result<Vec<[u8; DIGEST_LEN]>, AllocError> {
+    let mut digests = Vec::from_elem(alloc, [0; DIGEST_LEN], messages.len())?;
+    digest_each(messages, &mut digests);
+    Ok(digests)
+}
+
+fn are_digested(
+    rt: &impl Abort,
+    alloc: Global,
+    count: u8,
+    (name, factor, first): (&str, u8, u8),
+) -> Result<(), Fail> {
+    let messages = messages_of(alloc, count, factor, first)?;
+    let digests = digests_of(alloc, &messages)?;
+    for (i, digest) in (0..count).zip(digests.iter()) {
+        let want = Md5::digest(octets_of(i, factor, first));
+        is_digest(rt, digest, &want, (i, count), name);
+    }
+    Ok(())
+}
 
 #[test]
 fn any_number_of_messages_is_digested(rt: HostRuntime) -> Result<(), Fail> {
-    let text: &[u8] = &[0x61; 131];
-    for (name, factor, first) in LENGTHS {
-        assert!(rt; factor <= 53 && first <= 61, "{name}");
-        for count in [0, 1, 8, 9, 16, 17, 64, 65, 130] {
-            let mut messages = Vec::new(rt.alloc());
-            for i in 0..count {
-                let octets = &text[..(i * factor + first) % 131];
-                messages.push(cut(octets, [i, 0, 1, i % 7]))?;
-            }
-            let mut digests = Vec::from_elem(rt.alloc(), [0; DIGEST_LEN], messages.len())?;
-            digest_each(&messages, &mut digests);
-            for i in 0..digests.len() {
-                let want = Md5::digest(&text[..(i * factor + first) % 131]);
-                assert_eq!(rt; digests[i], want, "message {i} of {count} {name}");
-            }
+    for case in LENGTHS.iter() {
+        for count in [0, 1, 8, 9, 16, 17, 64, 65, 130].iter() {
+            are_digested(&rt, rt.alloc(), *count, *case)?;
         }
     }
     Ok(())
@@ -209,9 +285,16 @@ fn octets_go_in_front_of_a_message(rt: HostRuntime) {
     let digits: &[u8] = DIGITS;
     let message = Pieces::of([&digits[3..5], &digits[5..70], &[], &digits[70..], &[]]);
     let longer = message.behind(&digits[..3]);
-    assert_eq!(rt; (message.len(), longer.len()), (77, 80), "lengths");
+    holds(&rt, message.len() == 77, "its length", "without them");
+    holds(&rt, longer.len() == 80, "its length", "with them");
     let mut digests = [[0; DIGEST_LEN]; 2];
     digest_each(&[message, longer], &mut digests);
-    assert_eq!(rt; digests[0], Md5::digest(&digits[3..]), "without them");
-    assert_eq!(rt; digests[1], DIGEST_OF_DIGITS, "with them");
+    let without = Md5::digest(&digits[3..]);
+    holds(&rt, digests[0] == without, "the digest", "without them");
+    holds(
+        &rt,
+        digests[1] == DIGEST_OF_DIGITS,
+        "the digest",
+        "with them",
+    );
 }
