@@ -1,12 +1,12 @@
 // Microseconds to read a configuration of 256 clients, 16 pools and more and more users, and nanoseconds to find a user.
-#include "../bench.h"
+#include "bench.h"
 #include <stdarg.h>
 #include <stdint.h>
 #include <stdio.h>
 
 enum { CLIENTS = 256, POOLS = 16, USERS = 4096, TRIES = 15, ROUNDS = 20, ROOM = 1 << 20 };
 
-// Of crates/config_c.
+// Of crates/bench_c.
 size_t radpool_read(const uint8_t *text, size_t len);
 size_t radpool_find(const uint8_t *text, size_t len, uint32_t rounds);
 

@@ -1,6 +1,6 @@
 // Nanoseconds a password check: rad_auth's password_right and chap_right beside the toolchain's md5 and OpenSSL.
 #define OPENSSL_SUPPRESS_DEPRECATED
-#include "../bench.h"
+#include "bench.h"
 #include <openssl/md5.h>
 #include <stdbool.h>
 #include <stdint.h>
@@ -9,7 +9,7 @@
 
 enum { CASES = 8, LONGEST = 128, BLOCK = 16, ROUNDS = 50, TRIES = 50, PASSES = 40, WORKS = 3 };
 
-// As crates/passwords_c has it.
+// As crates/bench_c has it.
 struct password_case {
     uint8_t authenticator[BLOCK], value[LONGEST];
     size_t value_len;
@@ -26,7 +26,7 @@ struct lot {
 // Checks all cases so many times, and answers how often a password was found right.
 typedef size_t work(const struct lot *lot, uint32_t rounds);
 
-// Of crates/passwords_c.
+// Of crates/bench_c.
 work radpool_password, kit_password, radpool_chap;
 
 static struct lot lot = {.secret = "xyzzy5461", .secret_len = 9};

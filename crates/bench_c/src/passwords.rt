@@ -1,12 +1,10 @@
-//! Password checks for a program in C that measures them: `bench/passwords`.
+//! Password checks: `bench/passwords.c`.
 //!
 //! Each export checks all cases of a lot as many times as it is told, and answers how often a password was right.
-#![tactic(auto)]
-
 ghost use Rattle.std.specs.Prelude.{◌≤◌, length};
 ghost use Rattle.rad_auth.specs.Passwords.{password_max};
 
-use md5::{Digest, Md5};
+use crate::plain;
 use rad_auth::{
     CHAP_VALUE_LEN, PASSWORD_MAX, SECRET_MAX, Secret, chap_right, password_right, value_fits,
 };
@@ -44,25 +42,54 @@ pub struct Lot {
     pub cases: [Case; 8],
 }
 
-impl Lot {
-    fn secret(&self) -> Secret {
-        Secret::new(&self.secret[..self.secret_len.clamp(1, SECRET_MAX)])
-    }
+// A check of one case.
+trait Check {
+    fn is_right(secret: &Secret, case: &Case) -> bool;
+}
 
-    // How often a check of all cases finds a password right.
-    fn count<F: Fn(&Case) -> bool>(&self, rounds: u32, is_right: F) -> usize
-        requires { F.IsAlwaysCallable is_right }
-    {
-        let mut right: usize = 0;
-        for _ in 0..rounds {
-            for case in &self.cases {
-                if is_right(case) {
-                    right = right.wrapping_add(1);
-                }
+// By `password_right`.
+struct InLanes;
+
+impl Check for InLanes {
+    fn is_right(secret: &Secret, case: &Case) -> bool {
+        let value = case.value();
+        value_fits(value) && password_right(secret, &case.authenticator, value, case.password())
+    }
+}
+
+// The same, one digest after the other.
+struct OneByOne;
+
+impl Check for OneByOne {
+    fn is_right(secret: &Secret, case: &Case) -> bool {
+        let value = case.value();
+        value_fits(value)
+            && is_hidden_as(secret.octets(), &case.authenticator, value, case.password())
+    }
+}
+
+// By `chap_right`.
+struct Chap;
+
+impl Check for Chap {
+    fn is_right(_secret: &Secret, case: &Case) -> bool {
+        let value = case.value();
+        value.len() == CHAP_VALUE_LEN && chap_right(value, case.password(), &case.authenticator)
+    }
+}
+
+// How often a check of all cases finds a password right.
+fn count<C: Check>(lot: &Lot, rounds: u32) -> usize {
+    let secret = Secret::new(&lot.secret[..lot.secret_len.clamp(1, SECRET_MAX)]);
+    let mut right: usize = 0;
+    for _ in 0..rounds {
+        for case in &lot.cases {
+            if C::is_right(&secret, case) {
+                right = right.wrapping_add(1);
             }
         }
-        right
     }
+    right
 }
 
 // Hides a password block by block, each under the hidden block before it, and compares each with the value's.
@@ -79,9 +106,7 @@ fn is_hidden_as(secret: &[u8], authenticator: &[u8; 16], value: &[u8], password:
     let mut before = *authenticator;
     let mut difference = u8x16::splat(0);
     for (block, wanted) in text_blocks.iter().zip(value_blocks) {
-        let pad = Md5::new_with_prefix(secret)
-            .chain_update(&before)
-            .finalize();
+        let pad = plain::digest(&[secret, &before]);
         let hidden = u8x16::from_array(*block) ^ u8x16::from_array(pad);
         difference = difference | (hidden ^ u8x16::from_array(*wanted));
         before = hidden.to_array();
@@ -92,29 +117,17 @@ fn is_hidden_as(secret: &[u8], authenticator: &[u8; 16], value: &[u8], password:
 /// `password_right` for each case.
 #[unsafe(no_mangle)]
 pub extern "C" fn radpool_password(lot: &Lot, rounds: u32) -> usize {
-    let secret = lot.secret();
-    lot.count(rounds, |case| {
-        let value = case.value();
-        value_fits(value) && password_right(&secret, &case.authenticator, value, case.password())
-    })
+    count::<InLanes>(lot, rounds)
 }
 
 /// The same check, one digest after the other by the toolchain's `md5`.
 #[unsafe(no_mangle)]
 pub extern "C" fn kit_password(lot: &Lot, rounds: u32) -> usize {
-    let secret = lot.secret();
-    lot.count(rounds, |case| {
-        let value = case.value();
-        value_fits(value)
-            && is_hidden_as(secret.octets(), &case.authenticator, value, case.password())
-    })
+    count::<OneByOne>(lot, rounds)
 }
 
 /// `chap_right` for each case.
 #[unsafe(no_mangle)]
 pub extern "C" fn radpool_chap(lot: &Lot, rounds: u32) -> usize {
-    lot.count(rounds, |case| {
-        let value = case.value();
-        value.len() == CHAP_VALUE_LEN && chap_right(value, case.password(), &case.authenticator)
-    })
+    count::<Chap>(lot, rounds)
 }

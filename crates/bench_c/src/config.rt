@@ -1,5 +1,4 @@
-//! Reading a configuration, and finding its users, for a program in C that measures both: `bench/config`.
-#![tactic(auto)]
+//! Reading a configuration, and finding its users: `bench/config.c`.
 
 use rad_config::Config;
 use std::alloc::Global;

@@ -1,5 +1,5 @@
 //! The bodies of requests and replies.
-ghost use Rattle.std.specs.Prelude.{◌≡◌, ◌≤◌, length, IfOk};
+ghost use Rattle.std.specs.Prelude.{◌≡◌, ◌≤◌, All, length, IfOk};
 ghost use Rattle.rad_auth.specs.Sealing.{IsReply, IsRequestCode};
 
 use rad_auth::Door;
@@ -38,6 +38,32 @@ const EVENT_TIMESTAMP: u8 = 55;
 
 const NAS_PORT_TYPE: u8 = 61;
 
+// What all Access-Requests say.
+const ACCESS: [(u8, &[u8]); 4] = [
+    (attribute::MESSAGE_AUTHENTICATOR, &[0; 16]),
+    (attribute::NAS_IP_ADDRESS, b"\xc0\xa8\x01\x10"),
+    (NAS_PORT_TYPE, b"\0\0\0\x0f"),
+    (CALLING_STATION_ID, b"02-00-00-00-00-01"),
+];
+
+// What all Accounting-Requests say.
+const ACCOUNTING: [(u8, &[u8]); 14] = [
+    (attribute::ACCT_STATUS_TYPE, b"\0\0\0\x03"),
+    (ACCT_SESSION_ID, b"5f3a9c01"),
+    (attribute::NAS_IP_ADDRESS, b"\xc0\xa8\x01\x10"),
+    (NAS_PORT_TYPE, b"\0\0\0\x0f"),
+    (SERVICE_TYPE, b"\0\0\0\x02"),
+    (CLASS, b"class-of-12o"),
+    (CALLING_STATION_ID, b"02-00-00-00-00-01"),
+    (ACCT_SESSION_TIME, b"\0\0\x0e\x10"),
+    (ACCT_INPUT_OCTETS, b"\x01\x23\x45\x67"),
+    (ACCT_OUTPUT_OCTETS, b"\x12\x34\x56\x78"),
+    (ACCT_INPUT_PACKETS, b"\0\x01\x23\x45"),
+    (ACCT_OUTPUT_PACKETS, b"\0\x12\x34\x56"),
+    (EVENT_TIMESTAMP, b"\x65\x43\x21\0"),
+    (ACCT_DELAY_TIME, b"\0\0\0\0"),
+];
+
 /// What the requests of a lot are.
 #[derive(Clone, Copy)]
 pub(crate) enum Kind {
@@ -72,11 +98,22 @@ pub(crate) fn request(alloc: Global, kind: Kind, place: u8) -> Result<Body, Allo
         Kind::Access => access_request(alloc, place),
         Kind::Accounting => accounting_request(alloc, place),
         Kind::ProxiedAccounting => {
-            let mut body = accounting_request(alloc, place)?;
-            body.push(attribute::PROXY_STATE, &[place; 18])?;
-            Ok(body)
+            let body = accounting_request(alloc, place)?;
+            with(body, &[(attribute::PROXY_STATE, &[place; 18])])
         }
     }
+}
+
+// The body with more attributes, behind the others.
+fn with(body: Body, attributes: &[(u8, &[u8])]) -> Result<Body, AllocError>
+    requires { All (λ attribute. length attribute.1.now ≤ 253) attributes.now }
+    ensures { IfOk result (λ more. more.code ≡ body.code) }
+{
+    let mut body = body;
+    for (kind, value) in attributes {
+        body.push(*kind, value)?;
+    }
+    Ok(body)
 }
 
 // Names of 4 to 12 octets.
@@ -86,18 +123,23 @@ fn user_name(place: u8) -> &'static [u8]
     &b"abcdefghijkl"[..4 + place as usize % 9]
 }
 
+// With a User-Name and a NAS-Port, which differ from place to place.
+fn with_names(body: Body, place: u8) -> Result<Body, AllocError>
+    ensures { IfOk result (λ more. more.code ≡ body.code) }
+{
+    let mut body = body;
+    body.push(attribute::USER_NAME, user_name(place))?;
+    body.push(attribute::NAS_PORT, &[0, 0, 0, place])?;
+    Ok(body)
+}
+
 // 99 to 107 octets.
 fn access_request(alloc: Global, place: u8) -> Result<Body, AllocError>
     ensures { IfOk result (λ body. body.code ≡ 1) }
 {
-    let mut body = Body::new(alloc, code::ACCESS_REQUEST);
-    body.push(attribute::MESSAGE_AUTHENTICATOR, &[0; 16])?;
-    body.push(attribute::USER_NAME, user_name(place))?;
+    let body = with(Body::new(alloc, code::ACCESS_REQUEST), &ACCESS)?;
+    let mut body = with_names(body, place)?;
     body.push(attribute::USER_PASSWORD, &[place; 16])?;
-    body.push(attribute::NAS_IP_ADDRESS, b"\xc0\xa8\x01\x10")?;
-    body.push(attribute::NAS_PORT, &[0, 0, 0, place])?;
-    body.push(NAS_PORT_TYPE, b"\0\0\0\x0f")?;
-    body.push(CALLING_STATION_ID, b"02-00-00-00-00-01")?;
     Ok(body)
 }
 
@@ -105,24 +147,9 @@ fn access_request(alloc: Global, place: u8) -> Result<Body, AllocError>
 fn accounting_request(alloc: Global, place: u8) -> Result<Body, AllocError>
     ensures { IfOk result (λ body. body.code ≡ 4) }
 {
-    let mut body = Body::new(alloc, code::ACCOUNTING_REQUEST);
-    body.push(attribute::ACCT_STATUS_TYPE, b"\0\0\0\x03")?;
-    body.push(ACCT_SESSION_ID, b"5f3a9c01")?;
-    body.push(attribute::USER_NAME, user_name(place))?;
-    body.push(attribute::NAS_IP_ADDRESS, b"\xc0\xa8\x01\x10")?;
-    body.push(attribute::NAS_PORT, &[0, 0, 0, place])?;
-    body.push(NAS_PORT_TYPE, b"\0\0\0\x0f")?;
-    body.push(SERVICE_TYPE, b"\0\0\0\x02")?;
+    let body = with(Body::new(alloc, code::ACCOUNTING_REQUEST), &ACCOUNTING)?;
+    let mut body = with_names(body, place)?;
     body.push(FRAMED_IP_ADDRESS, &[10, 0, 0, place])?;
-    body.push(CLASS, b"class-of-12o")?;
-    body.push(CALLING_STATION_ID, b"02-00-00-00-00-01")?;
-    body.push(ACCT_SESSION_TIME, b"\0\0\x0e\x10")?;
-    body.push(ACCT_INPUT_OCTETS, b"\x01\x23\x45\x67")?;
-    body.push(ACCT_OUTPUT_OCTETS, b"\x12\x34\x56\x78")?;
-    body.push(ACCT_INPUT_PACKETS, b"\0\x01\x23\x45")?;
-    body.push(ACCT_OUTPUT_PACKETS, b"\0\x12\x34\x56")?;
-    body.push(EVENT_TIMESTAMP, b"\x65\x43\x21\0")?;
-    body.push(ACCT_DELAY_TIME, b"\0\0\0\0")?;
     Ok(body)
 }
 

@@ -1,6 +1,6 @@
 // Nanoseconds a digest and a sum: rad_md5 and rad_hmac beside the toolchain's md5 and OpenSSL, over the same messages.
 #define OPENSSL_SUPPRESS_DEPRECATED
-#include "../bench.h"
+#include "bench.h"
 #include <openssl/md5.h>
 #include <stdbool.h>
 #include <stdint.h>
@@ -12,7 +12,7 @@ enum { MESSAGES = 64, SLOT = 256, DIGEST = 16, BLOCK = 64, ROUNDS = 50, TRIES = 
 typedef void work(const uint8_t *slots, size_t slots_len, const uint32_t *lengths, size_t lengths_len,
                   uint32_t rounds, uint8_t *out, size_t out_len);
 
-// Of crates/digests_c.
+// Of crates/bench_c.
 work radpool_digest_each, radpool_digest8, radpool_hmac8, kit_md5, kit_hmac;
 
 static void openssl_md5(const uint8_t *slots, size_t slots_len, const uint32_t *lengths, size_t lengths_len,

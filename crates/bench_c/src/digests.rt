@@ -1,14 +1,12 @@
-//! Digests and sums for a program in C that measures them: `bench/digests`.
+//! Digests and sums: `bench/digests.c`.
 //!
 //! Each export takes messages, one in each slot of 256 octets, does its work over them as many times as it is told, and
 //! writes what it made of them one after the other. A message is cut as a server cuts a packet: a header of 4 octets, an
 //! authenticator of 16, attributes, and a secret of 9.
-#![tactic(auto)]
-
 ghost use Rattle.std.specs.Prelude.{◌≡◌, ◌+◌, ◌-◌, ◌*◌, ◌<◌, ◌≤◌, ◌^◌, length};
 ghost use Rattle.rad_md5.specs.Pieces.{HasFreePiece, message};
 
-use md5::{Digest, Md5};
+use crate::plain;
 use rad_hmac::{Key, hmac8};
 use rad_md5::{DIGEST_LEN, LANES, Pieces, digest_each, digest8};
 use std::alloc::{AllocError, Global};
@@ -79,21 +77,6 @@ fn sum_eight(key: &Key, slots: &[u8], lengths: &[u32], i: usize) -> [[u8; DIGEST
         (key, cut(message(slots, lengths, i + 6))),
         (key, cut(message(slots, lengths, i + 7))),
     ])
-}
-
-// The sum of one message by the plain formula.
-fn sum(key: &[u8; SECRET_LEN], message: &[u8]) -> [u8; DIGEST_LEN] {
-    let mut inner_pad = [0x36; 64];
-    let mut outer_pad = [0x5C; 64];
-    for i in 0..SECRET_LEN {
-        inner_pad[i] ^= key[i];
-        outer_pad[i] ^= key[i];
-    }
-    let mut inner = Md5::new_with_prefix(&inner_pad);
-    inner.update(message);
-    let mut outer = Md5::new_with_prefix(&outer_pad);
-    outer.update(&inner.finalize());
-    outer.finalize()
 }
 
 // Writes digests one after the other, as far as there is room.
@@ -183,7 +166,7 @@ pub extern "C" fn kit_md5(slots: &[u8], lengths: &[u32], rounds: u32, out: &mut 
     for _ in 0..rounds {
         for i in 0..lengths.len() {
             lay_out(
-                &[Md5::digest(message(slots, lengths, i))],
+                &[plain::digest(&[message(slots, lengths, i)])],
                 &mut out[DIGEST_LEN * i..],
             );
         }
@@ -199,7 +182,7 @@ pub extern "C" fn kit_hmac(slots: &[u8], lengths: &[u32], rounds: u32, out: &mut
     for _ in 0..rounds {
         for i in 0..lengths.len() {
             lay_out(
-                &[sum(SECRET, message(slots, lengths, i))],
+                &[plain::sum(SECRET, &[message(slots, lengths, i)])],
                 &mut out[DIGEST_LEN * i..],
             );
         }

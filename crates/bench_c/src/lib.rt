@@ -1,0 +1,8 @@
+//! What the programs in C of `bench/` measure, a module for each of them.
+#![tactic(auto)]
+
+mod admission;
+mod config;
+mod digests;
+mod passwords;
+mod plain;
