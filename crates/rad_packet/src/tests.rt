@@ -66,6 +66,11 @@ fn datagram(alloc: Global, len: u16, more: &[u8], came: usize) -> Result<Vec<u8>
 fn has_attribute(rt: &impl Abort, packet: &Packet<'_>, want: Attribute<'_>, name: &str) {
     let is_first = packet.first(want.kind) == Some(want.value);
     holds(rt, is_first, "the first of a Type", name);
+    let len = want.value.len();
+    let is_first = packet.first_of_len(want.kind, len) == Some(want.value);
+    holds(rt, is_first, "the first of a Type and length", name);
+    let is_none = packet.first_of_len(want.kind, len + 1).is_none();
+    holds(rt, is_none, "none of another length", name);
     holds(
         rt,
         packet.count(want.kind) == 1,
