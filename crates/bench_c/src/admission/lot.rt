@@ -86,10 +86,10 @@ fn with_client(clients: Clients, address: u32, secret: &[u8]) -> Result<Clients,
     ensures { IfOk result (λ more. length more ≡ length clients + 1) }
 {
     let mut clients = clients;
-    match clients.add(address, secret, false) {
-        Ok(()) => Ok(clients),
-        Err(_) => Err(AllocError),
+    if clients.add(address, secret, false).is_err() {
+        return Err(AllocError);
     }
+    Ok(clients)
 }
 
 fn four_clients(alloc: Global) -> Result<Clients, AllocError>
