@@ -1,5 +1,5 @@
-// Nanoseconds a datagram: rad_auth's check8 and seal8 beside the digests and sums of the same datagrams and replies alone,
-// made one after the other by the toolchain's md5.
+// Nanoseconds a datagram: rad_auth's check8 and seal8 beside the digests and sums alone of the same datagrams and
+// replies, made one after the other by the toolchain's md5.
 #include "bench.h"
 #include <stdbool.h>
 #include <stdint.h>
@@ -8,8 +8,8 @@
 
 enum { REQUESTS = 64, SLOT = 128, ROUNDS = 50, TRIES = 1000 };
 
-// Makes a lot of a kind, does its work over all requests so many times, and answers how many requests were right, or how
-// many replies were written. The last replies are laid out in the requests' slots.
+// Makes a lot of a kind, does its work over all requests so many times, and answers how many requests were right, or
+// how many replies were written. The last replies are laid out in the requests' slots.
 typedef size_t work(uint32_t kind, uint32_t rounds, uint8_t *out, size_t out_len);
 
 // Of crates/bench_c.

@@ -1,8 +1,8 @@
 //! Admission and sealing: `bench/admission.c`.
 //!
 //! Each export makes a lot of 64 requests from four clients and the bodies of their replies, and does its work over all
-//! of them as many times as it is told. Those that seal write the replies of the last time, each in a slot of 128 octets.
-//! Each answers how many requests were let in, or how many replies were written; 0 where there is no memory for the lot.
+//! of them as many times as it is told. Those that seal lay out the last replies, each in a slot of 128 octets. Each
+//! answers how many requests were right, or how many replies were written; 0 where there is no memory for the lot.
 //!
 //! What `check8` and `seal8` do eight side by side is compared with the digests and sums alone of the same octets, made
 //! one after the other by the toolchain's `md5`. A check finds the client's secret, reads the packet, makes its digest

@@ -1,5 +1,5 @@
-//! Digests and sums one after the other, by the plain formulas over the toolchain's `md5`. The works that take many side
-//! by side are compared with these.
+//! Digests and sums one after the other, by the plain formulas over the toolchain's `md5`: what the works that take many
+//! side by side are compared with.
 ghost use Rattle.std.specs.Prelude.{◌≤◌, length};
 
 use md5::{Digest, Md5};
