@@ -34,6 +34,3 @@ pub use discard::Discard;
 pub use password::{PASSWORD_MAX, hide, password_right, reveal, value_fits};
 pub use seal::{Job, response_authenticator, seal8, sign_request};
 pub use secret::{SECRET_MAX, Secret};
-
-#[cfg(test)]
-mod tests;

@@ -1,8 +1,10 @@
 //! What an Accounting-Request says, and what its attributes are.
 
-use super::{CLIENT, Told, three_clients, told_of};
-use crate::Discard::{BadAuthenticator, NoStatusType};
-use crate::Door::Acct;
+use super::{CLIENT, Told, is_told, three_clients};
+use rad_auth::Clients;
+use rad_auth::Discard::{BadAuthenticator, NoStatusType};
+use rad_auth::Door::Acct;
+use std::process::Abort;
 use std::test::Fail;
 
 // Accounting-Requests of the first client, Identifier 7: the name, the octets, and what is told.
@@ -106,15 +108,14 @@ const CASES: [(&str, &[u8], Told); 13] = [
     ),
 ];
 
+fn are_told(rt: &impl Abort, clients: &Clients) {
+    for (name, octets, want) in CASES {
+        is_told(rt, clients, (CLIENT, Acct), octets, want, name);
+    }
+}
+
 #[test]
 fn accounting_requests_are_told_their_verdicts(rt: HostRuntime) -> Result<(), Fail> {
-    let clients = three_clients(rt.alloc())?;
-    for (name, octets, want) in CASES {
-        assert_eq!(rt;
-            told_of(&clients, CLIENT, Acct, octets),
-            Some(want),
-            "{name}"
-        );
-    }
+    are_told(&rt, &three_clients(&rt, rt.alloc())?);
     Ok(())
 }

@@ -2,6 +2,7 @@
 //! RFC 5997, section 6.
 ghost use Rattle.std.specs.Prelude.{◌≤◌};
 ghost use Rattle.rad_packet.specs.Attributes.{value_max};
+ghost use Rattle.rad_auth.specs.Clients.{IsSecret};
 
 mod accounting;
 mod changed_bits;
@@ -16,9 +17,13 @@ mod proxy_states;
 mod replies;
 mod requests;
 
-use crate::{Arrival, ClientFault, Clients, Discard, Door, Request, check8};
-use rad_packet::{Body, attribute};
+use rad_auth::{
+    Arrival, CLIENTS_MAX, ClientFault, Clients, Discard, Door, Request, Secret, check8,
+    sign_request,
+};
+use rad_packet::{Body, Frame, TooLong, attribute, code};
 use std::alloc::{AllocError, Global};
+use std::process::Abort;
 
 // 192.168.1.16
 const CLIENT: u32 = 0xC0A8_0110;
@@ -95,13 +100,25 @@ const OTHER_START: &[u8; 26] = b"\
     \xa4\x86\xa9\x80\x1a\xb3\x96\x5b\xc0\x60\xc1\xbb\x88\x9e\xb4\xff\
     \x28\x06\x00\x00\x00\x01";
 
-// Three clients, of whom the first and the last have the same secret.
-fn three_clients(alloc: Global) -> Result<Clients, ClientFault> {
-    let mut clients = Clients::new(alloc);
-    clients.add(CLIENT, SECRET, false)?;
-    clients.add(OTHER_CLIENT, OTHER_SECRET, false)?;
-    clients.add(STRICT_CLIENT, SECRET, true)?;
+// An address, a secret, and whether requests need a Message-Authenticator.
+type Row<'a> = (u32, &'a [u8], bool);
+
+// The clients and one more.
+fn with(rt: &impl Abort, clients: Clients, row: Row<'_>) -> Result<Clients, ClientFault>
+    requires { IsSecret row.1.now }
+{
+    let mut clients = clients;
+    assert!(rt; clients.len() < CLIENTS_MAX);
+    let (address, secret, require_message_authenticator) = row;
+    clients.add(address, secret, require_message_authenticator)?;
     Ok(clients)
+}
+
+// Three clients, of whom the first and the last have the same secret.
+fn three_clients(rt: &impl Abort, alloc: Global) -> Result<Clients, ClientFault> {
+    let clients = with(rt, Clients::new(alloc), (CLIENT, SECRET, false))?;
+    let clients = with(rt, clients, (OTHER_CLIENT, OTHER_SECRET, false))?;
+    with(rt, clients, (STRICT_CLIENT, SECRET, true))
 }
 
 fn arrival(source: u32, door: Door, octets: &[u8]) -> Option<Arrival<'_>> {
@@ -124,7 +141,22 @@ fn told(lane: &Option<Result<Request, Discard>>) -> Option<Told> {
     }
 }
 
-// What `check8` tells of one arrival.
+// What `check8` tells of eight arrivals.
+fn told_of_eight(clients: &Clients, arrivals: &[Option<Arrival>; 8]) -> [Option<Told>; 8] {
+    let verdicts = check8(clients, arrivals);
+    [
+        told(&verdicts[0]),
+        told(&verdicts[1]),
+        told(&verdicts[2]),
+        told(&verdicts[3]),
+        told(&verdicts[4]),
+        told(&verdicts[5]),
+        told(&verdicts[6]),
+        told(&verdicts[7]),
+    ]
+}
+
+// What it tells of one.
 fn told_of(clients: &Clients, source: u32, door: Door, octets: &[u8]) -> Option<Told> {
     let arrivals = [
         arrival(source, door, octets),
@@ -139,14 +171,67 @@ fn told_of(clients: &Clients, source: u32, door: Door, octets: &[u8]) -> Option<
     told(&check8(clients, &arrivals)[0])
 }
 
-// A body with so many Proxy-State attributes of 255 octets, and one more with a Value of so many.
-fn proxied(alloc: Global, code: u8, whole: usize, last: usize) -> Result<Body, AllocError>
+// Asserts what a datagram is told.
+fn is_told(
+    rt: &impl Abort,
+    clients: &Clients,
+    (source, door): (u32, Door),
+    octets: &[u8],
+    want: Told,
+    what: &str,
+) {
+    let told = told_of(clients, source, door, octets);
+    assert_eq!(rt; told, Some(want), "{what} from {source:x} to {door:?}");
+}
+
+fn holds(rt: &impl Abort, is_so: bool, what: &str) {
+    assert!(rt; is_so, "{what}");
+}
+
+// Of a row that has a number.
+fn holds_at(rt: &impl Abort, is_so: bool, what: &str, number: usize) {
+    assert!(rt; is_so, "{what}: {number}");
+}
+
+fn are_octets(rt: &impl Abort, octets: &[u8], want: &[u8], what: &str) {
+    assert_eq!(rt; octets, want, "{what}");
+}
+
+// The Type and the Value of an attribute.
+type Pair = (u8, &'static [u8]);
+
+// Adds attributes to a body.
+fn extend(rt: &impl Abort, body: &mut Body, more: &[Pair]) -> Result<(), AllocError> {
+    for (kind, value) in more {
+        assert!(rt; value.len() <= attribute::VALUE_MAX);
+        body.push(*kind, value)?;
+    }
+    Ok(())
+}
+
+// Adds so many Proxy-State attributes of 255 octets to a body, and one more with a Value of so many.
+fn extend_by_proxies(body: &mut Body, whole: usize, last: usize) -> Result<(), AllocError>
     requires { last ≤ value_max }
 {
-    let mut body = Body::new(alloc, code);
     for _ in 0..whole {
         body.push(attribute::PROXY_STATE, &[0; attribute::VALUE_MAX])?;
     }
-    body.push(attribute::PROXY_STATE, &[0; attribute::VALUE_MAX][..last])?;
-    Ok(body)
+    body.push(attribute::PROXY_STATE, &[0; attribute::VALUE_MAX][..last])
+}
+
+// Signs a request of one of the three Codes.
+fn sign(
+    rt: &impl Abort,
+    frame: &mut Frame,
+    body: &Body,
+    (id, authenticator): (u8, &[u8; 16]),
+    secret: &Secret,
+) -> Result<(), TooLong> {
+    let code = body.code();
+    assert!(rt;
+        code == code::ACCESS_REQUEST
+            || code == code::ACCOUNTING_REQUEST
+            || code == code::STATUS_SERVER
+    );
+    sign_request(body, id, authenticator, secret, frame)
 }

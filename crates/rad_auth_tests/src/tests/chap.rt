@@ -1,7 +1,8 @@
 //! CHAP-Passwords: the responses to challenges, and values that have them.
 
-use super::REQUEST_AUTHENTICATOR;
-use crate::{CHAP_VALUE_LEN, chap_response, chap_right};
+use super::{REQUEST_AUTHENTICATOR, are_octets, holds, holds_at};
+use rad_auth::{CHAP_VALUE_LEN, chap_response, chap_right};
+use std::process::Abort;
 
 const LONGEST_PASSWORD: &[u8; 128] = b"\
     a password of one hundred and twenty-eight octets, which are as many as a password may have; \
@@ -85,16 +86,21 @@ const CASES: [Case; 8] = [
     ),
 ];
 
+// Asserts that a password gives its response, and that a value with it is right.
+fn has_response(rt: &impl Abort, case: Case) {
+    let (name, identifier, password, len, want) = case;
+    let longest = longest_challenge();
+    let challenge = &longest[..len.min(4096)];
+    let response = chap_response(identifier, password, challenge);
+    are_octets(rt, &response, want, name);
+    let right = chap_right(&value(identifier, want), password, challenge);
+    holds(rt, right, name);
+}
+
 #[test]
 fn each_challenge_has_its_response(rt: HostRuntime) {
-    let longest = longest_challenge();
-    for (name, identifier, password, len, want) in CASES {
-        assert!(rt; len <= longest.len(), "{name}");
-        let challenge = &longest[..len];
-        let response = chap_response(identifier, password, challenge);
-        assert_eq!(rt; response, *want, "{name}");
-        let value = value(identifier, want);
-        assert!(rt; chap_right(&value, password, challenge), "{name}");
+    for case in CASES {
+        has_response(&rt, case);
     }
 }
 
@@ -116,53 +122,82 @@ const RFC_VALUE: &[u8; CHAP_VALUE_LEN] =
 const RFC_CHALLENGE: &[u8; 16] =
     b"\x2a\xee\x86\xf0\x8d\x0d\x55\x96\x9c\xa5\x97\x8e\x0d\x33\x67\xa2";
 
+// The first 15 octets of the Request Authenticator.
+const SHORTER: &[u8; 15] = b"\x0f\x40\x3f\x94\x73\x97\x80\x57\xbd\x83\xd5\xcb\x98\xf4\x22";
+
+// A name, a value, a password, a challenge, and whether the password is right.
+type Answer = (
+    &'static str,
+    &'static [u8; CHAP_VALUE_LEN],
+    &'static [u8],
+    &'static [u8],
+    bool,
+);
+
+const ANSWERS: [Answer; 12] = [
+    ("the password", VALUE, b"shark", REQUEST_AUTHENTICATOR, true),
+    (
+        "identifier 8",
+        OTHER_VALUE,
+        b"shark",
+        REQUEST_AUTHENTICATOR,
+        true,
+    ),
+    ("the RFC", RFC_VALUE, b"arctangent", RFC_CHALLENGE, true),
+    (
+        "7 as 8",
+        IDENTIFIER_CHANGED,
+        b"shark",
+        REQUEST_AUTHENTICATOR,
+        false,
+    ),
+    (
+        "a capital letter",
+        VALUE,
+        b"Shark",
+        REQUEST_AUTHENTICATOR,
+        false,
+    ),
+    ("its front", VALUE, b"shar", REQUEST_AUTHENTICATOR, false),
+    (
+        "an octet more",
+        VALUE,
+        b"sharks",
+        REQUEST_AUTHENTICATOR,
+        false,
+    ),
+    (
+        "a zero more",
+        VALUE,
+        b"shark\0",
+        REQUEST_AUTHENTICATOR,
+        false,
+    ),
+    ("no octets", VALUE, b"", REQUEST_AUTHENTICATOR, false),
+    (
+        "another challenge",
+        VALUE,
+        b"shark",
+        b"Sixteen octets..",
+        false,
+    ),
+    ("a shorter challenge", VALUE, b"shark", SHORTER, false),
+    ("no challenge", VALUE, b"shark", b"", false),
+];
+
 #[test]
 fn a_value_is_of_one_password_and_challenge(rt: HostRuntime) {
-    let challenge = REQUEST_AUTHENTICATOR.as_slice();
-    for (name, value, password, challenge, want) in [
-        ("the password", VALUE, b"shark".as_slice(), challenge, true),
-        ("identifier 8", OTHER_VALUE, b"shark", challenge, true),
-        (
-            "the RFC",
-            RFC_VALUE,
-            b"arctangent",
-            RFC_CHALLENGE.as_slice(),
-            true,
-        ),
-        ("7 as 8", IDENTIFIER_CHANGED, b"shark", challenge, false),
-        ("a capital letter", VALUE, b"Shark", challenge, false),
-        ("its front", VALUE, b"shar", challenge, false),
-        ("an octet more", VALUE, b"sharks", challenge, false),
-        ("a zero more", VALUE, b"shark\0", challenge, false),
-        ("no octets", VALUE, b"", challenge, false),
-        (
-            "another challenge",
-            VALUE,
-            b"shark",
-            b"Sixteen octets..",
-            false,
-        ),
-        (
-            "a shorter challenge",
-            VALUE,
-            b"shark",
-            &challenge[..15],
-            false,
-        ),
-        ("no challenge", VALUE, b"shark", b"", false),
-    ] {
-        assert_eq!(rt; chap_right(value, password, challenge), want, "{name}");
+    for (name, value, password, challenge, want) in ANSWERS {
+        holds(&rt, chap_right(value, password, challenge) == want, name);
     }
 }
 
 #[test]
 fn each_bit_of_a_value_counts(rt: HostRuntime) {
-    for place in 0..CHAP_VALUE_LEN {
-        for bit in 0u32..8 {
-            let mut turned = *VALUE;
-            turned[place] ^= 1 << bit;
-            let right = chap_right(&turned, b"shark", REQUEST_AUTHENTICATOR);
-            assert!(rt; !right, "bit {bit} of octet {place}");
-        }
+    for bit in 0..8 * CHAP_VALUE_LEN {
+        let mut turned = *VALUE;
+        turned[bit / 8] ^= 1 << (bit % 8);
+        let right = chap_right(&turned, b"shark", REQUEST_AUTHENTICATOR);
+        holds_at(&rt, !right, "a bit", bit);
     }
 }

@@ -1,7 +1,0 @@
-use Rattle.std.specs.Prelude.{IfSome}
-use Rattle.rad_auth.specs.Sealing.{IsJob}
-use Rattle.rad_auth.proofs.LaneLemmas.{eight_hold}
-use Rattle.rad_auth.proofs.tests.replies.seal_three.Goals as goal
-
-pub seal8-requires : goal.seal8-requires
-seal8-requires c = eight_hold (λ lane. IfSome lane IsJob) _ _ _ _ _ _ _ _ c.job-first.ensures tt tt tt tt c.job-sixth.ensures tt c.job-last.ensures

@@ -1,0 +1,29 @@
+//! Discards as they are printed.
+
+use super::holds;
+use rad_auth::Discard;
+
+const LABELS: [(Discard, u8, &str); 11] = [
+    (Discard::UnknownClient, 1, "UnknownClient"),
+    (Discard::Short, 2, "Short"),
+    (Discard::BadLength, 3, "BadLength"),
+    (Discard::Truncated, 4, "Truncated"),
+    (Discard::BadAttributes, 5, "BadAttributes"),
+    (Discard::WrongCode, 6, "WrongCode"),
+    (Discard::BadAuthenticator, 7, "BadAuthenticator"),
+    (
+        Discard::BadMessageAuthenticator,
+        8,
+        "BadMessageAuthenticator",
+    ),
+    (Discard::NoMessageAuthenticator, 9, "NoMessageAuthenticator"),
+    (Discard::NoStatusType, 10, "NoStatusType"),
+    (Discard::ProxyStateTooLong, 11, "ProxyStateTooLong"),
+];
+
+#[test]
+fn each_discard_has_its_label(rt: HostRuntime) {
+    for (discard, number, name) in LABELS {
+        holds(&rt, discard.label() == (number, name), name);
+    }
+}

@@ -1,0 +1,392 @@
+//! Message-Authenticators of Access-Requests: how many, of what length, over what, and where among the attributes.
+
+use super::{
+    ACCESS_REQUEST, CLIENT, OTHER_CLIENT, STRANGER, STRICT_CLIENT, Told, is_told, three_clients,
+};
+use rad_auth::Clients;
+use rad_auth::Discard::{
+    BadAttributes, BadMessageAuthenticator, NoMessageAuthenticator, Truncated, UnknownClient,
+};
+use rad_auth::Door::Auth;
+use std::alloc::{AllocError, Global};
+use std::process::Abort;
+use std::test::Fail;
+
+const SUM: &[u8; 18] = b"\x50\x12\x63\xb7\x8a\x6b\x9d\x2f\x14\x99\x89\xfb\xf5\x7e\xa2\x1d\x19\x4c";
+
+// The same octets as an attribute of another Type.
+const OTHER_TYPE: &[u8; 18] =
+    b"\x51\x12\x63\xb7\x8a\x6b\x9d\x2f\x14\x99\x89\xfb\xf5\x7e\xa2\x1d\x19\x4c";
+
+// Under the other client's secret.
+const OTHER_SUM: &[u8; 18] =
+    b"\x50\x12\x32\xbc\x70\xcc\x99\x42\x51\x6f\xdb\x53\xad\xb0\xe4\xf4\x09\x3b";
+
+const PADDED_SUM: &[u8; 21] =
+    b"\x50\x12\x63\xb7\x8a\x6b\x9d\x2f\x14\x99\x89\xfb\xf5\x7e\xa2\x1d\x19\x4cabc";
+
+const SUM_OVER_PADDING: &[u8; 21] =
+    b"\x50\x12\x64\xa3\x8b\xfd\x77\xac\x7f\xd2\x7c\x43\x97\x00\x75\x34\xf8\xd5abc";
+
+// Over the RFC's request alone.
+const SUM_OVER_OTHERS: &[u8; 18] =
+    b"\x50\x12\xec\xe3\x20\x85\x3d\x91\xe0\x48\x43\x2b\x28\x97\x70\x31\xc6\x76";
+
+// With zeros in the Authenticator's place too.
+const SUM_OVER_ZEROS: &[u8; 18] =
+    b"\x50\x12\x3c\xc9\xfe\x49\x53\x5d\xd7\x14\x9c\x8b\x1d\xe2\xfc\x8e\xad\x04";
+
+const SUM_AND_TEXT: &[u8; 36] = b"\
+    \x50\x12\x18\xfc\xe4\x04\x9a\x22\x25\xd1\xe2\x54\x04\x26\x3d\xff\x20\xa6\
+    \x50\x12Sixteen octets..";
+
+const TEXT_AND_SUM: &[u8; 36] = b"\
+    \x50\x12Sixteen octets..\
+    \x50\x12\xda\x45\x4f\x1a\x0b\x1f\x02\x33\xf9\xb5\x91\x7f\x25\x36\xdc\xa3";
+
+// The sum over both as zeros, in both.
+const SUM_TWICE: &[u8; 36] = b"\
+    \x50\x12\xb7\x6e\x32\x9a\x78\xbb\xea\xba\xa3\x23\x04\x31\x93\xce\xb9\x46\
+    \x50\x12\xb7\x6e\x32\x9a\x78\xbb\xea\xba\xa3\x23\x04\x31\x93\xce\xb9\x46";
+
+const SHORT_AND_SUM: &[u8; 23] = b"\
+    \x50\x05abc\
+    \x50\x12\x16\xbd\xcb\xca\x4d\xd2\x7b\xcd\xc9\x19\xad\xd4\xd8\xb9\x3c\x7f";
+
+const SUM_AND_SHORT: &[u8; 23] = b"\
+    \x50\x12\x93\xc5\x6d\x66\x1a\xad\x5c\xa9\xb5\x02\x33\xe9\x44\xf4\x60\x8a\
+    \x50\x05abc";
+
+const EAP_AND_SUM: &[u8; 21] = b"\
+    \x4f\x03a\
+    \x50\x12\x54\xa6\x6c\x24\x3b\xa4\x57\x28\x35\xc1\x7e\x99\xd7\x94\x5d\x6c";
+
+const SUM_AND_EAP: &[u8; 21] = b"\
+    \x50\x12\x7a\xf4\x5c\xd5\x42\xeb\x59\x0d\x6c\xcd\xd0\xf9\x5f\xb4\x64\x5f\
+    \x4f\x03a";
+
+// The sum that is right before the EAP-Message.
+const EAP_AND_WRONG_SUM: &[u8; 21] = b"\
+    \x4f\x03a\
+    \x50\x12\x7a\xf4\x5c\xd5\x42\xeb\x59\x0d\x6c\xcd\xd0\xf9\x5f\xb4\x64\x5f";
+
+const ZEROS: &[u8; 18] = b"\x50\x12\0\0\0\0\0\0\0\0\0\0\0\0\0\0\0\0";
+
+// What stands behind the RFC's request: its name, the source, the Length, the octets, and what is told.
+type Case = (&'static str, u32, u16, &'static [u8], Told);
+
+// Those that are let in.
+const LET_IN: [Case; 13] = [
+    ("nothing", CLIENT, 56, b"", Ok((0, 0))),
+    ("padding", CLIENT, 56, b"abc", Ok((0, 0))),
+    ("zeros past Length", CLIENT, 56, ZEROS, Ok((0, 0))),
+    ("the sum", CLIENT, 74, SUM, Ok((0, 0))),
+    ("the sum and padding", CLIENT, 74, PADDED_SUM, Ok((0, 0))),
+    (
+        "the sum with another Type",
+        CLIENT,
+        74,
+        OTHER_TYPE,
+        Ok((0, 0)),
+    ),
+    (
+        "an EAP-Message and the sum",
+        CLIENT,
+        77,
+        EAP_AND_SUM,
+        Ok((0, 0)),
+    ),
+    (
+        "the sum and an EAP-Message",
+        CLIENT,
+        77,
+        SUM_AND_EAP,
+        Ok((0, 0)),
+    ),
+    ("nothing", OTHER_CLIENT, 56, b"", Ok((1, 0))),
+    ("the sum", OTHER_CLIENT, 74, OTHER_SUM, Ok((1, 0))),
+    ("the sum", STRICT_CLIENT, 74, SUM, Ok((2, 0))),
+    (
+        "the sum and padding",
+        STRICT_CLIENT,
+        74,
+        PADDED_SUM,
+        Ok((2, 0)),
+    ),
+    (
+        "the sum behind EAP",
+        STRICT_CLIENT,
+        77,
+        EAP_AND_SUM,
+        Ok((2, 0)),
+    ),
+];
+
+// Those with a wrong or doubled one.
+const WRONG: [Case; 15] = [
+    ("zeros", CLIENT, 74, ZEROS, Err(BadMessageAuthenticator)),
+    (
+        "no octets",
+        CLIENT,
+        58,
+        b"\x50\x02",
+        Err(BadMessageAuthenticator),
+    ),
+    (
+        "15 octets",
+        CLIENT,
+        73,
+        b"\x50\x11fifteen octets.",
+        Err(BadMessageAuthenticator),
+    ),
+    (
+        "17 octets",
+        CLIENT,
+        75,
+        b"\x50\x13seventeen octets.",
+        Err(BadMessageAuthenticator),
+    ),
+    (
+        "another client's sum",
+        OTHER_CLIENT,
+        74,
+        SUM,
+        Err(BadMessageAuthenticator),
+    ),
+    (
+        "the sum over padding too",
+        CLIENT,
+        74,
+        SUM_OVER_PADDING,
+        Err(BadMessageAuthenticator),
+    ),
+    (
+        "the sum over the others",
+        CLIENT,
+        74,
+        SUM_OVER_OTHERS,
+        Err(BadMessageAuthenticator),
+    ),
+    (
+        "the sum over zeros",
+        CLIENT,
+        74,
+        SUM_OVER_ZEROS,
+        Err(BadMessageAuthenticator),
+    ),
+    (
+        "the sum and text",
+        CLIENT,
+        92,
+        SUM_AND_TEXT,
+        Err(BadMessageAuthenticator),
+    ),
+    (
+        "text and the sum",
+        CLIENT,
+        92,
+        TEXT_AND_SUM,
+        Err(BadMessageAuthenticator),
+    ),
+    (
+        "the sum twice",
+        CLIENT,
+        92,
+        SUM_TWICE,
+        Err(BadMessageAuthenticator),
+    ),
+    (
+        "the sum twice",
+        STRICT_CLIENT,
+        92,
+        SUM_TWICE,
+        Err(BadMessageAuthenticator),
+    ),
+    (
+        "3 octets and the sum",
+        CLIENT,
+        79,
+        SHORT_AND_SUM,
+        Err(BadMessageAuthenticator),
+    ),
+    (
+        "the sum and 3 octets",
+        CLIENT,
+        79,
+        SUM_AND_SHORT,
+        Err(BadMessageAuthenticator),
+    ),
+    (
+        "EAP and a wrong sum",
+        CLIENT,
+        77,
+        EAP_AND_WRONG_SUM,
+        Err(BadMessageAuthenticator),
+    ),
+];
+
+// Those that have none, and other discards.
+const OTHERS: [Case; 12] = [
+    (
+        "Length 57 of 56 octets",
+        STRANGER,
+        57,
+        b"",
+        Err(UnknownClient),
+    ),
+    ("the sum", STRANGER, 74, SUM, Err(UnknownClient)),
+    ("Length 57 of 56 octets", CLIENT, 57, b"", Err(Truncated)),
+    (
+        "Length 57 of 56 octets",
+        STRICT_CLIENT,
+        57,
+        b"",
+        Err(Truncated),
+    ),
+    (
+        "an attribute of Length 1",
+        CLIENT,
+        58,
+        b"\x07\x01",
+        Err(BadAttributes),
+    ),
+    (
+        "the sum and one octet",
+        CLIENT,
+        75,
+        PADDED_SUM,
+        Err(BadAttributes),
+    ),
+    (
+        "an EAP-Message",
+        CLIENT,
+        59,
+        b"\x4f\x03a",
+        Err(NoMessageAuthenticator),
+    ),
+    (
+        "an EAP-Message",
+        STRICT_CLIENT,
+        59,
+        b"\x4f\x03a",
+        Err(NoMessageAuthenticator),
+    ),
+    (
+        "an EAP-Message of no octets",
+        CLIENT,
+        58,
+        b"\x4f\x02",
+        Err(NoMessageAuthenticator),
+    ),
+    (
+        "nothing",
+        STRICT_CLIENT,
+        56,
+        b"",
+        Err(NoMessageAuthenticator),
+    ),
+    (
+        "the sum past Length",
+        STRICT_CLIENT,
+        56,
+        SUM,
+        Err(NoMessageAuthenticator),
+    ),
+    (
+        "the sum with another Type",
+        STRICT_CLIENT,
+        74,
+        OTHER_TYPE,
+        Err(NoMessageAuthenticator),
+    ),
+];
+
+// The RFC's request with another Length, and with more octets behind it.
+fn extended(alloc: Global, len: u16, more: &[u8]) -> Result<Vec<u8>, AllocError> {
+    let request = ACCESS_REQUEST.as_slice();
+    let mut octets = Vec::new(alloc);
+    octets.extend_from_slice(&request[..2])?;
+    octets.extend_from_slice(&len.to_be_bytes())?;
+    octets.extend_from_slice(&request[4..])?;
+    octets.extend_from_slice(more)?;
+    Ok(octets)
+}
+
+fn is_case(
+    rt: &impl Abort,
+    alloc: Global,
+    clients: &Clients,
+    case: Case,
+) -> Result<(), AllocError> {
+    let (name, source, len, more, want) = case;
+    let octets = extended(alloc, len, more)?;
+    is_told(rt, clients, (source, Auth), &octets, want, name);
+    Ok(())
+}
+
+fn right_are_told(rt: &impl Abort, alloc: Global, clients: &Clients) -> Result<(), AllocError> {
+    for case in LET_IN {
+        is_case(rt, alloc, clients, case)?;
+    }
+    Ok(())
+}
+
+fn wrong_are_told(rt: &impl Abort, alloc: Global, clients: &Clients) -> Result<(), AllocError> {
+    for case in WRONG {
+        is_case(rt, alloc, clients, case)?;
+    }
+    Ok(())
+}
+
+fn others_are_told(rt: &impl Abort, alloc: Global, clients: &Clients) -> Result<(), AllocError> {
+    for case in OTHERS {
+        is_case(rt, alloc, clients, case)?;
+    }
+    Ok(())
+}
+
+#[test]
+fn each_message_authenticator_is_told_its_verdict(rt: HostRuntime) -> Result<(), Fail> {
+    let clients = three_clients(&rt, rt.alloc())?;
+    right_are_told(&rt, rt.alloc(), &clients)?;
+    wrong_are_told(&rt, rt.alloc(), &clients)?;
+    others_are_told(&rt, rt.alloc(), &clients)?;
+    Ok(())
+}
+
+const FIRST: &[u8; 74] = b"\
+    \x01\x00\x00\x4a\
+    \x0f\x40\x3f\x94\x73\x97\x80\x57\xbd\x83\xd5\xcb\x98\xf4\x22\x7a\
+    \x50\x12\x8f\x16\xb4\x5f\x90\xd3\x49\x49\x89\xa4\xf1\x4f\x44\x21\xc6\x18\
+    \x01\x06nemo\
+    \x02\x12\x0d\xbe\x70\x8d\x93\xd4\x13\xce\x31\x96\xe4\x3f\x78\x2a\x0a\xee\
+    \x04\x06\xc0\xa8\x01\x10\
+    \x05\x06\x00\x00\x00\x03";
+
+const IN_THE_MIDDLE: &[u8; 74] = b"\
+    \x01\x00\x00\x4a\
+    \x0f\x40\x3f\x94\x73\x97\x80\x57\xbd\x83\xd5\xcb\x98\xf4\x22\x7a\
+    \x01\x06nemo\
+    \x02\x12\x0d\xbe\x70\x8d\x93\xd4\x13\xce\x31\x96\xe4\x3f\x78\x2a\x0a\xee\
+    \x50\x12\x13\x1d\xf7\x66\x86\x15\x1a\x16\x5e\x8d\x1c\x17\x76\x5f\xda\x8a\
+    \x04\x06\xc0\xa8\x01\x10\
+    \x05\x06\x00\x00\x00\x03";
+
+const PLACES: [(&str, &[u8; 74]); 2] = [("first", FIRST), ("in the middle", IN_THE_MIDDLE)];
+
+// Asserts what a request with the sum anywhere is told.
+fn are_told_anywhere(rt: &impl Abort, clients: &Clients, source: u32, want: Told) {
+    for (name, octets) in PLACES {
+        is_told(rt, clients, (source, Auth), octets, want, name);
+    }
+}
+
+// Where it is last, the table above has it.
+#[test]
+fn a_message_authenticator_may_stand_anywhere(rt: HostRuntime) -> Result<(), Fail> {
+    let clients = three_clients(&rt, rt.alloc())?;
+    are_told_anywhere(&rt, &clients, CLIENT, Ok((0, 0)));
+    are_told_anywhere(&rt, &clients, STRICT_CLIENT, Ok((2, 0)));
+    are_told_anywhere(&rt, &clients, OTHER_CLIENT, Err(BadMessageAuthenticator));
+    Ok(())
+}
