@@ -29,6 +29,3 @@ pub use pool::{POOLS_MAX, Pool};
 pub use spans::Spans;
 pub use text::Text;
 pub use user::{USERS_MAX, User};
-
-#[cfg(test)]
-mod tests;

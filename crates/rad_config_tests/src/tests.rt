@@ -3,8 +3,9 @@ mod keys;
 mod limits;
 mod readers;
 
-use crate::Config;
+use rad_config::{Config, ConfigFault};
 use std::alloc::AllocError;
+use std::process::Abort;
 
 /// Configuration with two clients, three pools and thirteen users.
 const CAMPUS: &str = r#"
@@ -104,10 +105,46 @@ password = "p"
 pool = "eight"
 "#;
 
+// Each helper asserts once, of `what`.
+fn holds(rt: &impl Abort, is_so: bool, what: &str) {
+    assert!(rt; is_so, "{what}");
+}
+
+fn is_number(rt: &impl Abort, number: usize, want: usize, what: &str) {
+    assert_eq!(rt; number, want, "{what}");
+}
+
+fn are_octets(rt: &impl Abort, octets: &[u8], want: &[u8], what: &str) {
+    assert_eq!(rt; octets, want, "{what}");
+}
+
+fn is_printed(rt: &impl Abort, printed: &str, want: &str, what: &str) {
+    assert_eq!(rt; printed, want, "at {what:?}");
+}
+
 /// The printed fault of a text, or `read`.
 fn outcome(rt: &impl AllocGlobal, text: &str) -> Result<String, AllocError> {
-    match Config::read(rt.alloc(), text) {
-        Ok(_) => String::from_str(rt.alloc(), "read"),
-        Err(fault) => fault.to_string(rt.alloc()),
+    match fault(rt, text) {
+        None => String::from_str(rt.alloc(), "read"),
+        Some(fault) => fault.to_string(rt.alloc()),
     }
+}
+
+fn fault(rt: &impl AllocGlobal, text: &str) -> Option<ConfigFault> {
+    Config::read(rt.alloc(), text).err()
+}
+
+/// Asserts the outcome of a text.
+fn is_told<R: Abort + AllocGlobal>(rt: &R, text: &str, want: &str) -> Result<(), AllocError> {
+    let printed = outcome(rt, text)?;
+    is_printed(rt, printed.as_str(), want, text);
+    Ok(())
+}
+
+/// Asserts the outcome of each text.
+fn are_told<R: Abort + AllocGlobal>(rt: &R, cases: &[(&str, &str)]) -> Result<(), AllocError> {
+    for (text, want) in cases {
+        is_told(rt, text, want)?;
+    }
+    Ok(())
 }

@@ -1,5 +1,5 @@
-use crate::ConfigFault;
-use crate::tests::outcome;
+use super::{are_told, is_printed};
+use rad_config::ConfigFault;
 use std::test::Fail;
 
 /// Texts, and the printed fault of each, or `read`.
@@ -63,12 +63,14 @@ const PRINTED: [(&str, &str); 25] = [
 
 #[test]
 fn each_fault_is_printed(rt: HostRuntime) -> Result<(), Fail> {
-    for (text, expected) in PRINTED {
-        let printed = outcome(&rt, text)?;
-        assert_eq!(rt; printed.as_str(), expected, "at {text:?}");
-    }
+    are_told(&rt, &PRINTED)?;
     let printed = ConfigFault::NoMemory.to_string(rt.alloc())?;
-    assert_eq!(rt; printed.as_str(), "config fault 7 NoMemory");
+    is_printed(
+        &rt,
+        printed.as_str(),
+        "config fault 7 NoMemory",
+        "a fault of memory",
+    );
     Ok(())
 }
 
@@ -119,9 +121,6 @@ const FIRST: [(&str, &str); 11] = [
 
 #[test]
 fn the_first_fault_is_told(rt: HostRuntime) -> Result<(), Fail> {
-    for (text, expected) in FIRST {
-        let printed = outcome(&rt, text)?;
-        assert_eq!(rt; printed.as_str(), expected, "at {text:?}");
-    }
+    are_told(&rt, &FIRST)?;
     Ok(())
 }

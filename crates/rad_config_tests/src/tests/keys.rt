@@ -1,0 +1,402 @@
+use super::{are_told, is_told};
+use std::alloc::AllocError;
+use std::process::Abort;
+use std::test::Fail;
+
+/// Keys that hold a number, each with values that fit, values that don't, and the fault of these.
+const NUMBERS: [(&str, [i64; 2], [i64; 2], &str); 6] = [
+    (
+        "hold = 3600\nwindow",
+        [1, 3_600],
+        [0, 3_601],
+        "config fault 3 BadValue at top 0 window",
+    ),
+    (
+        "window = 1\nhold",
+        [1, 86_400],
+        [0, 86_401],
+        "config fault 3 BadValue at top 0 hold",
+    ),
+    (
+        "[[user]]\nname = \"a\"\npassword = \"b\"\nsessions",
+        [1, 4_096],
+        [0, 4_097],
+        "config fault 3 BadValue at user 1 sessions",
+    ),
+    (
+        "[[user]]\nname = \"a\"\npassword = \"b\"\nservice",
+        [0, 4_294_967_295],
+        [-1, 4_294_967_296],
+        "config fault 3 BadValue at user 1 service",
+    ),
+    (
+        "[[user]]\nname = \"a\"\npassword = \"b\"\nprotocol",
+        [0, 4_294_967_295],
+        [-1, 4_294_967_296],
+        "config fault 3 BadValue at user 1 protocol",
+    ),
+    (
+        "[[user]]\nname = \"a\"\npassword = \"b\"\ntimeout",
+        [1, 4_294_967_295],
+        [0, 4_294_967_296],
+        "config fault 3 BadValue at user 1 timeout",
+    ),
+];
+
+/// What fits no key that holds a number.
+const NO_NUMBERS: [&str; 6] = [
+    "true",
+    "1.0",
+    "\"1\"",
+    "1979-05-27",
+    "[1]",
+    "-9223372036854775808",
+];
+
+// Asserts the outcome of a text in which this value stands behind a key.
+fn is_told_at<R: Abort + AllocGlobal>(
+    rt: &R,
+    key: &str,
+    value: &str,
+    after: &str,
+    want: &str,
+) -> Result<(), AllocError> {
+    let text = format!(in rt.alloc(); "{key} = {value}{after}")?;
+    is_told(rt, text.as_str(), want)
+}
+
+// Asserts the outcome of a text in which this number stands behind a key.
+fn number_is_told<R: Abort + AllocGlobal>(
+    rt: &R,
+    key: &str,
+    number: i64,
+    want: &str,
+) -> Result<(), AllocError> {
+    let text = format!(in rt.alloc(); "{key} = {number}")?;
+    is_told(rt, text.as_str(), want)
+}
+
+// The same with each of these numbers.
+fn numbers_are_told<R: Abort + AllocGlobal>(
+    rt: &R,
+    key: &str,
+    numbers: &[i64],
+    want: &str,
+) -> Result<(), AllocError> {
+    for number in numbers {
+        number_is_told(rt, key, *number, want)?;
+    }
+    Ok(())
+}
+
+// The same with each of these values.
+fn are_told_at<R: Abort + AllocGlobal>(
+    rt: &R,
+    key: &str,
+    values: &[&str],
+    want: &str,
+) -> Result<(), AllocError> {
+    for value in values {
+        is_told_at(rt, key, value, "", want)?;
+    }
+    Ok(())
+}
+
+#[test]
+fn numbers_have_ranges(rt: HostRuntime) -> Result<(), Fail> {
+    for (key, fit, _, _) in &NUMBERS {
+        numbers_are_told(&rt, key, fit, "read")?;
+    }
+    Ok(())
+}
+
+#[test]
+fn no_number_is_past_its_range(rt: HostRuntime) -> Result<(), Fail> {
+    for (key, _, refused, bad) in &NUMBERS {
+        numbers_are_told(&rt, key, refused, bad)?;
+    }
+    Ok(())
+}
+
+#[test]
+fn only_numbers_are_numbers(rt: HostRuntime) -> Result<(), Fail> {
+    for (key, _, _, bad) in &NUMBERS {
+        are_told_at(&rt, key, &NO_NUMBERS, bad)?;
+    }
+    Ok(())
+}
+
+/// Keys that hold a text, each with what stands behind it, lengths that fit, lengths that don't, and the fault of these.
+const TEXTS: [(&str, &str, [usize; 2], [usize; 2], &str); 7] = [
+    (
+        "[[client]]\naddress = \"1.2.3.4\"\nsecret",
+        "",
+        [1, 128],
+        [0, 129],
+        "config fault 3 BadValue at client 1 secret",
+    ),
+    (
+        "[[pool]]\nfirst = \"1.2.3.4\"\nlast = \"1.2.3.4\"\nname",
+        "",
+        [1, 64],
+        [0, 65],
+        "config fault 3 BadValue at pool 1 name",
+    ),
+    (
+        "[[user]]\npassword = \"b\"\nname",
+        "",
+        [1, 253],
+        [0, 254],
+        "config fault 3 BadValue at user 1 name",
+    ),
+    (
+        "[[user]]\nname = \"a\"\npassword",
+        "",
+        [1, 128],
+        [0, 129],
+        "config fault 3 BadValue at user 1 password",
+    ),
+    (
+        "[[user]]\nname = \"a\"\npassword = \"b\"\nmessage",
+        "",
+        [1, 253],
+        [0, 254],
+        "config fault 3 BadValue at user 1 message",
+    ),
+    (
+        "[[user]]\nname = \"a\"\npassword = \"b\"\nchallenge",
+        "\nanswer = \"c\"",
+        [1, 253],
+        [0, 254],
+        "config fault 3 BadValue at user 1 challenge",
+    ),
+    (
+        "[[user]]\nname = \"a\"\npassword = \"b\"\nanswer",
+        "\nchallenge = \"c\"",
+        [1, 128],
+        [0, 129],
+        "config fault 3 BadValue at user 1 answer",
+    ),
+];
+
+// A text of so many letters, as TOML spells it.
+fn spelled(rt: &impl AllocGlobal, letter: &str, count: usize) -> Result<String, AllocError> {
+    let letters = letter.repeat(rt.alloc(), count)?;
+    format!(in rt.alloc(); "\"{letters}\"")
+}
+
+// Asserts the outcome of a text in which so many letters stand behind a key.
+fn letters_are_told<R: Abort + AllocGlobal>(
+    rt: &R,
+    key: &str,
+    (letter, count): (&str, usize),
+    after: &str,
+    want: &str,
+) -> Result<(), AllocError> {
+    let value = spelled(rt, letter, count)?;
+    is_told_at(rt, key, value.as_str(), after, want)
+}
+
+// The same with each of these lengths.
+fn lengths_are_told<R: Abort + AllocGlobal>(
+    rt: &R,
+    key: &str,
+    lengths: &[usize],
+    after: &str,
+    want: &str,
+) -> Result<(), AllocError> {
+    for length in lengths {
+        letters_are_told(rt, key, ("x", *length), after, want)?;
+    }
+    Ok(())
+}
+
+#[test]
+fn texts_have_lengths(rt: HostRuntime) -> Result<(), Fail> {
+    for (key, after, fit, _, _) in &TEXTS {
+        lengths_are_told(&rt, key, fit, after, "read")?;
+    }
+    Ok(())
+}
+
+#[test]
+fn no_text_is_past_its_lengths(rt: HostRuntime) -> Result<(), Fail> {
+    for (key, after, _, refused, bad) in &TEXTS {
+        lengths_are_told(&rt, key, refused, after, bad)?;
+    }
+    Ok(())
+}
+
+#[test]
+fn numbers_are_no_texts(rt: HostRuntime) -> Result<(), Fail> {
+    for (key, after, _, _, bad) in &TEXTS {
+        is_told_at(&rt, key, "5", after, bad)?;
+    }
+    Ok(())
+}
+
+/// How many letters of two octets a secret has, and the outcome.
+const LETTERS: [(usize, &str); 2] = [
+    (64, "read"),
+    (65, "config fault 3 BadValue at client 1 secret"),
+];
+
+#[test]
+fn octets_are_counted(rt: HostRuntime) -> Result<(), Fail> {
+    for (count, want) in LETTERS {
+        let key = "[[client]]\naddress = \"1.2.3.4\"\nsecret";
+        letters_are_told(&rt, key, ("ä", count), "", want)?;
+    }
+    Ok(())
+}
+
+/// Texts with a zero, and the outcome of each.
+const ZEROS: [(&str, &str); 7] = [
+    (
+        "[[client]]\naddress = \"1.2.3.4\"\nsecret = \"\\u0000\"",
+        "read",
+    ),
+    (
+        "[[pool]]\nfirst = \"1.2.3.4\"\nlast = \"1.2.3.4\"\nname = \"\\u0000\"",
+        "read",
+    ),
+    ("[[user]]\nname = \"\\u0000\"\npassword = \"b\"", "read"),
+    (
+        "[[user]]\nname = \"a\"\npassword = \"b\\u0000\"",
+        "config fault 3 BadValue at user 1 password",
+    ),
+    (
+        "[[user]]\nname = \"a\"\npassword = \"b\"\nmessage = \"\\u0000\"",
+        "read",
+    ),
+    (
+        "[[user]]\nname = \"a\"\npassword = \"b\"\nchallenge = \"\\u0000\"\nanswer = \"c\"",
+        "read",
+    ),
+    (
+        "[[user]]\nname = \"a\"\npassword = \"b\"\nchallenge = \"c\"\nanswer = \"\\u0000c\"",
+        "config fault 3 BadValue at user 1 answer",
+    ),
+];
+
+#[test]
+fn only_passwords_and_answers_have_no_zero(rt: HostRuntime) -> Result<(), Fail> {
+    are_told(&rt, &ZEROS)?;
+    Ok(())
+}
+
+/// Addresses of clients, and the outcome of each.
+const ADDRESSES: [(&str, &str); 12] = [
+    ("0.0.0.0", "read"),
+    ("255.255.255.255", "read"),
+    ("256.0.0.1", "config fault 3 BadValue at client 1 address"),
+    (
+        "192.168.1.016",
+        "config fault 3 BadValue at client 1 address",
+    ),
+    ("1.2.3", "config fault 3 BadValue at client 1 address"),
+    ("1.2.3.4.5", "config fault 3 BadValue at client 1 address"),
+    ("1..2.3", "config fault 3 BadValue at client 1 address"),
+    ("+1.2.3.4", "config fault 3 BadValue at client 1 address"),
+    (" 1.2.3.4", "config fault 3 BadValue at client 1 address"),
+    ("1.2.3.4 ", "config fault 3 BadValue at client 1 address"),
+    ("1.2.3.4/32", "config fault 3 BadValue at client 1 address"),
+    ("", "config fault 3 BadValue at client 1 address"),
+];
+
+// Asserts the outcome of a text with this client.
+fn client_is_told<R: Abort + AllocGlobal>(
+    rt: &R,
+    address: &str,
+    want: &str,
+) -> Result<(), AllocError> {
+    let text = format!(in rt.alloc(); "[[client]]\naddress = \"{address}\"\nsecret = \"s\"")?;
+    is_told(rt, text.as_str(), want)
+}
+
+#[test]
+fn addresses_have_ranges(rt: HostRuntime) -> Result<(), Fail> {
+    for (address, want) in ADDRESSES {
+        client_is_told(&rt, address, want)?;
+    }
+    Ok(())
+}
+
+/// First and last addresses of pools, and the outcome of each pair.
+const POOLS: [(&str, &str, &str); 8] = [
+    ("0.0.0.1", "0.0.0.1", "read"),
+    (
+        "0.0.0.0",
+        "0.0.0.1",
+        "config fault 3 BadValue at pool 1 first",
+    ),
+    ("255.255.255.253", "255.255.255.253", "read"),
+    (
+        "255.255.255.253",
+        "255.255.255.254",
+        "config fault 3 BadValue at pool 1 last",
+    ),
+    (
+        "255.255.255.254",
+        "255.255.255.254",
+        "config fault 3 BadValue at pool 1 first",
+    ),
+    (
+        "10.0.0.2",
+        "10.0.0.1",
+        "config fault 3 BadValue at pool 1 last",
+    ),
+    ("10.0.0.0", "10.0.255.255", "read"),
+    (
+        "10.0.0.0",
+        "10.1.0.0",
+        "config fault 3 BadValue at pool 1 last",
+    ),
+];
+
+// Asserts the outcome of a text with this pool.
+fn pool_is_told<R: Abort + AllocGlobal>(
+    rt: &R,
+    first: &str,
+    last: &str,
+    want: &str,
+) -> Result<(), AllocError> {
+    let text = format!(in rt.alloc();
+        "[[pool]]\nname = \"a\"\nfirst = \"{first}\"\nlast = \"{last}\""
+    )?;
+    is_told(rt, text.as_str(), want)
+}
+
+#[test]
+fn pools_have_bounds(rt: HostRuntime) -> Result<(), Fail> {
+    for (first, last, want) in POOLS {
+        pool_is_told(&rt, first, last, want)?;
+    }
+    Ok(())
+}
+
+/// Texts with a flag, and the outcome of each.
+const FLAGS: [(&str, &str); 4] = [
+    (
+        "[[client]]\naddress = \"1.2.3.4\"\nsecret = \"s\"\nrequire_message_authenticator = true",
+        "read",
+    ),
+    (
+        "[[client]]\naddress = \"1.2.3.4\"\nsecret = \"s\"\nrequire_message_authenticator = false",
+        "read",
+    ),
+    (
+        "[[client]]\naddress = \"1.2.3.4\"\nsecret = \"s\"\nrequire_message_authenticator = 1",
+        "config fault 3 BadValue at client 1 require_message_authenticator",
+    ),
+    (
+        "[[client]]\naddress = \"1.2.3.4\"\nsecret = \"s\"\nrequire_message_authenticator = \"true\"",
+        "config fault 3 BadValue at client 1 require_message_authenticator",
+    ),
+];
+
+#[test]
+fn a_flag_is_a_boolean(rt: HostRuntime) -> Result<(), Fail> {
+    are_told(&rt, &FLAGS)?;
+    Ok(())
+}
