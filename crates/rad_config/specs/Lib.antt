@@ -4,4 +4,5 @@ pub mod Faults
 pub mod Keys
 pub mod Ranges
 pub mod ReadEntries
+pub mod Spans
 pub mod Views

@@ -52,9 +52,10 @@ impl Model for Config {
 }
 
 impl Config {
-    ghost use Rattle.std.specs.Prelude.{◌≡◌, ◌<◌, ◌*◌, ◌↔◌, IsTrue, length, slice_get, IfSome, Some};
+    ghost use Rattle.std.specs.Prelude.{◌≡◌, ◌<◌, ◌↔◌, IsTrue, length, slice_get, IfSome, Some};
     ghost use Rattle.rad_config.specs.Configurations.{Gives, configuration_of, user_place};
     ghost use Rattle.rad_config.specs.Ranges.{IsConfiguration, IsPool, IsUser};
+    ghost use Rattle.rad_config.specs.Spans.{spans_of};
 
     /// The configuration that a text says, or its first fault.
     ///
@@ -112,8 +113,7 @@ impl Config {
 
     /// The same spans in milliseconds.
     pub fn spans(&self) -> Spans
-        ensures window { result.window ≡ 1000 * self.now.window }
-        ensures hold { result.hold ≡ 1000 * self.now.hold }
+        ensures value { result ≡ spans_of self.now }
         ensures configuration { IsConfiguration self.now }
     {
         let Config { window, hold, .. } = self;

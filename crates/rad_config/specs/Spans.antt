@@ -1,0 +1,10 @@
+-- How long things are remembered, in milliseconds, where the configuration has seconds.
+use Rattle.std.specs.Prelude.{ℕ, ◌*◌}
+use Rattle.rad_config.specs.Configurations.{Configuration}
+use Rattle.rad_config.specs.declared.spans.Spans.{Spans}
+
+abbrev pub milliseconds : ℕ → ℕ
+milliseconds seconds = 1000 * seconds
+
+abbrev pub spans_of : Configuration → Spans
+spans_of configuration = record { window = milliseconds configuration.window; hold = milliseconds configuration.hold }
