@@ -1,2 +1,28 @@
+mod make;
 mod replay;
+mod streams;
 mod text;
+
+use std::alloc::AllocError;
+use std::process::Abort;
+
+// Each helper asserts once, of `what`.
+fn holds(rt: &impl Abort, is_so: bool, what: &str) {
+    assert!(rt; is_so, "{what}");
+}
+
+fn is_number(rt: &impl Abort, number: usize, want: usize, what: &str) {
+    assert_eq!(rt; number, want, "{what}");
+}
+
+fn is_text(rt: &impl Abort, text: &str, want: &str, what: &str) {
+    assert_eq!(rt; text, want, "{what}");
+}
+
+fn are_octets(rt: &impl Abort, octets: &[u8], want: &[u8], what: &str) {
+    assert_eq!(rt; octets, want, "{what}");
+}
+
+fn concat(rt: &impl AllocGlobal, parts: &[&str]) -> Result<String, AllocError> {
+    parts.concat(rt.alloc())
+}

@@ -1,16 +1,16 @@
 //! Whole replays, over memory. The digests and sums of requests and replies were made with Python's `hashlib` and `hmac`, but
 //! for those of RFC 2865, section 7.1, and RFC 5997, section 6.
 
-use crate::replay::run_replay;
-use crate::run_fault::RunFault;
+use crate::tests::make::ACCOUNT;
+use crate::tests::{are_octets, concat, is_number, is_text};
+use rad_config::ConfigFault;
+use rad_replay::{Make, RunFault, TEXT_MAX, run_replay};
 use std::alloc::AllocError;
-use std::io;
-use std::io::{Read, Write};
 use std::process::Abort;
 use std::test::Fail;
 
 /// The configuration of one client, and the divider.
-const GATEWAY: &str = "[[client]]\naddress = \"192.168.1.16\"\nsecret = \"xyzzy5461\"\n---\n";
+pub const GATEWAY: &str = "[[client]]\naddress = \"192.168.1.16\"\nsecret = \"xyzzy5461\"\n---\n";
 
 /// The same client, which has to send Message-Authenticators.
 const SUMMING_GATEWAY: &str =
@@ -40,15 +40,16 @@ const DROPPED: &str = "1 drop 1 UnknownClient\n\
     10 drop 10 NoStatusType\n";
 
 /// An Accounting-Request of a session that starts, and its reply after the number.
-const START: &str = "7 acct 192.168.1.16:1813 0407001abf750299ba7111cf8a9def2b872d436c280600000001";
+pub const START: &str =
+    "7 acct 192.168.1.16:1813 0407001abf750299ba7111cf8a9def2b872d436c280600000001";
 
-const START_REPLY: &str = "reply 05070014171dc47bc90b494526cf68253bd9b4a6\n";
+pub const START_REPLY: &str = "reply 05070014171dc47bc90b494526cf68253bd9b4a6\n";
 
 /// The same with another identifier.
-const SECOND: &str =
+pub const SECOND: &str =
     "8 acct 192.168.1.16:1813 0408001a802f67230e8d14f111df95bb989900dc280600000001";
 
-const SECOND_REPLY: &str = "reply 05080014576aca8c7b82c2db85974d82010e671e\n";
+pub const SECOND_REPLY: &str = "reply 05080014576aca8c7b82c2db85974d82010e671e\n";
 
 /// With a Proxy-State, which comes back.
 const PROXIED: &str =
@@ -326,16 +327,68 @@ fn printed(rt: &impl AllocGlobal, ended: Result<(), RunFault>) -> Result<String,
     }
 }
 
+/// Asserts how a replay ended: with this printed fault, or with none.
+pub fn ends<R: Abort + AllocGlobal>(
+    rt: &R,
+    ended: Result<(), RunFault>,
+    fault: &str,
+    what: &str,
+) -> Result<(), AllocError> {
+    let text = printed(rt, ended)?;
+    is_text(rt, text.as_str(), fault, what);
+    Ok(())
+}
+
+/// Asserts what a replay of octets writes, and the printed fault that it ends with.
+fn replays_octets<R: Abort + AllocGlobal>(
+    rt: &R,
+    mut input: &[u8],
+    output: &[u8],
+    fault: &str,
+    what: &str,
+) -> Result<(), AllocError> {
+    let mut written = Vec::new(rt.alloc());
+    let ended = run_replay(rt.alloc(), &mut input, &mut written);
+    are_octets(rt, written.as_slice(), output, what);
+    ends(rt, ended, fault, what)
+}
+
+/// The same of an input and an output in parts.
+fn replays<R: Abort + AllocGlobal>(
+    rt: &R,
+    input: &[&str],
+    output: &[&str],
+    fault: &str,
+    what: &str,
+) -> Result<(), AllocError> {
+    let input = concat(rt, input)?;
+    let output = concat(rt, output)?;
+    replays_octets(rt, input.as_bytes(), output.as_bytes(), fault, what)
+}
+
 #[test]
 fn scenarios(rt: HostRuntime) -> Result<(), Fail> {
-    for scenario in SCENARIOS {
-        let name = scenario.name;
-        let input = scenario.input.concat(rt.alloc())?;
-        let expected = scenario.output.concat(rt.alloc())?;
-        let mut output = Vec::new(rt.alloc());
-        let result = run_replay(rt.alloc(), &mut input.as_bytes(), &mut output);
-        assert_eq!(rt; printed(&rt, result)?.as_str(), scenario.fault, "at {name}");
-        assert_eq!(rt; output.as_slice(), expected.as_bytes(), "at {name}");
+    for it in SCENARIOS {
+        replays(&rt, it.input, it.output, it.fault, it.name)?;
+    }
+    Ok(())
+}
+
+#[test]
+fn printed_faults(rt: HostRuntime) -> Result<(), Fail> {
+    for (fault, text) in [
+        (RunFault::Read, "read failed"),
+        (RunFault::TooLong, "input too long"),
+        (RunFault::NoDivider, "no divider"),
+        (
+            RunFault::Config(ConfigFault::HoldBelowWindow),
+            "config fault 4 HoldBelowWindow",
+        ),
+        (RunFault::BadLine(7), "datagram 7 is malformed"),
+        (RunFault::Write, "write failed"),
+        (RunFault::NoMemory, "out of memory"),
+    ] {
+        ends(&rt, Err(fault), text, text)?;
     }
     Ok(())
 }
@@ -343,7 +396,7 @@ fn scenarios(rt: HostRuntime) -> Result<(), Fail> {
 /// Fourteen Proxy-States of 255 octets, in hexadecimal.
 fn long_proxy_states(rt: &impl AllocGlobal) -> Result<String, AllocError> {
     let value = "61".repeat(rt.alloc(), 253)?;
-    let attribute = ["21ff", value.as_str()].concat(rt.alloc())?;
+    let attribute = concat(rt, &["21ff", value.as_str()])?;
     attribute.repeat(rt.alloc(), 14)
 }
 
@@ -359,127 +412,81 @@ fn the_most_proxy_states(rt: HostRuntime) -> Result<(), Fail> {
         "0 auth 192.168.1.16:1024 01000e150f403f9473978057bd83d5cb98f4227a",
         long.as_str(),
         "210f62626262626262626262626262\n",
-    ]
-    .concat(rt.alloc())?;
-    let expected = [
+    ];
+    let output = [
         "1 reply 03000e3507e6534637ff5d5e0f5f252ceb54f3fa",
         "501281d9e2e9fd4ff87bba51d20649d61489120f6163636573732064656e696564",
         long.as_str(),
         "210e626262626262626262626262\n",
         "2 drop 11 ProxyStateTooLong\n",
-    ]
-    .concat(rt.alloc())?;
-    let mut output = Vec::new(rt.alloc());
-    let result = run_replay(rt.alloc(), &mut input.as_bytes(), &mut output);
-    assert_eq!(rt; printed(&rt, result)?.as_str(), "");
-    assert_eq!(rt; output.as_slice(), expected.as_bytes());
+    ];
+    replays(&rt, &input, &output, "", "3,584 octets of Proxy-State")?;
     Ok(())
 }
 
-/// A transcript of so many octets: a request and a comment.
+/// Fifteen attributes 26 of 255 octets and one of 245, all zeros, in hexadecimal.
+fn long_attributes(rt: &impl AllocGlobal) -> Result<String, AllocError> {
+    let zeros = "00".repeat(rt.alloc(), 253)?;
+    let attribute = concat(rt, &["1aff", zeros.as_str()])?;
+    let attributes = attribute.repeat(rt.alloc(), 15)?;
+    let zeros = "00".repeat(rt.alloc(), 243)?;
+    concat(rt, &[attributes.as_str(), "1af5", zeros.as_str()])
+}
+
+/// An Accounting-Request of 4,096 octets, in hexadecimal.
+fn longest_request(rt: &impl AllocGlobal) -> Result<String, Fail> {
+    let attributes = long_attributes(rt)?;
+    let make = Make {
+        id: 9,
+        extra: attributes.as_str(),
+        ..ACCOUNT
+    };
+    let request = make.request(rt.alloc()).ok().ok_or("a request")?;
+    Ok(hex::encode(rt.alloc(), request.octets())?)
+}
+
+#[test]
+fn replies_to_the_longest_request(rt: HostRuntime) -> Result<(), Fail> {
+    let request = longest_request(&rt)?;
+    is_number(&rt, request.len(), 2 * 4096, "the digits of the request");
+    let input = [GATEWAY, "7 acct 192.168.1.16:1813 ", request.as_str(), "\n"];
+    let output = "1 reply 05090014275f977e196fa30d9e7b0c0a6a1933c5\n";
+    replays(&rt, &input, &[output], "", "a request of 4,096 octets")?;
+    Ok(())
+}
+
+/// A request, and a comment that makes the transcript so many octets.
 fn commented(rt: &(impl Abort + AllocGlobal), len: usize) -> Result<Vec<u8>, Fail> {
-    let head = [GATEWAY, START, "\n"].concat(rt.alloc())?;
+    let head = concat(rt, &[GATEWAY, START, "\n"])?;
     let mut text = vec![in rt.alloc(); b'#'; len]?;
     assert!(rt; head.len() <= text.len());
     text[..head.len()].copy_from_slice(head.as_bytes());
     Ok(text)
 }
 
+/// Asserts what a replay of a transcript of so many octets writes.
+fn replays_long<R: Abort + AllocGlobal>(
+    rt: &R,
+    len: usize,
+    output: &[&str],
+    fault: &str,
+    what: &str,
+) -> Result<(), Fail> {
+    let input = commented(rt, len)?;
+    let output = concat(rt, output)?;
+    replays_octets(rt, input.as_slice(), output.as_bytes(), fault, what)?;
+    Ok(())
+}
+
 #[test]
 fn the_longest_input(rt: HostRuntime) -> Result<(), Fail> {
-    let expected = ["1 ", START_REPLY].concat(rt.alloc())?;
-    let mut text = commented(&rt, 16_777_216)?;
-    let mut output = Vec::new(rt.alloc());
-    let result = run_replay(rt.alloc(), &mut text.as_slice(), &mut output);
-    assert_eq!(rt; printed(&rt, result)?.as_str(), "");
-    assert_eq!(rt; output.as_slice(), expected.as_bytes());
-
-    text.push(b'#')?;
-    let mut output = Vec::new(rt.alloc());
-    let result = run_replay(rt.alloc(), &mut text.as_slice(), &mut output);
-    assert_eq!(rt; printed(&rt, result)?.as_str(), "input too long");
-    assert!(rt; output.is_empty());
-    Ok(())
-}
-
-/// Moves at most `step` octets a call, and fails once `calls` calls were made.
-#[derive(Drop)]
-struct Halting<T> {
-    inner: T,
-    step: usize,
-    calls: usize,
-}
-
-impl<T> Halting<T> {
-    /// How many of so many octets the next call moves.
-    fn share(&mut self, len: usize) -> io::Result<usize> {
-        let Some(calls) = self.calls.checked_sub(1) else {
-            return Err(io::Error::from(io::ErrorKind::ConnectionReset));
-        };
-        self.calls = calls;
-        Ok(len.min(self.step))
-    }
-}
-
-impl<T: Read> Read for Halting<T> {
-    fn read(&mut self, buf: &mut [u8]) -> io::Result<usize> {
-        let share = self.share(buf.len())?.min(buf.len());
-        self.inner.read(&mut buf[..share])
-    }
-}
-
-impl<T: Write> Write for Halting<T> {
-    fn write(&mut self, buf: &[u8]) -> io::Result<usize> {
-        let share = self.share(buf.len())?.min(buf.len());
-        self.inner.write(&buf[..share])
-    }
-
-    fn flush(&mut self) -> io::Result<()> {
-        Ok(())
-    }
-}
-
-/// Two requests.
-const PAIR: [&str; 5] = [GATEWAY, START, "\n", SECOND, "\n"];
-
-#[test]
-fn an_octet_a_time(rt: HostRuntime) -> Result<(), Fail> {
-    let input = PAIR.concat(rt.alloc())?;
-    let expected = ["1 ", START_REPLY, "2 ", SECOND_REPLY].concat(rt.alloc())?;
-    let (step, calls) = (1, usize::MAX);
-    let inner = input.as_bytes();
-    let mut reader = Halting { inner, step, calls };
-    let inner = Vec::new(rt.alloc());
-    let mut writer = Halting { inner, step, calls };
-    let result = run_replay(rt.alloc(), &mut reader, &mut writer);
-    assert_eq!(rt; printed(&rt, result)?.as_str(), "");
-    assert_eq!(rt; writer.inner.as_slice(), expected.as_bytes());
-    Ok(())
-}
-
-#[test]
-fn the_second_read_fails(rt: HostRuntime) -> Result<(), Fail> {
-    let input = PAIR.concat(rt.alloc())?;
-    // In the middle of the input, and in the place of its end.
-    for step in [100, usize::MAX] {
-        let (inner, calls) = (input.as_bytes(), 1);
-        let mut reader = Halting { inner, step, calls };
-        let mut output = Vec::new(rt.alloc());
-        let result = run_replay(rt.alloc(), &mut reader, &mut output);
-        assert_eq!(rt; printed(&rt, result)?.as_str(), "read failed", "at {step}");
-        assert!(rt; output.is_empty());
-    }
-    Ok(())
-}
-
-#[test]
-fn the_second_write_fails(rt: HostRuntime) -> Result<(), Fail> {
-    let input = PAIR.concat(rt.alloc())?;
-    let expected = ["1 ", START_REPLY].concat(rt.alloc())?;
-    let (inner, step, calls) = (Vec::new(rt.alloc()), usize::MAX, 1);
-    let mut writer = Halting { inner, step, calls };
-    let result = run_replay(rt.alloc(), &mut input.as_bytes(), &mut writer);
-    assert_eq!(rt; printed(&rt, result)?.as_str(), "write failed");
-    assert_eq!(rt; writer.inner.as_slice(), expected.as_bytes());
-    Ok(())
+    let output = ["1 ", START_REPLY];
+    replays_long(&rt, TEXT_MAX, &output, "", "16,777,216 octets")?;
+    replays_long(
+        &rt,
+        TEXT_MAX + 1,
+        &[],
+        "input too long",
+        "16,777,217 octets",
+    )
 }

@@ -1,61 +1,64 @@
-ghost use Rattle.std.specs.Prelude.{◌≡◌, ◌<◌, ◌^◌, length};
-ghost use Rattle.radpool.specs.Lines.{lines_of, datagram_lines};
+//! Datagram lines, and the lines of a transcript.
 
-use crate::datagram_line::{DatagramLine, read_datagram_line};
-use crate::lines::{DatagramLines, divide};
+use crate::tests::are_octets;
 use rad_auth::Door;
+use rad_replay::{DatagramLine, DatagramLines, divide, read_datagram_line};
+use std::alloc::AllocError;
+use std::process::Abort;
 use std::test::Fail;
 
-/// How many datagram lines a text has.
-fn count(text: &[u8]) -> usize
-    requires { length (datagram_lines (lines_of text.now)) < 2 ^ 64 }
-    ensures { result ≡ length (datagram_lines (lines_of text.now)) }
-{
-    let mut lines = DatagramLines::new(text);
-    let mut count = 0;
-    while let Some(_line) = lines.next() {
-        count += 1;
-    }
-    count
-}
-
-fn read(line: &[u8]) -> Option<DatagramLine> {
+/// Asserts what a line is read as.
+fn is_read(rt: &impl Abort, line: &[u8], want: Option<DatagramLine>) {
     let mut octets = [0; 4096];
-    read_datagram_line(line, &mut octets)
+    let found = read_datagram_line(line, &mut octets);
+    assert_eq!(rt; found, want, "{line:?}");
 }
 
 #[test]
 fn reads_datagram_lines(rt: HostRuntime) {
-    let found = DatagramLine {
-        moment: 0,
-        source: 0xc0a8_0111,
-        port: 1813,
-        door: Door::Acct,
-        len: 0,
-    };
-    assert_eq!(rt; read(b"0 acct 192.168.1.17:1813 -"), Some(found));
-
-    let mut octets = [7; 4096];
-    let line = b"0000000000000000042 auth 0.0.0.255:00080 0aFfbC".as_slice();
-    let found = DatagramLine {
-        moment: 42,
-        source: 255,
-        port: 80,
-        door: Door::Auth,
-        len: 3,
-    };
-    assert_eq!(rt; read_datagram_line(line, &mut octets), Some(found));
-    assert_eq!(rt; &octets[..4], [0x0a, 0xff, 0xbc, 7].as_slice());
+    for (line, moment, source, port, door, len) in [
+        (
+            b"0 acct 192.168.1.17:1813 -".as_slice(),
+            0,
+            0xc0a8_0111,
+            1813,
+            Door::Acct,
+            0,
+        ),
+        (
+            b"0000000000000000042 auth 0.0.0.255:00080 0aFfbC",
+            42,
+            255,
+            80,
+            Door::Auth,
+            3,
+        ),
+        (
+            b"4611686018427387904 auth 255.255.255.255:65535 00",
+            4_611_686_018_427_387_904,
+            0xffff_ffff,
+            65535,
+            Door::Auth,
+            1,
+        ),
+    ] {
+        let found = DatagramLine {
+            moment,
+            source,
+            port,
+            door,
+            len,
+        };
+        is_read(&rt, line, Some(found));
+    }
 }
 
 #[test]
-fn reads_numbers_up_to_the_greatest(rt: HostRuntime) -> Result<(), Fail> {
-    let found = read(b"4611686018427387904 auth 255.255.255.255:65535 00").ok_or("the greatest")?;
-    assert_eq!(rt; found.moment, 4_611_686_018_427_387_904);
-    assert_eq!(rt; found.source, 0xffff_ffff);
-    assert_eq!(rt; found.port, 65535);
-    assert_eq!(rt; found.len, 1);
-    Ok(())
+fn decodes_octets(rt: HostRuntime) {
+    let mut octets = [7; 4096];
+    let line = b"0000000000000000042 auth 0.0.0.255:00080 0aFfbC";
+    let _ = read_datagram_line(line, &mut octets);
+    are_octets(&rt, &octets[..4], &[0x0a, 0xff, 0xbc, 7], "the front");
 }
 
 #[test]
@@ -87,22 +90,42 @@ fn refuses_other_lines(rt: HostRuntime) {
         b"1 auth 1.2.3.4:5  00",
         b"1 auth 1.2.3.4:5 00 ",
     ] {
-        assert_eq!(rt; read(line), None, "{line:?}");
+        is_read(&rt, line, None);
     }
+}
+
+/// Asserts whether a line of so many hexadecimal digits is read, and with how many octets.
+fn has_octets<R: Abort + AllocGlobal>(
+    rt: &R,
+    digits: usize,
+    want: Option<usize>,
+) -> Result<(), AllocError> {
+    let text = "a".repeat(rt.alloc(), digits)?;
+    let line = ["1 auth 1.2.3.4:5 ", text.as_str()].concat(rt.alloc())?;
+    let mut octets = [0; 4096];
+    let found = read_datagram_line(line.as_bytes(), &mut octets);
+    is_len(rt, found.map(|it| it.len), want);
+    Ok(())
+}
+
+fn is_len(rt: &impl Abort, len: Option<usize>, want: Option<usize>) {
+    assert_eq!(rt; len, want);
 }
 
 #[test]
 fn reads_up_to_4096_octets(rt: HostRuntime) -> Result<(), Fail> {
-    let mut line = b"1 auth 1.2.3.4:5 ".to_vec(rt.alloc())?;
-    line.extend_from_slice(&[b'a'; 8192])?;
-    assert_eq!(rt; read(&line).ok_or("4,096 octets")?.len, 4096);
-    line.extend_from_slice(b"aa")?;
-    assert_eq!(rt; read(&line), None);
+    has_octets(&rt, 8192, Some(4096))?;
+    has_octets(&rt, 8194, None)?;
     Ok(())
 }
 
+/// Asserts what stands before and after the divider of a text.
+fn is_divided(rt: &impl Abort, text: &[u8], want: Option<(&[u8], &[u8])>) {
+    assert!(rt; divide(text) == want, "{text:?}");
+}
+
 #[test]
-fn divides_texts(rt: HostRuntime) -> Result<(), Fail> {
+fn divides_texts(rt: HostRuntime) {
     for (text, before, after) in [
         (
             b"a\r\nb\n---\r\nc\n---\n".as_slice(),
@@ -117,10 +140,12 @@ fn divides_texts(rt: HostRuntime) -> Result<(), Fail> {
             b"x",
         ),
     ] {
-        let parts = divide(text).ok_or("a divider")?;
-        assert_eq!(rt; parts.0, before);
-        assert_eq!(rt; parts.1, after);
+        is_divided(&rt, text, Some((before, after)));
     }
+}
+
+#[test]
+fn finds_no_divider(rt: HostRuntime) {
     for text in [
         b"".as_slice(),
         b"\n",
@@ -129,18 +154,29 @@ fn divides_texts(rt: HostRuntime) -> Result<(), Fail> {
         b" ---\n",
         b"--- \n",
     ] {
-        assert!(rt; divide(text).is_none(), "{text:?}");
+        is_divided(&rt, text, None);
     }
-    Ok(())
+}
+
+/// Asserts which line comes next.
+fn comes_next(rt: &impl Abort, lines: &mut DatagramLines, want: Option<&[u8]>) {
+    let line = lines.next();
+    assert_eq!(rt; line, want);
+}
+
+/// Asserts which datagram lines a text has.
+fn has_lines(rt: &impl Abort, text: &[u8], want: &[&[u8]]) {
+    let mut lines = DatagramLines::new(text);
+    for line in want {
+        comes_next(rt, &mut lines, Some(line));
+    }
+    comes_next(rt, &mut lines, None);
+    comes_next(rt, &mut lines, None);
 }
 
 #[test]
 fn yields_datagram_lines(rt: HostRuntime) {
-    let mut lines = DatagramLines::new(b"1\r\n\r\n\n# 2\n#\r\n 3\r\r\n\r\r\n4".as_slice());
-    for line in [b"1".as_slice(), b" 3\r", b"\r", b"4"] {
-        assert_eq!(rt; lines.next(), Some(line));
-    }
-    assert_eq!(rt; lines.next(), None);
-    assert_eq!(rt; lines.next(), None);
-    assert_eq!(rt; count(b"1\n#\n2"), 2);
+    let text = b"1\r\n\r\n\n# 2\n#\r\n 3\r\r\n\r\r\n4".as_slice();
+    has_lines(&rt, text, &[b"1", b" 3\r", b"\r", b"4"]);
+    has_lines(&rt, b"1\n#\n2", &[b"1", b"2"]);
 }
