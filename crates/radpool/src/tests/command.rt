@@ -1,7 +1,8 @@
 //! Command lines, run over memory. The digests and sums were made with Python's `hashlib` and `hmac`.
 
+use crate::command::Fault;
 use crate::tests::fake::Fake;
-use std::process::Abort;
+use rad_replay::RunFault;
 use std::test::Fail;
 
 /// Options of `make`, and the request.
@@ -249,6 +250,10 @@ fn faults(rt: HostRuntime) {
     for (line, text) in FAULTS {
         Fake::new(rt.alloc(), line).ends(&rt, 2, "", text);
     }
+}
+
+#[test]
+fn a_word_that_is_not_utf8(rt: HostRuntime) {
     let mut fake = Fake::new(rt.alloc(), "");
     fake.line = b"radpool replay \xff";
     let text = "error: a word of the command line is not UTF-8\n";
@@ -257,16 +262,11 @@ fn faults(rt: HostRuntime) {
 
 const BAD_USER: &str = "'--user <TEXT>': a text of 1 to 253 octets would fit\n";
 
-const BAD_PASSWORD: &str = "'--password <TEXT>': a text of at most 128 octets would fit\n";
-
 const BAD_RANDOM: &str = "'--random <HEX>': 32 hexadecimal digits would fit\n";
 
 const BAD_DIGITS: &str = "'--extra <HEX>': an even number of hexadecimal digits would fit\n";
 
 const BAD_ATTRIBUTES: &str = "'--extra <HEX>': whole attributes would fit, ";
-
-const TOO_LONG: &str =
-    "'--extra <HEX>': attributes that leave the request at most 4096 octets would fit\n";
 
 /// Options of `make` whose last value doesn't fit, that value where clap tells it, and how the text ends.
 const UNFIT: [(&str, &str, &str); 20] = [
@@ -316,132 +316,39 @@ const UNFIT: [(&str, &str, &str); 20] = [
     ("access --extra 210521", "", BAD_ATTRIBUTES),
 ];
 
-fn refuses(
-    rt: &(impl Abort + AllocGlobal),
-    options: &[&str],
-    value: &str,
-    text: &str,
-) -> Result<(), Fail> {
-    let options = options.concat(rt.alloc())?;
-    let line = ["radpool make --secret x --kind ", options.as_str()].concat(rt.alloc())?;
-    let text = ["error: invalid value ", value, "for ", text].concat(rt.alloc())?;
-    Fake::new(rt.alloc(), &line).ends(rt, 2, "", &text);
-    Ok(())
-}
-
 #[test]
 fn unfit_values(rt: HostRuntime) -> Result<(), Fail> {
     for (options, value, text) in UNFIT {
-        refuses(&rt, &[options], value, text)?;
+        let line = ["radpool make --secret x --kind ", options].concat(rt.alloc())?;
+        let text = ["error: invalid value ", value, "for ", text].concat(rt.alloc())?;
+        Fake::new(rt.alloc(), &line).ends(&rt, 2, "", &text);
     }
     Ok(())
 }
 
-/// The longest secret and User-Name, and one octet more of each.
-#[test]
-fn long_texts(rt: HostRuntime) -> Result<(), Fail> {
-    let secret = "a".repeat(rt.alloc(), 128)?;
-    let line = ["radpool make --kind account --secret ", secret.as_str()].concat(rt.alloc())?;
-    let request = "0400001a8aebfb3c25f641990ffa0000e4f27c36280600000001\n";
-    Fake::new(rt.alloc(), &line).ends(&rt, 0, request, "");
-    let line = [line.as_str(), "a"].concat(rt.alloc())?;
-    let text = "error: invalid value for '--secret <TEXT>': ";
-    Fake::new(rt.alloc(), &line).ends(&rt, 2, "", text);
-
-    let user = "n".repeat(rt.alloc(), 253)?;
-    let name = "6e".repeat(rt.alloc(), 253)?;
-    let line = [
-        "radpool make --kind account --secret xyzzy5461 --user ",
-        user.as_str(),
-    ]
-    .concat(rt.alloc())?;
-    let request = [
-        "040001190ed802ef7200da2744771e24e02e5af901ff",
-        name.as_str(),
-        "280600000001\n",
-    ]
-    .concat(rt.alloc())?;
-    Fake::new(rt.alloc(), &line).ends(&rt, 0, &request, "");
-    refuses(&rt, &["account --user n", user.as_str()], "", BAD_USER)
-}
-
-/// The request of the longest password.
-const LONG_PASSWORD: &str =
-    "010000960f403f9473978057bd83d5cb98f4227a02821cbc638982ca04db2f92944f085a7a9eecf15fcf19aedfc40d6a2976e894b6ffa1ac2cd16b8989d355ad0b1b4596e71a3fa1b3258b3caea704fe416dae0c668fb55f7374f17ceb24c28255132731d2432b634c9c76516d7bdb6a88e692c6274d83bd5911da308327d11505e9e3211f095ac36111e1564124f7b3601bf5031a18\n";
-
-/// The longest password, hidden and by CHAP, and one octet more in each kind: that is told after the User-Name and before
-/// `--extra`.
-#[test]
-fn long_passwords(rt: HostRuntime) -> Result<(), Fail> {
-    let password = "p".repeat(rt.alloc(), 128)?;
-    let line = [
-        "radpool make --kind access --secret xyzzy5461 --random 0f403f9473978057bd83d5cb98f4227a --password ",
-        password.as_str(),
-    ]
-    .concat(rt.alloc())?;
-    Fake::new(rt.alloc(), &line).ends(&rt, 0, LONG_PASSWORD, "");
-    let line = [line.as_str(), " --chap 7"].concat(rt.alloc())?;
-    let request =
-        "010000270f403f9473978057bd83d5cb98f4227a03130763b829ab231dfe80d64a109454df67c5\n";
-    Fake::new(rt.alloc(), &line).ends(&rt, 0, request, "");
-
-    let options = ["access --extra 2 --password p", password.as_str()];
-    refuses(&rt, &options, "", BAD_PASSWORD)?;
-    let options = ["account --password p", password.as_str()];
-    refuses(&rt, &options, "", BAD_PASSWORD)?;
-    let options = ["status --chap 7 --password p", password.as_str()];
-    refuses(&rt, &options, "", BAD_PASSWORD)?;
-    let options = ["access --password p", password.as_str(), " --user="];
-    refuses(&rt, &options, "", BAD_USER)
-}
-
-/// A request of 4,096 octets, one octet more, and attributes that alone are too many.
-#[test]
-fn long_attributes(rt: HostRuntime) -> Result<(), Fail> {
-    let value = "61".repeat(rt.alloc(), 253)?;
-    let attribute = ["21ff", value.as_str()].concat(rt.alloc())?;
-    let attributes = attribute.repeat(rt.alloc(), 15)?;
-    let value = "62".repeat(rt.alloc(), 243)?;
-    let most = [attributes.as_str(), "21f5", value.as_str()].concat(rt.alloc())?;
-    let line = [
-        "radpool make --kind account --secret xyzzy5461 --extra ",
-        most.as_str(),
-    ]
-    .concat(rt.alloc())?;
-    let request = [
-        "0400100086b3f0823b38ddca3a3f22cccaacd252280600000001",
-        most.as_str(),
-        "\n",
-    ]
-    .concat(rt.alloc())?;
-    Fake::new(rt.alloc(), &line).ends(&rt, 0, &request, "");
-
-    let over = [
-        "account --extra ",
-        attributes.as_str(),
-        "21f6",
-        value.as_str(),
-        "62",
-    ];
-    refuses(&rt, &over, "", TOO_LONG)?;
-    refuses(
-        &rt,
-        &["access --extra ", most.as_str(), "62626262626262"],
+/// Inputs of a replay, the output, the text on standard error, and the status.
+const REPLAYS: [(&str, &str, &str, u8); 2] = [
+    (
+        "---\n0 acct 192.168.1.17:1813 -\n",
+        "1 drop 1 UnknownClient\n",
         "",
-        TOO_LONG,
-    )
-}
+        0,
+    ),
+    (
+        "---\n0 acct 192.168.1.17:1813 -\nx\n",
+        "1 drop 1 UnknownClient\n",
+        "radpool: datagram 2 is malformed\n",
+        1,
+    ),
+];
 
 #[test]
 fn replays(rt: HostRuntime) {
-    let mut fake = Fake::new(rt.alloc(), "radpool replay");
-    fake.input = b"---\n0 acct 192.168.1.17:1813 -\n";
-    fake.ends(&rt, 0, "1 drop 1 UnknownClient\n", "");
-
-    let mut fake = Fake::new(rt.alloc(), "radpool replay");
-    fake.input = b"---\n0 acct 192.168.1.17:1813 -\nx\n";
-    let text = "radpool: datagram 2 is malformed\n";
-    fake.ends(&rt, 1, "1 drop 1 UnknownClient\n", text);
+    for (input, output, text, status) in REPLAYS {
+        let mut fake = Fake::new(rt.alloc(), "radpool replay");
+        fake.input = input.as_bytes();
+        fake.ends(&rt, status, output, text);
+    }
 }
 
 #[test]
@@ -451,45 +358,49 @@ fn no_output(rt: HostRuntime) {
     fake.ends(&rt, 1, "", "radpool: write failed\n");
 }
 
+#[test]
+fn no_memory(rt: HostRuntime) {
+    let fault = Fault::Run(RunFault::NoMemory);
+    Fake::new(rt.alloc(), "a report").reports(&rt, fault, 1, "radpool: out of memory\n");
+}
+
 /// Configurations, each with its divider, and what is told of them.
-const FAULTY: [(&str, &str); 10] = [
-    ("hold = \"x\"\n---", "3 BadValue at top 0 hold\n"),
-    ("window = 30\nhold = 29\n---", "4 HoldBelowWindow\n"),
-    ("client = 3\n---", "3 BadValue at client 0 list\n"),
-    ("client = [1]\n---", "3 BadValue at client 1 entry\n"),
+const FAULTY: [(&[u8], &str); 11] = [
+    (b"hold = \"x\"\n---", "3 BadValue at top 0 hold\n"),
+    (b"window = 30\nhold = 29\n---", "4 HoldBelowWindow\n"),
+    (b"client = 3\n---", "3 BadValue at client 0 list\n"),
+    (b"client = [1]\n---", "3 BadValue at client 1 entry\n"),
     (
-        "[[client]]\naddress = \"192.168.1.16\"\n---",
+        b"[[client]]\naddress = \"192.168.1.16\"\n---",
         "2 Missing at client 1 secret\n",
     ),
     (
-        "hold = 29\n[[client]]\naddress = \"192.168.1.16\"\n---",
+        b"hold = 29\n[[client]]\naddress = \"192.168.1.16\"\n---",
         "4 HoldBelowWindow\n",
     ),
     (
-        "client = [{address = \"1.2.3.4\", secret = \"a\"}, {address = \"1.2.3.4\", secret = \"b\"}]\n---",
+        b"client = [{address = \"1.2.3.4\", secret = \"a\"}, {address = \"1.2.3.4\", secret = \"b\"}]\n---",
         "3 BadValue at client 2 address\n",
     ),
     (
-        "pool = [{name = \"a\", first = \"10.0.0.1\", last = \"10.0.0.9\"}, {name = \"b\", first = \"10.0.0.9\", last = \"10.0.0.9\"}]\n---",
+        b"pool = [{name = \"a\", first = \"10.0.0.1\", last = \"10.0.0.9\"}, {name = \"b\", first = \"10.0.0.9\", last = \"10.0.0.9\"}]\n---",
         "5 PoolsOverlap\n",
     ),
     (
-        "user = [{name = \"a\", password = \"b\", challenge = \"c\"}]\n---",
+        b"user = [{name = \"a\", password = \"b\", challenge = \"c\"}]\n---",
         "2 Missing at user 1 answer\n",
     ),
-    ("window = \n---", "1 Syntax\n"),
+    (b"window = \n---", "1 Syntax\n"),
+    (b"# \xff\n---", "1 Syntax\n"),
 ];
 
 #[test]
 fn faulty_configurations(rt: HostRuntime) -> Result<(), Fail> {
     for (input, told) in FAULTY {
         let mut fake = Fake::new(rt.alloc(), "radpool replay");
-        fake.input = input.as_bytes();
+        fake.input = input;
         let text = ["radpool: config fault ", told].concat(rt.alloc())?;
         fake.ends(&rt, 1, "", &text);
     }
-    let mut fake = Fake::new(rt.alloc(), "radpool replay");
-    fake.input = b"# \xff\n---";
-    fake.ends(&rt, 1, "", "radpool: config fault 1 Syntax\n");
     Ok(())
 }

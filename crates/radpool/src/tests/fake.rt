@@ -1,6 +1,6 @@
 //! A runtime over memory.
 
-use crate::command::run;
+use crate::command::{Fault, report, run};
 use std::alloc::{Allocator, Global};
 use std::cell::RefCell;
 use std::env::FillError;
@@ -123,21 +123,35 @@ impl<'a> Fake<'a> {
 
     /// Runs, and asserts the status, the whole output, and how the error's text begins.
     pub fn ends(self, rt: &impl Abort, status: u8, out: &str, err: &str) {
-        let line = std::str::from_utf8(self.line).unwrap_or("a line that is not UTF-8");
-        assert!(rt;
-            run(&self) == ExitCode::from(status),
-            "the status of {line}"
-        );
-        let said = self.out.into_inner();
-        assert_eq!(rt; said.as_str(), out, "the output of {line}");
-        let said = self.err.into_inner();
-        assert!(rt;
-            said.as_str().starts_with(err),
-            "the error of {line}: {said}"
-        );
-        assert!(rt;
-            said.is_empty() == err.is_empty(),
-            "no error of {line}: {said}"
-        );
+        let ended = run(&self);
+        self.has_said(rt, ended == ExitCode::from(status), out, err);
     }
+
+    /// Reports a fault, and asserts the status and how the error's text begins.
+    pub fn reports(self, rt: &impl Abort, fault: Fault, status: u8, err: &str) {
+        let ended = report(&self, fault);
+        self.has_said(rt, ended == ExitCode::from(status), "", err);
+    }
+
+    /// Asserts that the status is right, the whole output, and how the error's text begins.
+    fn has_said(self, rt: &impl Abort, is_status: bool, out: &str, err: &str) {
+        let line = std::str::from_utf8(self.line).unwrap_or("a line that is not UTF-8");
+        holds(rt, is_status, "status", line);
+        is_output(rt, self.out.into_inner().as_str(), out, line);
+        is_error(rt, self.err.into_inner().as_str(), err, line);
+    }
+}
+
+fn holds(rt: &impl Abort, is_so: bool, what: &str, line: &str) {
+    assert!(rt; is_so, "the {what} of {line}");
+}
+
+fn is_output(rt: &impl Abort, said: &str, want: &str, line: &str) {
+    assert_eq!(rt; said, want, "the output of {line}");
+}
+
+/// The error's text begins so; it is empty where nothing is to be said.
+fn is_error(rt: &impl Abort, said: &str, want: &str, line: &str) {
+    let is_so = said.starts_with(want) && said.is_empty() == want.is_empty();
+    assert!(rt; is_so, "the error of {line}: {said}");
 }
