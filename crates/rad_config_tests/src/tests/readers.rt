@@ -213,13 +213,18 @@ fn differs_at<R: Abort + AllocGlobal>(rt: &R, config: &Config, place: usize) -> 
     Ok(())
 }
 
+// Asserts that each line counts.
+fn differs_at_each<R: Abort + AllocGlobal>(rt: &R, config: &Config) -> Result<(), Fail> {
+    for place in 0..LINE_COUNT {
+        differs_at(rt, config, place)?;
+    }
+    Ok(())
+}
+
 #[test]
 fn each_value_is_compared(rt: HostRuntime) -> Result<(), Fail> {
     let config = config_changed_at(&rt, LINE_COUNT)?;
-    for place in 0..LINE_COUNT {
-        differs_at(&rt, &config, place)?;
-    }
-    Ok(())
+    differs_at_each(&rt, &config)
 }
 
 /// Texts, and whether each is the configuration of one plain user.
@@ -275,13 +280,22 @@ fn is_compared<R: Abort + AllocGlobal>(
     Ok(())
 }
 
+// Asserts the same of each text.
+fn are_compared<R: Abort + AllocGlobal>(
+    rt: &R,
+    config: &Config,
+    cases: &[(&str, bool)],
+) -> Result<(), Fail> {
+    for (text, want) in cases {
+        is_compared(rt, config, text, *want)?;
+    }
+    Ok(())
+}
+
 #[test]
 fn equal_texts_give_equal_configurations(rt: HostRuntime) -> Result<(), Fail> {
     let config = Config::read(rt.alloc(), "[[user]]\nname = \"n\"\npassword = \"p\"\n")?;
-    for (text, want) in USERS {
-        is_compared(&rt, &config, text, want)?;
-    }
-    Ok(())
+    are_compared(&rt, &config, &USERS)
 }
 
 // Asserts that a text gives back the octets that it was made of.
