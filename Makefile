@@ -1,4 +1,4 @@
-.PHONY: demo test
+.PHONY: demo refused-memory test
 
 # Proves and builds radpool, runs it on the shipped transcript, and reads the shipped configuration.
 demo:
@@ -7,8 +7,14 @@ demo:
 	(cat examples/radpool.toml; echo; echo ---) | crates/radpool/out/radpool replay
 	@echo "The output is that of examples/requests.expected. The program is crates/radpool/out/radpool."
 
-# Proves everything from nothing, tries the must-fail edits, and runs the tests and the program, whose own run is the example.
+# Proves and builds refused_memory, and runs it again and again, each time with another allocation refused. It needs cc.
+refused-memory:
+	trials/refused_memory/run
+
+# Proves everything from nothing, tries the must-fail edits, and runs the tests and the programs. The run of radpool is the
+# example, and before all, a replay whose configuration is refused memory is run without a proof.
 test:
 	@cmp examples/requests.txt crates/radpool/stdin
 	@cmp examples/requests.expected crates/radpool/stdout
+	@cd crates/refused_memory && rt try --steps 1000 --fail-alloc 5 | diff stdout -
 	@rt ci
