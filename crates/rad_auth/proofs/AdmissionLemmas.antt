@@ -1,12 +1,11 @@
 -- What admission says of the requests that it gives.
-use Rattle.std.proofs.Common.{◌≡◌, ℕ, ◌≤◌, ◌==◌, ◌&&◌, Bool, true, false, not, ltb, List, Option, Some, None, Result, Ok, Err, refl, ap, sym, subst, ◌∙◌, arith}
+use Rattle.std.proofs.Common.{◌≡◌, ℕ, ◌≤◌, ◌==◌, ◌&&◌, Bool, true, false, not, List, Option, Some, None, Result, Ok, Err, refl, ap, subst}
 use Rattle.std.specs.Prelude.{IsTrue, ok_or, nat_lt}
 use Rattle.std.proofs.lemmas.Bool.{eq-eqb, ltb-false}
 use Rattle.std.proofs.lemmas.List.Quantifiers.{position-Some}
 use Rattle.rad_packet.specs.Attributes.{has_len}
 use Rattle.rad_packet.specs.Ladders.{◌>>=◌, refuse_if}
 use Rattle.rad_packet.specs.Packets.{Packet, packet_of}
-use Rattle.rad_packet.specs.declared.packet.ReadFault.{ReadFault}
 use Rattle.rad_auth.specs.Admission.{IsAdmitted, IsAnswerable, admission, content_checks, has_bad_authenticator, has_bad_message_authenticator, is_taken, lacks_message_authenticator, lacks_status_type, own_datagram, packet_or_discard, proxy_states_max, proxy_states_size, request_in, request_of}
 use Rattle.rad_auth.specs.Clients.{Client, client_at, client_of}
 use Rattle.rad_auth.specs.Datagrams.{Datagram}

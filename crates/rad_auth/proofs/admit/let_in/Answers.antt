@@ -1,5 +1,4 @@
-use Rattle.std.proofs.Common.{◌≡◌, sym}
-use Rattle.rad_auth.specs.Admission.{IsAdmitted}
+use Rattle.std.proofs.Common.{sym}
 use Rattle.rad_auth.proofs.AdmissionLemmas.{admitted_again}
 use Rattle.rad_auth.proofs.admit.let_in.Goals as goal
 
