@@ -1,12 +1,12 @@
 -- Texts in parts, and the numbers that they spell.
-use Rattle.std.proofs.Common.{◌≡◌, ℕ, suc, ◌+◌, ◌-◌, ◌*◌, ◌<◌, ◌≤◌, ◌^◌, Bool, true, false, cond, ltb, leb, List, [], ◌∷◌, length, take, drop, Option, Some, None, refl, arith, add-one, one-add, inl, inr}
-use Rattle.std.specs.Prelude.{◌==◌, ◌&&◌, ◌||◌, not, position, option_map}
+use Rattle.std.proofs.Common.{◌≡◌, ℕ, suc, ◌+◌, ◌-◌, ◌*◌, ◌<◌, ◌≤◌, ◌^◌, Bool, true, false, cond, ltb, leb, List, [], ◌∷◌, length, take, drop, Some, None, refl, arith, add-one, one-add, inl, inr}
+use Rattle.std.specs.Prelude.{◌==◌, ◌&&◌, not, position, option_map}
 use Rattle.std.specs.List.{prefix_len}
 use Rattle.std.proofs.Math.Nat.{pow-le-pow_right}
 use Rattle.std.proofs.lemmas.Option.{cond_some}
-use Rattle.std.proofs.lemmas.Bool.{lt-ltb, le-ltb, leb-true, cases_lt}
+use Rattle.std.proofs.lemmas.Bool.{lt-ltb, le-ltb, cases_lt}
 use Rattle.std.proofs.lemmas.Bool.Decides.{nat_tests}
-use Rattle.rad_config.specs.Decimals.{◌>>=◌, parted, digit_of, digits_from, number_of}
+use Rattle.rad_config.specs.Decimals.{parted, digit_of}
 
 -- the texts before and after the octet at a place
 abbrev pub around : List ℕ → ℕ → List ℕ × List ℕ

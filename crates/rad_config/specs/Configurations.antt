@@ -149,15 +149,27 @@ user_in pools earlier e = do
 abbrev pub top : Members → EntryData
 top members = record { part = parts.Top; index = 0; members = members }
 
+-- window and hold, which is not below it
+unfoldable pub ordered_spans : Members → Result (ℕ × ℕ) ConfigFault
+ordered_spans members = do
+  window ← value (top members) rows.window
+  hold ← value (top members) rows.hold
+  ordered ← refuse_if (nat_lt hold window) HoldBelowWindow
+  Ok (window, hold)
+
+-- the pools, no two of which share an address
+unfoldable pub separate_pools : Members → Result (List Pool) ConfigFault
+separate_pools members = do
+  pools ← list_of parts.Pool pools_max pool_in members
+  apart ← refuse_if (overlap pools) PoolsOverlap
+  Ok pools
+
 -- the order of the checks
 unfoldable pub configuration_of : List ℕ → Result Configuration ConfigFault
 configuration_of text = do
   members ← ok_or (parse_document text) Syntax
-  window ← value (top members) rows.window
-  hold ← value (top members) rows.hold
-  ordered ← refuse_if (nat_lt hold window) HoldBelowWindow
+  spans ← ordered_spans members
   clients ← list_of parts.Client clients_max client_in members
-  pools ← list_of parts.Pool pools_max pool_in members
-  apart ← refuse_if (overlap pools) PoolsOverlap
+  pools ← separate_pools members
   users ← list_of parts.User users_max (user_in pools) members
-  Ok (record { window = window; hold = hold; clients = clients; pools = pools; users = users })
+  Ok (record { window = spans.0; hold = spans.1; clients = clients; pools = pools; users = users })

@@ -1,8 +1,9 @@
 //! The configuration of a server.
-ghost use Rattle.std.specs.Prelude.{◌≡◌, ok_or};
+ghost use Rattle.std.specs.Prelude.{◌≡◌, ◌≤◌, All, IfOk, false, length, ok_or};
 ghost use Rattle.toml.specs.Parse.{parse_document};
 ghost use Rattle.toml.specs.View.{table_view};
-ghost use Rattle.rad_config.specs.Configurations.{Gives};
+ghost use Rattle.rad_config.specs.Configurations.{Gives, ordered_spans, overlap, pools_max, separate_pools};
+ghost use Rattle.rad_config.specs.Ranges.{IsPool};
 
 use crate::config_fault::{ConfigFault, Part};
 use crate::entry::Entry;
@@ -68,22 +69,11 @@ impl Config {
         ensures { Gives (λ config. config) result (configuration_of text.now) }
     {
         let document = document(alloc, text)?;
-        let top = Entry {
-            part: Part::Top,
-            index: 0,
-            table: &document,
-        };
-        let window = top.number_or_default(&WINDOW)?;
-        let hold = top.number_or_default(&HOLD)?;
-        if hold < window {
-            return Err(ConfigFault::HoldBelowWindow);
-        }
+        let spans = ordered_spans(&document)?;
         let clients = read_clients(alloc, &document)?;
-        let pools = read_pools(alloc, &document)?;
-        if some_overlap(&pools) {
-            return Err(ConfigFault::PoolsOverlap);
-        }
+        let pools = separate_pools(alloc, &document)?;
         let users = read_users(alloc, &pools, &document)?;
+        let (window, hold) = spans;
         Ok(Config {
             window,
             hold,
@@ -202,4 +192,39 @@ fn document(alloc: Global, text: &str) -> Result<Table, ConfigFault>
         Err(error) if error.is_memory() => Err(ConfigFault::NoMemory),
         Err(_) => Err(ConfigFault::Syntax),
     }
+}
+
+// Window and hold, in seconds.
+#[tactic(auto, unfolding(crate::specs::Configurations::ordered_spans))]
+fn ordered_spans(document: &Table) -> Result<(u32, u32), ConfigFault>
+    ensures read { Gives (λ spans. spans) result (ordered_spans (table_view document.now)) }
+    ensures window { IfOk result (λ spans. (1 ≤ spans.0) × (spans.0 ≤ 3600)) }
+    ensures hold { IfOk result (λ spans. (spans.0 ≤ spans.1) × (spans.1 ≤ 86400)) }
+{
+    let top = Entry {
+        part: Part::Top,
+        index: 0,
+        table: document,
+    };
+    let window = top.number_or_default(&WINDOW)?;
+    let hold = top.number_or_default(&HOLD)?;
+    if hold < window {
+        return Err(ConfigFault::HoldBelowWindow);
+    }
+    Ok((window, hold))
+}
+
+// The pools of a document, no two of which share an address.
+#[tactic(auto, unfolding(crate::specs::Configurations::separate_pools))]
+fn separate_pools(alloc: Global, document: &Table) -> Result<Vec<Pool>, ConfigFault>
+    ensures read { Gives (λ pools. pools.items) result (separate_pools (table_view document.now)) }
+    ensures few { IfOk result (λ pools. length pools.items ≤ pools_max) }
+    ensures range { IfOk result (λ pools. All IsPool pools.items) }
+    ensures apart { IfOk result (λ pools. overlap pools.items ≡ false) }
+{
+    let pools = read_pools(alloc, document)?;
+    if some_overlap(&pools) {
+        return Err(ConfigFault::PoolsOverlap);
+    }
+    Ok(pools)
 }
