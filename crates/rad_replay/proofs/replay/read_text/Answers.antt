@@ -1,4 +1,4 @@
-use Rattle.std.proofs.Common.{◌++◌, List, ℕ, length, take, arith}
+use Rattle.std.proofs.Common.{◌++◌, List, ℕ, take, arith}
 use Rattle.std.proofs.KnownBytes.{Consumes-trans}
 use Rattle.std.proofs.lemmas.List.{length-append, length-take}
 use Rattle.rad_replay.proofs.replay.read_text.Goals as goal
