@@ -184,11 +184,12 @@ fn is_told(
     assert_eq!(rt; told, Some(want), "{what} from {source:x} to {door:?}");
 }
 
+// Asserts what is so, or ends with what was meant.
 fn holds(rt: &impl Abort, is_so: bool, what: &str) {
     assert!(rt; is_so, "{what}");
 }
 
-// Of a row that has a number.
+// The same of a row that has a number.
 fn holds_at(rt: &impl Abort, is_so: bool, what: &str, number: usize) {
     assert!(rt; is_so, "{what}: {number}");
 }

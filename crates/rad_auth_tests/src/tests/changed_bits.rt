@@ -1,5 +1,4 @@
 //! Requests that were changed on their way.
-ghost use Rattle.std.specs.Prelude.{◌<◌, length};
 
 use super::{
     CLIENT, START, STATUS_SERVER, STRICT_CLIENT, SUMMED_REQUEST, Told, holds_at, three_clients,
@@ -11,9 +10,10 @@ use rad_auth::{Clients, Door};
 use std::process::Abort;
 use std::test::Fail;
 
-// A request of at most this many octets, to a door: its name, and where it has a Message-Authenticator, that is last.
+// The most octets of a request that is changed.
 const LEN_MAX: usize = 74;
 
+// A request: its name, its door and its octets. Where it has a Message-Authenticator, that is last.
 type Case = (&'static str, Door, &'static [u8]);
 
 const CASES: [Case; 4] = [

@@ -1,5 +1,5 @@
 //! Eight arrivals in one call.
-ghost use Rattle.std.specs.Prelude.{◌<◌, ◌≤◌};
+ghost use Rattle.std.specs.Prelude.{◌<◌};
 
 use super::{
     ACCESS_REQUEST, CLIENT, OTHER_CLIENT, OTHER_START, PROXIED_START, START, STATUS_SERVER,
