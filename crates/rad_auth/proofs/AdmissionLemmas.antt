@@ -60,7 +60,7 @@ content_fits : (client : Client) (p : Packet) (checked : Unit {0}) → content_c
 unfolding content_checks
 content_fits client p checked e =
     let last : (lacks_status_type p ≡ false) × (nat_lt proxy_states_max (proxy_states_size p) ≡ false)
-        = last_rungs (has_bad_authenticator client p) (has_bad_message_authenticator client p) (lacks_message_authenticator client p) (lacks_status_type p) (nat_lt proxy_states_max (proxy_states_size p)) checked e in
+    = last_rungs (has_bad_authenticator client p) (has_bad_message_authenticator client p) (lacks_message_authenticator client p) (lacks_status_type p) (nat_lt proxy_states_max (proxy_states_size p)) checked e in
     (λ is. said (p.code == 4) (has_len 40 4 p.attributes) (eq-eqb p.code 4 is) last.0, ltb-false proxy_states_max (proxy_states_size p) last.1)
   where
     said : (accounting has_status : Bool) → accounting ≡ true → (accounting && not has_status) ≡ false → IsTrue has_status
