@@ -203,55 +203,65 @@ fn make_command<'a>(alloc: Global) -> Result<Command<'a>, AllocError> {
 
 // With the options that say how a request begins and is signed.
 fn header_options<'a>(alloc: Global, command: Command<'a>) -> Result<Command<'a>, AllocError> {
-    let kind = option(alloc, "kind", "KIND")
-        .help("Access-Request, Accounting-Request or Status-Server")
-        .required(true)
-        .value_parser(KINDS.as_slice());
-    let secret = option(alloc, "secret", "TEXT")
-        .help("The secret shared with the server, 1 to 128 octets")
-        .required(true);
-    let id = option(alloc, "id", "N")
-        .help("The Identifier, 0 to 255")
-        .default_value("0")
-        .value_parser(value_parser!(u8));
-    let random = option(alloc, "random", "HEX")
-        .help("The Request Authenticator of kinds access and status")
-        .default_value("00000000000000000000000000000000");
-    command.arg(kind)?.arg(secret)?.arg(id)?.arg(random)
+    let command = command.arg(
+        option(alloc, "kind", "KIND")
+            .help("Access-Request, Accounting-Request or Status-Server")
+            .required(true)
+            .value_parser(KINDS.as_slice()),
+    )?;
+    let command = command.arg(
+        option(alloc, "secret", "TEXT")
+            .help("The secret shared with the server, 1 to 128 octets")
+            .required(true),
+    )?;
+    let command = command.arg(
+        option(alloc, "id", "N")
+            .help("The Identifier, 0 to 255")
+            .default_value("0")
+            .value_parser(value_parser!(u8)),
+    )?;
+    command.arg(
+        option(alloc, "random", "HEX")
+            .help("The Request Authenticator of kinds access and status")
+            .default_value("00000000000000000000000000000000"),
+    )
 }
 
 // With the options that say which attributes a request has.
 fn attribute_options<'a>(alloc: Global, command: Command<'a>) -> Result<Command<'a>, AllocError> {
-    let user = option(alloc, "user", "TEXT").help("The User-Name, 1 to 253 octets");
-    let password = option(alloc, "password", "TEXT").help(
+    let command = command.arg(option(alloc, "user", "TEXT").help(
+        "The User-Name, 1 to 253 octets",
+    ))?;
+    let command = command.arg(option(alloc, "password", "TEXT").help(
         "The password of kind access, at most 128 octets",
-    );
-    let chap = option(alloc, "chap", "N")
-        .help(
-            "Sends the password by CHAP with this CHAP identifier, 0 to 255, instead of hiding it",
-        )
-        .value_parser(value_parser!(u8));
-    let status = option(alloc, "status", "N")
-        .help("The Acct-Status-Type of kind account, 0 to 4294967295")
-        .default_value("1")
-        .value_parser(value_parser!(u32));
-    let extra = option(alloc, "extra", "HEX")
-        .help(
-            "Attributes to put last, the octets of Type, Length and Value of each [default: none]",
-        )
-        .default_value("")
-        .hide_default_value(true);
-    let mac = Arg::new(alloc, "mac")
-        .long("mac")
-        .action(ArgAction::SetTrue)
-        .help("Puts a Message-Authenticator first, in kind access; kind status always has one");
-    command
-        .arg(user)?
-        .arg(password)?
-        .arg(chap)?
-        .arg(status)?
-        .arg(extra)?
-        .arg(mac)
+    ))?;
+    let command = command.arg(
+        option(alloc, "chap", "N")
+            .help(
+                "Sends the password by CHAP with this CHAP identifier, 0 to 255, instead of hiding it",
+            )
+            .value_parser(value_parser!(u8)),
+    )?;
+    let command = command.arg(
+        option(alloc, "status", "N")
+            .help("The Acct-Status-Type of kind account, 0 to 4294967295")
+            .default_value("1")
+            .value_parser(value_parser!(u32)),
+    )?;
+    let command = command.arg(
+        option(alloc, "extra", "HEX")
+            .help(
+                "Attributes to put last, the octets of Type, Length and Value of each [default: none]",
+            )
+            .default_value("")
+            .hide_default_value(true),
+    )?;
+    command.arg(
+        Arg::new(alloc, "mac")
+            .long("mac")
+            .action(ArgAction::SetTrue)
+            .help("Puts a Message-Authenticator first, in kind access; kind status always has one"),
+    )
 }
 
 // An option with a value.
