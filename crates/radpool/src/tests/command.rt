@@ -3,10 +3,27 @@
 use crate::command::Fault;
 use crate::tests::fake::Fake;
 use rad_replay::RunFault;
+use std::alloc::{AllocError, Global};
+use std::process::Abort;
 use std::test::Fail;
 
 /// Options of `make`, and the request.
-const REQUESTS: [(&str, &str); 36] = [
+type Made = (&'static str, &'static str);
+
+fn is_made(rt: &impl Abort, alloc: Global, options: &str, request: &str) -> Result<(), AllocError> {
+    let line = ["radpool make --secret xyzzy5461 ", options].concat(alloc)?;
+    Fake::new(alloc, line.as_bytes()).ends(rt, 0, request, "");
+    Ok(())
+}
+
+fn are_made(rt: &impl Abort, alloc: Global, rows: &[Made]) -> Result<(), AllocError> {
+    for (options, request) in rows {
+        is_made(rt, alloc, options, request)?;
+    }
+    Ok(())
+}
+
+const ACCOUNTING_REQUESTS: [Made; 9] = [
     (
         "--kind account --id 7",
         "0407001abf750299ba7111cf8a9def2b872d436c280600000001\n",
@@ -36,6 +53,23 @@ const REQUESTS: [(&str, &str); 36] = [
         "0400002cacdf800697a1d3c7ba68bd6558c62ead280600000001501200000000000000000000000000000000\n",
     ),
     (
+        "--kind account --id 7 --password arctangent",
+        "0407001abf750299ba7111cf8a9def2b872d436c280600000001\n",
+    ),
+    (
+        "--kind account --id 7 --chap 7 --password arctangent",
+        "0407001abf750299ba7111cf8a9def2b872d436c280600000001\n",
+    ),
+];
+
+#[test]
+fn accounting_requests(rt: HostRuntime) -> Result<(), Fail> {
+    are_made(&rt, rt.alloc(), &ACCOUNTING_REQUESTS)?;
+    Ok(())
+}
+
+const STATUS_SERVERS: [Made; 5] = [
+    (
         "--kind status",
         "0c0000260000000000000000000000000000000050121b46ac6e2d069e881c85e22b935d4655\n",
     ),
@@ -47,6 +81,23 @@ const REQUESTS: [(&str, &str); 36] = [
         "--kind status --id 9 --user nemo --random 0f403f9473978057bd83d5cb98f4227a --extra 2105616263",
         "0c0900310f403f9473978057bd83d5cb98f4227a5012cf4ededb7e306180f6f39de38453fbe701066e656d6f2105616263\n",
     ),
+    (
+        "--kind status --password arctangent",
+        "0c0000260000000000000000000000000000000050121b46ac6e2d069e881c85e22b935d4655\n",
+    ),
+    (
+        "--kind status --chap 7 --password arctangent",
+        "0c0000260000000000000000000000000000000050121b46ac6e2d069e881c85e22b935d4655\n",
+    ),
+];
+
+#[test]
+fn status_servers(rt: HostRuntime) -> Result<(), Fail> {
+    are_made(&rt, rt.alloc(), &STATUS_SERVERS)?;
+    Ok(())
+}
+
+const ACCESS_REQUESTS: [Made; 7] = [
     (
         "--kind access --status 4294967295",
         "0100001400000000000000000000000000000000\n",
@@ -76,6 +127,15 @@ const REQUESTS: [(&str, &str); 36] = [
         "--kind access --extra 2102",
         "01000016000000000000000000000000000000002102\n",
     ),
+];
+
+#[test]
+fn access_requests(rt: HostRuntime) -> Result<(), Fail> {
+    are_made(&rt, rt.alloc(), &ACCESS_REQUESTS)?;
+    Ok(())
+}
+
+const HIDDEN_PASSWORDS: [Made; 8] = [
     // RFC 2865, section 7.1.
     (
         "--kind access --random 0f403f9473978057bd83d5cb98f4227a --user nemo --password arctangent --extra 0406c0a80110050600000003",
@@ -107,13 +167,18 @@ const REQUESTS: [(&str, &str); 36] = [
         "010000380000000000000000000000000000000002127c3fc14b73fe2c4bf6e12cb37f163fb1501279f3efaebe13c26a75ef68bfd622f644\n",
     ),
     (
-        "--kind account --id 7 --password arctangent",
-        "0407001abf750299ba7111cf8a9def2b872d436c280600000001\n",
+        "--kind access --random 0f403f9473978057bd83d5cb98f4227a --password=-x",
+        "010000260f403f9473978057bd83d5cb98f4227a021241b413f9f2ba74ab5fe2e43f782a0aee\n",
     ),
-    (
-        "--kind status --password arctangent",
-        "0c0000260000000000000000000000000000000050121b46ac6e2d069e881c85e22b935d4655\n",
-    ),
+];
+
+#[test]
+fn hidden_passwords(rt: HostRuntime) -> Result<(), Fail> {
+    are_made(&rt, rt.alloc(), &HIDDEN_PASSWORDS)?;
+    Ok(())
+}
+
+const CHAP_PASSWORDS: [Made; 7] = [
     // RFC 2865, section 7.2. It doesn't tell the password, but its response is the one that this password gives.
     (
         "--kind access --id 1 --random 2aee86f08d0d55969ca5978e0d3367a2 --user flopsy --chap 22 --password arctangent --extra 0406c0a80110050600000014060600000002070600000001",
@@ -133,10 +198,6 @@ const REQUESTS: [(&str, &str); 36] = [
         "0100002e0f403f9473978057bd83d5cb98f4227a0313073f25c9ea76486dbb6e08f6da1baf940b3c073031323334\n",
     ),
     (
-        "--kind access --random 0f403f9473978057bd83d5cb98f4227a --password=-x",
-        "010000260f403f9473978057bd83d5cb98f4227a021241b413f9f2ba74ab5fe2e43f782a0aee\n",
-    ),
-    (
         "--kind access --id 255 --password arctangent --chap 255",
         "01ff0027000000000000000000000000000000000313ffa561a67ea3011c835948173132d59b93\n",
     ),
@@ -148,22 +209,11 @@ const REQUESTS: [(&str, &str); 36] = [
         "--kind access --user nemo --chap 7",
         "0100001a0000000000000000000000000000000001066e656d6f\n",
     ),
-    (
-        "--kind account --id 7 --chap 7 --password arctangent",
-        "0407001abf750299ba7111cf8a9def2b872d436c280600000001\n",
-    ),
-    (
-        "--kind status --chap 7 --password arctangent",
-        "0c0000260000000000000000000000000000000050121b46ac6e2d069e881c85e22b935d4655\n",
-    ),
 ];
 
 #[test]
-fn requests(rt: HostRuntime) -> Result<(), Fail> {
-    for (options, request) in REQUESTS {
-        let line = ["radpool make --secret xyzzy5461 ", options].concat(rt.alloc())?;
-        Fake::new(rt.alloc(), &line).ends(&rt, 0, request, "");
-    }
+fn chap_passwords(rt: HostRuntime) -> Result<(), Fail> {
+    are_made(&rt, rt.alloc(), &CHAP_PASSWORDS)?;
     Ok(())
 }
 
@@ -247,17 +297,15 @@ const FAULTS: [(&str, &str); 18] = [
 
 #[test]
 fn faults(rt: HostRuntime) {
-    for (line, text) in FAULTS {
-        Fake::new(rt.alloc(), line).ends(&rt, 2, "", text);
+    for (line, text) in FAULTS.iter() {
+        Fake::new(rt.alloc(), line.as_bytes()).ends(&rt, 2, "", text);
     }
 }
 
 #[test]
 fn a_word_that_is_not_utf8(rt: HostRuntime) {
-    let mut fake = Fake::new(rt.alloc(), "");
-    fake.line = b"radpool replay \xff";
     let text = "error: a word of the command line is not UTF-8\n";
-    fake.ends(&rt, 2, "", text);
+    Fake::new(rt.alloc(), b"radpool replay \xff").ends(&rt, 2, "", text);
 }
 
 const BAD_USER: &str = "'--user <TEXT>': a text of 1 to 253 octets would fit\n";
@@ -316,26 +364,35 @@ const UNFIT: [(&str, &str, &str); 20] = [
     ("access --extra 210521", "", BAD_ATTRIBUTES),
 ];
 
+fn is_unfit(
+    rt: &impl Abort,
+    alloc: Global,
+    (options, value, text): (&str, &str, &str),
+) -> Result<(), AllocError> {
+    let line = ["radpool make --secret x --kind ", options].concat(alloc)?;
+    let text = ["error: invalid value ", value, "for ", text].concat(alloc)?;
+    Fake::new(alloc, line.as_bytes()).ends(rt, 2, "", &text);
+    Ok(())
+}
+
 #[test]
 fn unfit_values(rt: HostRuntime) -> Result<(), Fail> {
-    for (options, value, text) in UNFIT {
-        let line = ["radpool make --secret x --kind ", options].concat(rt.alloc())?;
-        let text = ["error: invalid value ", value, "for ", text].concat(rt.alloc())?;
-        Fake::new(rt.alloc(), &line).ends(&rt, 2, "", &text);
+    for row in UNFIT.iter() {
+        is_unfit(&rt, rt.alloc(), *row)?;
     }
     Ok(())
 }
 
 /// Inputs of a replay, the output, the text on standard error, and the status.
-const REPLAYS: [(&str, &str, &str, u8); 2] = [
+const REPLAYS: [(&[u8], &str, &str, u8); 2] = [
     (
-        "---\n0 acct 192.168.1.17:1813 -\n",
+        b"---\n0 acct 192.168.1.17:1813 -\n",
         "1 drop 1 UnknownClient\n",
         "",
         0,
     ),
     (
-        "---\n0 acct 192.168.1.17:1813 -\nx\n",
+        b"---\n0 acct 192.168.1.17:1813 -\nx\n",
         "1 drop 1 UnknownClient\n",
         "radpool: datagram 2 is malformed\n",
         1,
@@ -344,24 +401,21 @@ const REPLAYS: [(&str, &str, &str, u8); 2] = [
 
 #[test]
 fn replays(rt: HostRuntime) {
-    for (input, output, text, status) in REPLAYS {
-        let mut fake = Fake::new(rt.alloc(), "radpool replay");
-        fake.input = input.as_bytes();
-        fake.ends(&rt, status, output, text);
+    for (input, output, text, status) in REPLAYS.iter() {
+        Fake::replay(rt.alloc(), input).ends(&rt, *status, output, text);
     }
 }
 
 #[test]
 fn no_output(rt: HostRuntime) {
-    let mut fake = Fake::new(rt.alloc(), "radpool make --kind status --secret xyzzy5461");
-    fake.is_full = true;
-    fake.ends(&rt, 1, "", "radpool: write failed\n");
+    let line = b"radpool make --kind status --secret xyzzy5461";
+    Fake::full(rt.alloc(), line).ends(&rt, 1, "", "radpool: write failed\n");
 }
 
 #[test]
 fn no_memory(rt: HostRuntime) {
     let fault = Fault::Run(RunFault::NoMemory);
-    Fake::new(rt.alloc(), "a report").reports(&rt, fault, 1, "radpool: out of memory\n");
+    Fake::new(rt.alloc(), b"a report").reports(&rt, fault, 1, "radpool: out of memory\n");
 }
 
 /// Configurations, each with its divider, and what is told of them.
@@ -394,13 +448,21 @@ const FAULTY: [(&[u8], &str); 11] = [
     (b"# \xff\n---", "1 Syntax\n"),
 ];
 
+fn is_faulty(
+    rt: &impl Abort,
+    alloc: Global,
+    input: &'static [u8],
+    told: &str,
+) -> Result<(), AllocError> {
+    let text = ["radpool: config fault ", told].concat(alloc)?;
+    Fake::replay(alloc, input).ends(rt, 1, "", &text);
+    Ok(())
+}
+
 #[test]
 fn faulty_configurations(rt: HostRuntime) -> Result<(), Fail> {
-    for (input, told) in FAULTY {
-        let mut fake = Fake::new(rt.alloc(), "radpool replay");
-        fake.input = input;
-        let text = ["radpool: config fault ", told].concat(rt.alloc())?;
-        fake.ends(&rt, 1, "", &text);
+    for (input, told) in FAULTY.iter() {
+        is_faulty(&rt, rt.alloc(), input, told)?;
     }
     Ok(())
 }

@@ -14,10 +14,10 @@ use std::rt::Env;
 #[derive(Drop)]
 pub struct Fake<'a> {
     alloc: Global,
-    pub line: &'a [u8],
-    pub input: &'static [u8],
+    line: &'a [u8],
+    input: &'static [u8],
     /// Whether standard output takes nothing.
-    pub is_full: bool,
+    is_full: bool,
     out: RefCell<String>,
     err: RefCell<String>,
 }
@@ -110,12 +110,26 @@ impl<'a> Alloc for Fake<'a> {
 
 impl<'a> Fake<'a> {
     /// With this command line, no input, and room for output.
-    pub fn new(alloc: Global, line: &'a str) -> Fake<'a> {
+    pub fn new(alloc: Global, line: &'a [u8]) -> Fake<'a> {
+        Fake::over(alloc, line, b"", false)
+    }
+
+    /// With this command line, and no room for output.
+    pub fn full(alloc: Global, line: &'a [u8]) -> Fake<'a> {
+        Fake::over(alloc, line, b"", true)
+    }
+
+    /// A replay of this input.
+    pub fn replay(alloc: Global, input: &'static [u8]) -> Fake<'a> {
+        Fake::over(alloc, b"radpool replay", input, false)
+    }
+
+    fn over(alloc: Global, line: &'a [u8], input: &'static [u8], is_full: bool) -> Fake<'a> {
         Fake {
             alloc,
-            line: line.as_bytes(),
-            input: b"",
-            is_full: false,
+            line,
+            input,
+            is_full,
             out: RefCell::new(String::new(alloc)),
             err: RefCell::new(String::new(alloc)),
         }
