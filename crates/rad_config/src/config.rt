@@ -64,7 +64,7 @@ impl Config {
     /// top, then `HoldBelowWindow`; the clients; the pools, then `PoolsOverlap`; the users. Of a list it is checked first that it
     /// is an array (`BadValue`), then how long it is (`TooMany`), then each entry in order, key by key in the table's order.
     /// `NoMemory` is told where an allocation fails, at whatever check that is.
-    #[tactic(auto, unfolding(crate::specs::Configurations::configuration_of))]
+    #[tactic(auto, unfolding(crate::specs::Configurations::configuration_of, crate::specs::Configurations::separate_pools))]
     pub fn read(alloc: Global, text: &str) -> Result<Config, ConfigFault>
         ensures { Gives (λ config. config) result (configuration_of text.now) }
     {
