@@ -18,6 +18,3 @@ pub use attribute::{Attribute, Attributes};
 pub use body::Body;
 pub use frame::{Frame, TooLong, write};
 pub use packet::{HEADER_SIZE, LENGTH_MAX, Packet, ReadFault};
-
-#[cfg(test)]
-mod tests;

@@ -2,7 +2,9 @@
 ghost use Rattle.std.specs.Prelude.{◌+◌, ◌≤◌, length};
 ghost use Rattle.rad_packet.specs.Attributes.{value_max};
 
-use super::*;
+use rad_packet::{
+    Attribute, Attributes, Body, Frame, Packet, ReadFault, TooLong, attribute, code, write,
+};
 use std::alloc::{AllocError, Global};
 use std::process::Abort;
 use std::test::Fail;
@@ -79,6 +81,11 @@ fn has_attribute(rt: &impl Abort, packet: &Packet<'_>, want: Attribute<'_>, name
     );
 }
 
+fn has_no_80(rt: &impl Abort, packet: &Packet<'_>, name: &str) {
+    holds(rt, packet.first(80).is_none(), "the first 80", name);
+    holds(rt, packet.count(80) == 0, "the count of 80", name);
+}
+
 fn has_request_attributes(rt: &impl Abort, packet: &Packet<'_>, name: &str) {
     let mut attributes = packet.attributes();
     for want in REQUEST_ATTRIBUTES.iter() {
@@ -87,8 +94,7 @@ fn has_request_attributes(rt: &impl Abort, packet: &Packet<'_>, name: &str) {
         has_attribute(rt, packet, *want, name);
     }
     holds(rt, attributes.next().is_none(), "the end", name);
-    holds(rt, packet.first(80).is_none(), "the first 80", name);
-    holds(rt, packet.count(80) == 0, "the count of 80", name);
+    has_no_80(rt, packet, name);
 }
 
 fn is_request(rt: &impl Abort, name: &str, octets: &[u8]) -> Result<(), Fail> {
@@ -189,6 +195,13 @@ fn with(body: Body, kind: u8, value: &[u8]) -> Result<Body, AllocError>
     Ok(body)
 }
 
+// A body of one attribute.
+fn body_of(alloc: Global, code: u8, kind: u8, value: &[u8]) -> Result<Body, AllocError>
+    requires { length value.now ≤ value_max }
+{
+    with(Body::new(alloc, code), kind, value)
+}
+
 fn says(rt: &impl Abort, body: &Body, code: u8, attributes: &[u8], name: &str) {
     holds(rt, body.code() == code, "the Code", name);
     holds(rt, body.size() == attributes.len(), "the size", name);
@@ -200,27 +213,34 @@ fn says(rt: &impl Abort, body: &Body, code: u8, attributes: &[u8], name: &str) {
     );
 }
 
+// The body is written, and the frame then has these octets.
+fn is_written(
+    rt: &impl Abort,
+    (body, identifier, authenticator): (&Body, u8, &[u8; 16]),
+    frame: &mut Frame,
+    spelled: &[u8],
+    name: &str,
+) {
+    let given = write(body, identifier, authenticator, frame);
+    holds(rt, given.is_ok(), "what the call gives", name);
+    holds(rt, frame.octets() == spelled, "the octets", name);
+}
+
+fn reply(alloc: Global) -> Result<Body, AllocError> {
+    let body = body_of(alloc, code::ACCESS_ACCEPT, 6, &[0, 0, 0, 1])?;
+    let body = with(body, 15, &[0, 0, 0, 0])?;
+    with(body, 14, &[192, 168, 1, 3])
+}
+
 #[test]
 fn writes_the_reply(rt: HostRuntime) -> Result<(), Fail> {
-    let body = Body::new(rt.alloc(), code::ACCESS_ACCEPT);
-    let body = with(body, 6, &[0, 0, 0, 1])?;
-    let body = with(body, 15, &[0, 0, 0, 0])?;
-    let body = with(body, 14, &[192, 168, 1, 3])?;
-    says(&rt, &body, 2, &REPLY[20..], "the reply");
+    let reply = reply(rt.alloc())?;
+    says(&rt, &reply, 2, &REPLY[20..], "the reply");
     let mut frame = Frame::new(rt.alloc())?;
-    holds(
-        &rt,
-        frame.octets().is_empty(),
-        "the octets",
-        "an empty frame",
-    );
-    write(&body, 0, &REPLY_AUTHENTICATOR, &mut frame)?;
-    holds(
-        &rt,
-        frame.octets() == REPLY.as_slice(),
-        "the octets",
-        "the reply",
-    );
+    let is_empty = frame.octets().is_empty();
+    holds(&rt, is_empty, "the octets", "an empty frame");
+    let written = (&reply, 0, &REPLY_AUTHENTICATOR);
+    is_written(&rt, written, &mut frame, &REPLY, "the reply");
     Ok(())
 }
 
@@ -229,9 +249,9 @@ fn writes_a_packet_of_no_attribute(rt: HostRuntime) -> Result<(), Fail> {
     let empty = Body::new(rt.alloc(), code::ACCESS_REJECT);
     says(&rt, &empty, 3, b"", "no attribute");
     let mut frame = Frame::new(rt.alloc())?;
-    write(&empty, 7, b"sixteen octets..", &mut frame)?;
-    let spelled = b"\x03\x07\x00\x14sixteen octets..".as_slice();
-    holds(&rt, frame.octets() == spelled, "the octets", "no attribute");
+    let spelled = b"\x03\x07\x00\x14sixteen octets..";
+    let written = (&empty, 7, b"sixteen octets..");
+    is_written(&rt, written, &mut frame, spelled, "no attribute");
     Ok(())
 }
 
@@ -292,29 +312,40 @@ fn writes_longest(rt: &impl Abort, alloc: Global, frame: &mut Frame) -> Result<(
 }
 
 fn writes_short(rt: &impl Abort, alloc: Global, frame: &mut Frame) -> Result<(), AllocError> {
-    let short = with(Body::new(alloc, code::ACCESS_CHALLENGE), 79, &[5; 253])?;
+    let short = body_of(alloc, code::ACCESS_CHALLENGE, 79, &[5; 253])?;
     let begun = (b"\x0b\x04\x01\x13".as_slice(), 275);
     writes(rt, (&short, 255), 4, frame, begun, "short");
     Ok(())
 }
 
+fn writes_what_fits(rt: &impl Abort, alloc: Global, frame: &mut Frame) -> Result<(), AllocError> {
+    refuses_over(rt, alloc, 1, frame, "over")?;
+    begins(rt, frame, b"", 0, "over");
+    writes_longest(rt, alloc, frame)?;
+    refuses_over(rt, alloc, 3, frame, "over again")?;
+    writes_short(rt, alloc, frame)?;
+    refuses_over(rt, alloc, 5, frame, "over at last")
+}
+
 #[test]
 fn writes_up_to_4096_octets(rt: HostRuntime) -> Result<(), Fail> {
     let mut frame = Frame::new(rt.alloc())?;
-    refuses_over(&rt, rt.alloc(), 1, &mut frame, "over")?;
-    begins(&rt, &frame, b"", 0, "over");
-    writes_longest(&rt, rt.alloc(), &mut frame)?;
-    refuses_over(&rt, rt.alloc(), 3, &mut frame, "over again")?;
-    writes_short(&rt, rt.alloc(), &mut frame)?;
-    refuses_over(&rt, rt.alloc(), 5, &mut frame, "over at last")?;
+    writes_what_fits(&rt, rt.alloc(), &mut frame)?;
     Ok(())
+}
+
+// A refusal with this Reply-Message and then a Proxy-State.
+fn message_and_state(alloc: Global, message: &[u8]) -> Result<Body, AllocError>
+    requires { length message.now ≤ value_max }
+{
+    let kind = attribute::REPLY_MESSAGE;
+    let body = body_of(alloc, code::ACCESS_REJECT, kind, message)?;
+    with(body, attribute::PROXY_STATE, b"abc")
 }
 
 #[test]
 fn a_copy_is_the_same_until_it_is_changed(rt: HostRuntime) -> Result<(), Fail> {
-    let body = Body::new(rt.alloc(), code::ACCESS_REJECT);
-    let body = with(body, attribute::REPLY_MESSAGE, b"access denied")?;
-    let body = with(body, attribute::PROXY_STATE, b"abc")?;
+    let body = message_and_state(rt.alloc(), b"access denied")?;
     let copy = body.copy()?;
     holds(&rt, copy.same(&body), "the same", "a copy");
     let copy = with(copy, attribute::PROXY_STATE, b"")?;
@@ -345,12 +376,18 @@ fn is_overwritten(rt: &impl Abort, frame: &mut Frame, place: usize, octets: &[u8
     );
 }
 
+// A frame of 25 octets, where the attribute has the Value abc.
+fn framed(alloc: Global) -> Result<Frame, Fail> {
+    let kind = attribute::PROXY_STATE;
+    let body = body_of(alloc, code::ACCESS_REJECT, kind, b"abc")?;
+    let mut frame = Frame::new(alloc)?;
+    write(&body, 1, b"0123456789abcdef", &mut frame)?;
+    Ok(frame)
+}
+
 #[test]
 fn octets_of_a_frame_are_overwritten(rt: HostRuntime) -> Result<(), Fail> {
-    let body = Body::new(rt.alloc(), code::ACCESS_REJECT);
-    let body = with(body, attribute::PROXY_STATE, b"abc")?;
-    let mut frame = Frame::new(rt.alloc())?;
-    write(&body, 1, b"0123456789abcdef", &mut frame)?;
+    let mut frame = framed(rt.alloc())?;
     let value = b"\x03\x01\x00\x190123456789abcdef\x21\x05xyz";
     is_overwritten(&rt, &mut frame, 22, b"xyz", value);
     let code = b"\x02\x01\x00\x190123456789abcdef\x21\x05xyz";
@@ -358,28 +395,26 @@ fn octets_of_a_frame_are_overwritten(rt: HostRuntime) -> Result<(), Fail> {
     Ok(())
 }
 
-#[test]
-fn attributes_that_are_left_have_their_octets(rt: HostRuntime) -> Result<(), Fail> {
-    let body = Body::new(rt.alloc(), code::ACCESS_REJECT);
-    let body = with(body, attribute::REPLY_MESSAGE, b"no")?;
-    let body = with(body, attribute::PROXY_STATE, b"abc")?;
-    let mut rest = body.attributes();
-    holds(
-        &rt,
-        rest.octets() == b"\x12\x04no\x21\x05abc".as_slice(),
-        "the octets",
-        "both",
-    );
+fn have_their_octets(rt: &impl Abort, mut rest: Attributes<'_>, name: &str) {
+    let both = b"\x12\x04no\x21\x05abc".as_slice();
+    holds(rt, rest.octets() == both, "the octets of both", name);
     let first = Attribute {
         kind: attribute::REPLY_MESSAGE,
         value: b"no",
     };
-    holds(&rt, rest.next() == Some(first), "the first", "both");
+    holds(rt, rest.next() == Some(first), "the first", name);
+    let second = b"\x21\x05abc".as_slice();
     holds(
-        &rt,
-        rest.octets() == b"\x21\x05abc".as_slice(),
-        "the octets",
-        "the second",
+        rt,
+        rest.octets() == second,
+        "the octets of the second",
+        name,
     );
+}
+
+#[test]
+fn attributes_that_are_left_have_their_octets(rt: HostRuntime) -> Result<(), Fail> {
+    let body = message_and_state(rt.alloc(), b"no")?;
+    have_their_octets(&rt, body.attributes(), "what is left");
     Ok(())
 }
