@@ -6,6 +6,9 @@ use Rattle.rad_packet.specs.Bodies.{packet_of_body}
 use Rattle.rad_packet.proofs.PacketLemmas.{again}
 use Rattle.rad_packet.proofs.frame.write.Goals as goal
 
+pub returns-then-size-clause-unchanged : goal.returns-then-size-clause-unchanged
+returns-then-size-clause-unchanged c = grind (arith, common_steps)
+
 pub returns-clause-read_again : goal.returns-clause-read_again
 returns-clause-read_again c = λ rest.
     let p : Packet = packet_of_body c.args.body.now c.args.identifier c.args.authenticator.now in
