@@ -1,4 +1,10 @@
-.PHONY: demo refused-memory test
+.PHONY: demo refused-memory test try
+
+# Runs radpool on the shipped transcript without a proof, and prints what it answered.
+try:
+	cd crates/radpool && rt try -- replay < ../../examples/requests.txt | diff ../../examples/requests.expected -
+	@cat examples/requests.expected
+	@echo "The output is that of examples/requests.expected. This was a trial run: nothing was proved."
 
 # Proves and builds radpool, runs it on the shipped transcript, and reads the shipped configuration.
 demo:
