@@ -10,6 +10,7 @@ mod chap;
 mod clients;
 mod discards;
 mod doors;
+mod hidden_passwords;
 mod lanes;
 mod message_authenticators;
 mod passwords;
