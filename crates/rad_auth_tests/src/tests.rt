@@ -104,14 +104,21 @@ const OTHER_START: &[u8; 26] = b"\
 // An address, a secret, and whether requests need a Message-Authenticator.
 type Row<'a> = (u32, &'a [u8], bool);
 
+// Adds a client.
+fn add(rt: &impl Abort, clients: &mut Clients, row: Row<'_>) -> Result<(), ClientFault>
+    requires { IsSecret row.1.now }
+{
+    assert!(rt; clients.len() < CLIENTS_MAX);
+    let (address, secret, require_message_authenticator) = row;
+    clients.add(address, secret, require_message_authenticator)
+}
+
 // The clients and one more.
 fn with(rt: &impl Abort, clients: Clients, row: Row<'_>) -> Result<Clients, ClientFault>
     requires { IsSecret row.1.now }
 {
     let mut clients = clients;
-    assert!(rt; clients.len() < CLIENTS_MAX);
-    let (address, secret, require_message_authenticator) = row;
-    clients.add(address, secret, require_message_authenticator)?;
+    add(rt, &mut clients, row)?;
     Ok(clients)
 }
 
@@ -182,7 +189,7 @@ fn is_told(
     what: &str,
 ) {
     let told = told_of(clients, source, door, octets);
-    assert_eq!(rt; told, Some(want), "{what} from {source:x} to {door:?}");
+    assert!(rt; told == Some(want), "{what} from {source:x} to {door:?}");
 }
 
 // Asserts what is so, or ends with what was meant.
@@ -196,7 +203,7 @@ fn holds_at(rt: &impl Abort, is_so: bool, what: &str, number: usize) {
 }
 
 fn are_octets(rt: &impl Abort, octets: &[u8], want: &[u8], what: &str) {
-    assert_eq!(rt; octets, want, "{what}");
+    holds(rt, octets == want, what);
 }
 
 // The Type and the Value of an attribute.

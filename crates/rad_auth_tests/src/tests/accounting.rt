@@ -7,8 +7,10 @@ use rad_auth::Door::Acct;
 use std::process::Abort;
 use std::test::Fail;
 
-// Accounting-Requests of the first client, Identifier 7: the name, the octets, and what is told.
-const CASES: [(&str, &[u8], Told); 13] = [
+// An Accounting-Request of the first client, Identifier 7: the name, the octets, and what is told.
+type Case = (&'static str, &'static [u8], Told);
+
+const CASES: [Case; 13] = [
     (
         "no attribute",
         b"\x04\x07\x00\x14\
@@ -108,9 +110,13 @@ const CASES: [(&str, &[u8], Told); 13] = [
     ),
 ];
 
+fn is_case(rt: &impl Abort, clients: &Clients, (name, octets, want): Case) {
+    is_told(rt, clients, (CLIENT, Acct), octets, want, name);
+}
+
 fn are_told(rt: &impl Abort, clients: &Clients) {
-    for (name, octets, want) in CASES {
-        is_told(rt, clients, (CLIENT, Acct), octets, want, name);
+    for case in CASES.iter() {
+        is_case(rt, clients, *case);
     }
 }
 

@@ -41,14 +41,18 @@ fn told_of_turned(
     told_of(clients, source, door, &turned[..len])
 }
 
+fn no_bit_of_it_may_turn(rt: &impl Abort, clients: &Clients, (name, door, octets): Case) {
+    for bit in 0..octets.len().min(LEN_MAX) * 8 {
+        let told = told_of_turned(clients, STRICT_CLIENT, door, octets, bit);
+        holds_at(rt, matches!(told, Some(Err(_))), name, bit);
+    }
+}
+
 // They come from the strict client. From another an Access-Request needs no Message-Authenticator, and is let in where
 // the Type of that attribute was changed.
 fn no_bit_may_turn(rt: &impl Abort, clients: &Clients) {
-    for (name, door, octets) in CASES {
-        for bit in 0..octets.len() * 8 {
-            let told = told_of_turned(clients, STRICT_CLIENT, door, octets, bit);
-            holds_at(rt, matches!(told, Some(Err(_))), name, bit);
-        }
+    for case in CASES.iter() {
+        no_bit_of_it_may_turn(rt, clients, *case);
     }
 }
 
@@ -58,13 +62,17 @@ fn a_request_with_a_changed_bit_is_never_let_in(rt: HostRuntime) -> Result<(), F
     Ok(())
 }
 
+fn no_bit_of_its_sum_may_turn(rt: &impl Abort, clients: &Clients, (name, door, octets): Case) {
+    let bits = octets.len().min(LEN_MAX) * 8;
+    for bit in bits.saturating_sub(128)..bits {
+        let told = told_of_turned(clients, CLIENT, door, octets, bit);
+        holds_at(rt, told == Some(Err(BadMessageAuthenticator)), name, bit);
+    }
+}
+
 fn no_bit_of_a_sum_may_turn(rt: &impl Abort, clients: &Clients) {
-    for (name, door, octets) in &CASES[..SUMMED] {
-        let bits = octets.len() * 8;
-        for bit in bits.saturating_sub(128)..bits {
-            let told = told_of_turned(clients, CLIENT, *door, octets, bit);
-            holds_at(rt, told == Some(Err(BadMessageAuthenticator)), name, bit);
-        }
+    for case in CASES.iter().take(SUMMED) {
+        no_bit_of_its_sum_may_turn(rt, clients, *case);
     }
 }
 

@@ -99,8 +99,8 @@ fn has_response(rt: &impl Abort, case: Case) {
 
 #[test]
 fn each_challenge_has_its_response(rt: HostRuntime) {
-    for case in CASES {
-        has_response(&rt, case);
+    for case in CASES.iter() {
+        has_response(&rt, *case);
     }
 }
 
@@ -185,10 +185,14 @@ const ANSWERS: [Answer; 12] = [
     ("no challenge", VALUE, b"shark", b"", false),
 ];
 
+fn is_answered(rt: &impl Abort, (name, value, password, challenge, want): Answer) {
+    holds(rt, chap_right(value, password, challenge) == want, name);
+}
+
 #[test]
 fn a_value_is_of_one_password_and_challenge(rt: HostRuntime) {
-    for (name, value, password, challenge, want) in ANSWERS {
-        holds(&rt, chap_right(value, password, challenge) == want, name);
+    for answer in ANSWERS.iter() {
+        is_answered(&rt, *answer);
     }
 }
 

@@ -1,7 +1,7 @@
 //! Lists of clients: who is found where, and which lists are the same.
 
 use super::{
-    CLIENT, OTHER_CLIENT, SECRET, STRANGER, STRICT_CLIENT, are_octets, holds, holds_at,
+    CLIENT, OTHER_CLIENT, SECRET, STRANGER, STRICT_CLIENT, add, are_octets, holds, holds_at,
     three_clients, with,
 };
 use rad_auth::{CLIENTS_MAX, ClientFault, Clients};
@@ -20,8 +20,7 @@ fn has_the_first_alone(rt: &impl Abort, clients: &Clients) {
 
 // Adds the first client again, with another secret and flag.
 fn is_doubled(rt: &impl Abort, clients: &mut Clients) {
-    assert!(rt; clients.len() < CLIENTS_MAX);
-    let again = clients.add(CLIENT, b"second", false);
+    let again = add(rt, clients, (CLIENT, b"second", false));
     holds(rt, again == Err(ClientFault::Doubled), "a doubled client");
     has_the_first_alone(rt, clients);
 }
@@ -36,19 +35,29 @@ fn a_doubled_address_keeps_the_first_secret(rt: HostRuntime) -> Result<(), Fail>
     Ok(())
 }
 
-const PLACES: [(&str, u32, Option<u32>); 4] = [
+// A name, an address, and the place of the client that has it.
+type Place = (&'static str, u32, Option<u32>);
+
+const PLACES: [Place; 4] = [
     ("first", CLIENT, Some(0)),
     ("middle", OTHER_CLIENT, Some(1)),
     ("last", STRICT_CLIENT, Some(2)),
     ("absent", STRANGER, None),
 ];
 
+fn is_found(rt: &impl Abort, clients: &Clients, (name, source, place): Place) {
+    holds(rt, clients.find(source) == place, name);
+}
+
+fn are_found(rt: &impl Abort, clients: &Clients) {
+    for place in PLACES.iter() {
+        is_found(rt, clients, *place);
+    }
+}
+
 #[test]
 fn a_client_is_found_at_its_place(rt: HostRuntime) -> Result<(), Fail> {
-    let clients = three_clients(&rt, rt.alloc())?;
-    for (name, source, place) in PLACES {
-        holds(&rt, clients.find(source) == place, name);
-    }
+    are_found(&rt, &three_clients(&rt, rt.alloc())?);
     Ok(())
 }
 
@@ -103,7 +112,10 @@ const FIRST: Short = (CLIENT, b"xyzzy5461", false);
 
 const SECOND: Short = (OTHER_CLIENT, b"xyzzy5462", true);
 
-const PAIRS: [(&str, Short, Short, bool); 5] = [
+// A name, two clients, and whether their list is that of the first and the second.
+type Listed = (&'static str, Short, Short, bool);
+
+const PAIRS: [Listed; 5] = [
     ("built apart", FIRST, SECOND, true),
     ("another order", SECOND, FIRST, false),
     (
@@ -126,27 +138,28 @@ const PAIRS: [(&str, Short, Short, bool); 5] = [
     ),
 ];
 
-fn each_is_same(rt: &impl Abort, alloc: Global, clients: &Clients) -> Result<(), ClientFault> {
-    for (name, first, second, want) in PAIRS {
-        are_same(
-            rt,
-            clients,
-            &two_clients(rt, alloc, first, second)?,
-            want,
-            name,
-        );
+fn is_same(
+    rt: &impl Abort,
+    alloc: Global,
+    clients: &Clients,
+    (name, first, second, want): Listed,
+) -> Result<(), Fail> {
+    let others = two_clients(rt, alloc, first, second)?;
+    are_same(rt, clients, &others, want, name);
+    Ok(())
+}
+
+fn each_is_same(rt: &impl Abort, alloc: Global, clients: &Clients) -> Result<(), Fail> {
+    for pair in PAIRS.iter() {
+        is_same(rt, alloc, clients, *pair)?;
     }
     Ok(())
 }
 
 #[test]
 fn lists_are_the_same_by_all_of_each_client(rt: HostRuntime) -> Result<(), Fail> {
-    each_is_same(
-        &rt,
-        rt.alloc(),
-        &two_clients(&rt, rt.alloc(), FIRST, SECOND)?,
-    )?;
-    Ok(())
+    let clients = two_clients(&rt, rt.alloc(), FIRST, SECOND)?;
+    each_is_same(&rt, rt.alloc(), &clients)
 }
 
 fn four_clients(rt: &impl Abort, alloc: Global) -> Result<Clients, ClientFault> {
@@ -154,8 +167,7 @@ fn four_clients(rt: &impl Abort, alloc: Global) -> Result<Clients, ClientFault> 
     with(rt, clients, (STRANGER, SECRET, false))
 }
 
-fn is_longer(rt: &impl Abort, alloc: Global, clients: &Clients) -> Result<(), ClientFault> {
-    are_same(rt, clients, &three_clients(rt, alloc)?, true, "built apart");
+fn are_longer(rt: &impl Abort, alloc: Global, clients: &Clients) -> Result<(), Fail> {
     are_same(
         rt,
         clients,
@@ -166,8 +178,12 @@ fn is_longer(rt: &impl Abort, alloc: Global, clients: &Clients) -> Result<(), Cl
     Ok(())
 }
 
+fn is_longer(rt: &impl Abort, alloc: Global, clients: &Clients) -> Result<(), Fail> {
+    are_same(rt, clients, &three_clients(rt, alloc)?, true, "built apart");
+    are_longer(rt, alloc, clients)
+}
+
 #[test]
 fn a_list_with_one_more_client_is_another(rt: HostRuntime) -> Result<(), Fail> {
-    is_longer(&rt, rt.alloc(), &three_clients(&rt, rt.alloc())?)?;
-    Ok(())
+    is_longer(&rt, rt.alloc(), &three_clients(&rt, rt.alloc())?)
 }

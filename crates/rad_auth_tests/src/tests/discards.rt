@@ -2,8 +2,12 @@
 
 use super::holds;
 use rad_auth::Discard;
+use std::process::Abort;
 
-const LABELS: [(Discard, u8, &str); 11] = [
+// A discard, its number and its name.
+type Label = (Discard, u8, &'static str);
+
+const LABELS: [Label; 11] = [
     (Discard::UnknownClient, 1, "UnknownClient"),
     (Discard::Short, 2, "Short"),
     (Discard::BadLength, 3, "BadLength"),
@@ -21,9 +25,13 @@ const LABELS: [(Discard, u8, &str); 11] = [
     (Discard::ProxyStateTooLong, 11, "ProxyStateTooLong"),
 ];
 
+fn has_label(rt: &impl Abort, (discard, number, name): Label) {
+    holds(rt, discard.label() == (number, name), name);
+}
+
 #[test]
 fn each_discard_has_its_label(rt: HostRuntime) {
-    for (discard, number, name) in LABELS {
-        holds(&rt, discard.label() == (number, name), name);
+    for label in LABELS.iter() {
+        has_label(&rt, *label);
     }
 }

@@ -256,37 +256,42 @@ const WRONG_SUMS: [Case; 6] = [
     ),
 ];
 
-fn requests_are_told(rt: &impl Abort, clients: &Clients) {
-    for (name, source, door, octets, want) in LET_IN {
-        is_told(rt, clients, (source, door), octets, want, name);
+fn is_case(rt: &impl Abort, clients: &Clients, (name, source, door, octets, want): Case) {
+    is_told(rt, clients, (source, door), octets, want, name);
+}
+
+fn are_told(rt: &impl Abort, clients: &Clients, cases: &[Case]) {
+    for case in cases {
+        is_case(rt, clients, *case);
     }
+}
+
+fn requests_are_told(rt: &impl Abort, clients: &Clients) {
+    are_told(rt, clients, &LET_IN);
 }
 
 fn no_requests_are_told(rt: &impl Abort, clients: &Clients) {
-    for (name, source, door, octets, want) in NO_REQUESTS {
-        is_told(rt, clients, (source, door), octets, want, name);
-    }
+    are_told(rt, clients, &NO_REQUESTS);
 }
 
 fn wrong_codes_are_told(rt: &impl Abort, clients: &Clients) {
-    for (name, source, door, octets, want) in WRONG_CODES {
-        is_told(rt, clients, (source, door), octets, want, name);
-    }
+    are_told(rt, clients, &WRONG_CODES);
 }
 
 fn wrong_sums_are_told(rt: &impl Abort, clients: &Clients) {
-    for (name, source, door, octets, want) in WRONG_SUMS {
-        is_told(rt, clients, (source, door), octets, want, name);
-    }
+    are_told(rt, clients, &WRONG_SUMS);
+}
+
+fn each_is_told(rt: &impl Abort, clients: &Clients) {
+    requests_are_told(rt, clients);
+    no_requests_are_told(rt, clients);
+    wrong_codes_are_told(rt, clients);
+    wrong_sums_are_told(rt, clients);
 }
 
 #[test]
 fn each_datagram_is_told_its_verdict(rt: HostRuntime) -> Result<(), Fail> {
-    let clients = three_clients(&rt, rt.alloc())?;
-    requests_are_told(&rt, &clients);
-    no_requests_are_told(&rt, &clients);
-    wrong_codes_are_told(&rt, &clients);
-    wrong_sums_are_told(&rt, &clients);
+    each_is_told(&rt, &three_clients(&rt, rt.alloc())?);
     Ok(())
 }
 
@@ -314,10 +319,13 @@ fn is_let_in_as(rt: &impl Abort, clients: &Clients, door: Door, datagram: &[u8],
     has_octets(rt, &check8(clients, &arrivals)[0], want, "padded");
 }
 
+fn are_let_in_as(rt: &impl Abort, clients: &Clients) {
+    is_let_in_as(rt, clients, Auth, PADDED_REQUEST, ACCESS_REQUEST);
+    is_let_in_as(rt, clients, Acct, PADDED_START, START);
+}
+
 #[test]
 fn padding_is_no_part_of_a_request(rt: HostRuntime) -> Result<(), Fail> {
-    let clients = three_clients(&rt, rt.alloc())?;
-    is_let_in_as(&rt, &clients, Auth, PADDED_REQUEST, ACCESS_REQUEST);
-    is_let_in_as(&rt, &clients, Acct, PADDED_START, START);
+    are_let_in_as(&rt, &three_clients(&rt, rt.alloc())?);
     Ok(())
 }

@@ -59,9 +59,17 @@ const DIGESTS_AND_SUMS: [Lane; 8] = [
     Some((CLIENT, Acct, PROXIED_START, Ok((0, 7)))),
 ];
 
-fn each_has_its_verdict(rt: &impl Abort, clients: &Clients) {
+fn mixed_are_told(rt: &impl Abort, clients: &Clients) {
     are_told(rt, clients, &MIXED);
+}
+
+fn digests_and_sums_are_told(rt: &impl Abort, clients: &Clients) {
     are_told(rt, clients, &DIGESTS_AND_SUMS);
+}
+
+fn each_has_its_verdict(rt: &impl Abort, clients: &Clients) {
+    mixed_are_told(rt, clients);
+    digests_and_sums_are_told(rt, clients);
 }
 
 #[test]
@@ -185,20 +193,25 @@ fn summed_lanes(first: u32, other: u32, refused: bool) -> [Lane; 8] {
     lanes
 }
 
+fn each_sum_has_its_own_secret(rt: &impl Abort, clients: &Clients) {
+    are_told(rt, clients, &summed_lanes(CLIENT, OTHER_CLIENT, false));
+    are_told(rt, clients, &summed_lanes(OTHER_CLIENT, CLIENT, true));
+}
+
 #[test]
 fn each_sum_is_made_under_its_own_secret(rt: HostRuntime) -> Result<(), Fail> {
-    let clients = three_clients(&rt, rt.alloc())?;
-    are_told(&rt, &clients, &summed_lanes(CLIENT, OTHER_CLIENT, false));
-    are_told(&rt, &clients, &summed_lanes(OTHER_CLIENT, CLIENT, true));
+    each_sum_has_its_own_secret(&rt, &three_clients(&rt, rt.alloc())?);
     Ok(())
 }
 
 // 10.0.0.0, which is the first of eight clients. The others are 10.0.0.1 to 10.0.0.7.
 const FIRST_OF_EIGHT: u32 = 0x0A00_0000;
 
-// What eight clients have and send: a secret, an Access-Request with its sum, and an Accounting-Request. The Identifiers
-// are 32 to 39 and 40 to 47.
-const EIGHT: [(&[u8; 9], &[u8], &[u8]); 8] = [
+// What a client has and sends: a secret, an Access-Request with its sum, and an Accounting-Request.
+type OfClient = (&'static [u8; 9], &'static [u8], &'static [u8]);
+
+// The Identifiers are 32 to 39 and 40 to 47.
+const EIGHT: [OfClient; 8] = [
     (
         b"secret #0",
         b"\x01\x20\x00\x2b\
@@ -281,20 +294,20 @@ const EIGHT: [(&[u8; 9], &[u8], &[u8]); 8] = [
     ),
 ];
 
+fn of_eight(lane: usize) -> OfClient
+    requires { lane < 8 }
+{
+    EIGHT[lane]
+}
+
 fn eight_clients(rt: &impl Abort, alloc: Global) -> Result<Clients, ClientFault> {
     let mut clients = Clients::new(alloc);
     for lane in 0..8 {
         let source = FIRST_OF_EIGHT + lane as u32;
-        clients = with(rt, clients, (source, secret_of_eight(lane), false))?;
+        let (secret, _, _) = of_eight(lane);
+        clients = with(rt, clients, (source, secret, false))?;
     }
     Ok(clients)
-}
-
-fn secret_of_eight(lane: usize) -> &'static [u8; 9]
-    requires { lane < 8 }
-{
-    let (secret, _, _) = EIGHT[lane];
-    secret
 }
 
 // What the eight clients send to a door, where the source is the client so many places on.
@@ -303,7 +316,7 @@ fn eight_lanes(door: Door, shift: usize) -> [Lane; 8]
 {
     let mut lanes = [None; 8];
     for lane in 0..8 {
-        let (_, access, accounting) = EIGHT[lane];
+        let (_, access, accounting) = of_eight(lane);
         let (octets, id, discard) = match door {
             Auth => (access, 32, BadMessageAuthenticator),
             Acct => (accounting, 40, BadAuthenticator),

@@ -312,46 +312,41 @@ fn extended(alloc: Global, len: u16, more: &[u8]) -> Result<Vec<u8>, AllocError>
     Ok(octets)
 }
 
-fn is_case(
-    rt: &impl Abort,
-    alloc: Global,
-    clients: &Clients,
-    case: Case,
-) -> Result<(), AllocError> {
+fn is_case(rt: &impl Abort, alloc: Global, clients: &Clients, case: Case) -> Result<(), Fail> {
     let (name, source, len, more, want) = case;
     let octets = extended(alloc, len, more)?;
     is_told(rt, clients, (source, Auth), &octets, want, name);
     Ok(())
 }
 
-fn right_are_told(rt: &impl Abort, alloc: Global, clients: &Clients) -> Result<(), AllocError> {
-    for case in LET_IN {
-        is_case(rt, alloc, clients, case)?;
+fn are_told(rt: &impl Abort, alloc: Global, clients: &Clients, cases: &[Case]) -> Result<(), Fail> {
+    for case in cases {
+        is_case(rt, alloc, clients, *case)?;
     }
     Ok(())
 }
 
-fn wrong_are_told(rt: &impl Abort, alloc: Global, clients: &Clients) -> Result<(), AllocError> {
-    for case in WRONG {
-        is_case(rt, alloc, clients, case)?;
-    }
-    Ok(())
+fn right_are_told(rt: &impl Abort, alloc: Global, clients: &Clients) -> Result<(), Fail> {
+    are_told(rt, alloc, clients, &LET_IN)
 }
 
-fn others_are_told(rt: &impl Abort, alloc: Global, clients: &Clients) -> Result<(), AllocError> {
-    for case in OTHERS {
-        is_case(rt, alloc, clients, case)?;
-    }
-    Ok(())
+fn wrong_are_told(rt: &impl Abort, alloc: Global, clients: &Clients) -> Result<(), Fail> {
+    are_told(rt, alloc, clients, &WRONG)
+}
+
+fn others_are_told(rt: &impl Abort, alloc: Global, clients: &Clients) -> Result<(), Fail> {
+    are_told(rt, alloc, clients, &OTHERS)
+}
+
+fn each_is_told(rt: &impl Abort, alloc: Global, clients: &Clients) -> Result<(), Fail> {
+    right_are_told(rt, alloc, clients)?;
+    wrong_are_told(rt, alloc, clients)?;
+    others_are_told(rt, alloc, clients)
 }
 
 #[test]
 fn each_message_authenticator_is_told_its_verdict(rt: HostRuntime) -> Result<(), Fail> {
-    let clients = three_clients(&rt, rt.alloc())?;
-    right_are_told(&rt, rt.alloc(), &clients)?;
-    wrong_are_told(&rt, rt.alloc(), &clients)?;
-    others_are_told(&rt, rt.alloc(), &clients)?;
-    Ok(())
+    each_is_told(&rt, rt.alloc(), &three_clients(&rt, rt.alloc())?)
 }
 
 const FIRST: &[u8; 74] = b"\
@@ -372,21 +367,28 @@ const IN_THE_MIDDLE: &[u8; 74] = b"\
     \x04\x06\xc0\xa8\x01\x10\
     \x05\x06\x00\x00\x00\x03";
 
-const PLACES: [(&str, &[u8; 74]); 2] = [("first", FIRST), ("in the middle", IN_THE_MIDDLE)];
-
 // Asserts what a request with the sum anywhere is told.
-fn are_told_anywhere(rt: &impl Abort, clients: &Clients, source: u32, want: Told) {
-    for (name, octets) in PLACES {
-        is_told(rt, clients, (source, Auth), octets, want, name);
-    }
+fn is_told_anywhere(rt: &impl Abort, clients: &Clients, source: u32, want: Told) {
+    is_told(rt, clients, (source, Auth), FIRST, want, "first");
+    is_told(
+        rt,
+        clients,
+        (source, Auth),
+        IN_THE_MIDDLE,
+        want,
+        "in the middle",
+    );
+}
+
+fn each_is_told_anywhere(rt: &impl Abort, clients: &Clients) {
+    is_told_anywhere(rt, clients, CLIENT, Ok((0, 0)));
+    is_told_anywhere(rt, clients, STRICT_CLIENT, Ok((2, 0)));
+    is_told_anywhere(rt, clients, OTHER_CLIENT, Err(BadMessageAuthenticator));
 }
 
 // Where it is last, the table above has it.
 #[test]
 fn a_message_authenticator_may_stand_anywhere(rt: HostRuntime) -> Result<(), Fail> {
-    let clients = three_clients(&rt, rt.alloc())?;
-    are_told_anywhere(&rt, &clients, CLIENT, Ok((0, 0)));
-    are_told_anywhere(&rt, &clients, STRICT_CLIENT, Ok((2, 0)));
-    are_told_anywhere(&rt, &clients, OTHER_CLIENT, Err(BadMessageAuthenticator));
+    each_is_told_anywhere(&rt, &three_clients(&rt, rt.alloc())?);
     Ok(())
 }

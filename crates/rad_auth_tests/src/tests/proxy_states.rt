@@ -5,11 +5,12 @@ ghost use Rattle.rad_packet.specs.Attributes.{value_max};
 use super::{
     CLIENT, Pair, SECRET, Told, extend, extend_by_proxies, holds, is_told, sign, three_clients,
 };
+use Behind::{Eap, EapAndSum, Nothing, Status, Sum};
 use rad_auth::Discard::{NoMessageAuthenticator, NoStatusType, ProxyStateTooLong};
 use rad_auth::Door::{Acct, Auth};
 use rad_auth::{Clients, Door, Secret};
-use rad_packet::attribute::{ACCT_STATUS_TYPE, EAP_MESSAGE, MESSAGE_AUTHENTICATOR};
-use rad_packet::{Body, Frame, TooLong, code};
+use rad_packet::attribute::{ACCT_STATUS_TYPE, EAP_MESSAGE, MESSAGE_AUTHENTICATOR, VALUE_MAX};
+use rad_packet::{Body, Frame, code};
 use std::alloc::{AllocError, Global};
 use std::process::Abort;
 use std::test::Fail;
@@ -37,8 +38,21 @@ fn fourteen_of_255_octets_and_one_of_14_are_3584(rt: HostRuntime) -> Result<(), 
     Ok(())
 }
 
-// A request to a door: its Code, how many octets the Value of its last Proxy-State has, and what stands behind that.
-type Case = (Door, u8, usize, &'static [Pair]);
+// What stands behind the Proxy-States.
+#[derive(Clone, Copy)]
+enum Behind {
+    Nothing,
+    Status,
+    Sum,
+    Eap,
+    EapAndSum,
+}
+
+// A request: its Code, how many octets the Value of its last Proxy-State has, and what stands behind that.
+type Proxied = (u8, usize, Behind);
+
+// A request's name, the door that it goes to, and what is told.
+type Case = (&'static str, Proxied, (Door, Told));
 
 // Signs a request, Identifier 7, and asserts what it is told.
 fn is_told_signed(
@@ -48,11 +62,23 @@ fn is_told_signed(
     body: &Body,
     (door, want): (Door, Told),
     name: &str,
-) -> Result<(), TooLong> {
+) -> Result<(), Fail> {
     let from = (7, b"Sixteen octets..");
     sign(rt, frame, body, from, &Secret::new(SECRET))?;
     is_told(rt, clients, (CLIENT, door), frame.octets(), want, name);
     Ok(())
+}
+
+fn is_case(
+    rt: &impl Abort,
+    alloc: Global,
+    frame: &mut Frame,
+    clients: &Clients,
+    (name, (code, last, behind), want): Case,
+) -> Result<(), Fail> {
+    assert!(rt; last <= VALUE_MAX);
+    let body = request(rt, alloc, code, last, pairs(behind))?;
+    is_told_signed(rt, frame, clients, &body, want, name)
 }
 
 const STATUS: Pair = (ACCT_STATUS_TYPE, b"\0\0\0\x01");
@@ -61,59 +87,69 @@ const EAP: Pair = (EAP_MESSAGE, b"a");
 
 const SUM: Pair = (MESSAGE_AUTHENTICATOR, &[0; 16]);
 
+fn pairs(behind: Behind) -> &'static [Pair] {
+    match behind {
+        Nothing => &[],
+        Status => &[STATUS],
+        Sum => &[SUM],
+        Eap => &[EAP],
+        EapAndSum => &[EAP, SUM],
+    }
+}
+
 const START: u8 = code::ACCOUNTING_REQUEST;
 
 const ACCESS: u8 = code::ACCESS_REQUEST;
 
-const CASES: [(&str, Case, Told); 13] = [
-    ("no status", (Acct, START, 12, &[]), Err(NoStatusType)),
-    ("the most", (Acct, START, 12, &[STATUS]), Ok((0, 7))),
+const CASES: [Case; 13] = [
+    ("no status", (START, 12, Nothing), (Acct, Err(NoStatusType))),
+    ("the most", (START, 12, Status), (Acct, Ok((0, 7)))),
     (
         "one more, and no status",
-        (Acct, START, 13, &[]),
-        Err(NoStatusType),
+        (START, 13, Nothing),
+        (Acct, Err(NoStatusType)),
     ),
     (
         "one more",
-        (Acct, START, 13, &[STATUS]),
-        Err(ProxyStateTooLong),
+        (START, 13, Status),
+        (Acct, Err(ProxyStateTooLong)),
     ),
-    ("the most", (Auth, ACCESS, 12, &[]), Ok((0, 7))),
+    ("the most", (ACCESS, 12, Nothing), (Auth, Ok((0, 7)))),
+    ("the most, and a sum", (ACCESS, 12, Sum), (Auth, Ok((0, 7)))),
     (
-        "the most, and a sum",
-        (Auth, ACCESS, 12, &[SUM]),
-        Ok((0, 7)),
+        "one more",
+        (ACCESS, 13, Nothing),
+        (Auth, Err(ProxyStateTooLong)),
     ),
-    ("one more", (Auth, ACCESS, 13, &[]), Err(ProxyStateTooLong)),
     (
         "one more, and an EAP-Message",
-        (Auth, ACCESS, 13, &[EAP]),
-        Err(NoMessageAuthenticator),
+        (ACCESS, 13, Eap),
+        (Auth, Err(NoMessageAuthenticator)),
     ),
     (
         "one more, an EAP-Message, and a sum",
-        (Auth, ACCESS, 13, &[EAP, SUM]),
-        Err(ProxyStateTooLong),
+        (ACCESS, 13, EapAndSum),
+        (Auth, Err(ProxyStateTooLong)),
     ),
     (
         "the most",
-        (Auth, code::STATUS_SERVER, 12, &[SUM]),
-        Ok((0, 7)),
+        (code::STATUS_SERVER, 12, Sum),
+        (Auth, Ok((0, 7))),
     ),
     (
         "the most",
-        (Acct, code::STATUS_SERVER, 12, &[SUM]),
-        Ok((0, 7)),
+        (code::STATUS_SERVER, 12, Sum),
+        (Acct, Ok((0, 7))),
     ),
     (
         "one more",
-        (Auth, code::STATUS_SERVER, 13, &[SUM]),
-        Err(ProxyStateTooLong),
+        (code::STATUS_SERVER, 13, Sum),
+        (Auth, Err(ProxyStateTooLong)),
     ),
     (
         "one more",
-        (Acct, code::STATUS_SERVER, 13, &[SUM]),
-        Err(ProxyStateTooLong),
+        (code::STATUS_SERVER, 13, Sum),
+        (Acct, Err(ProxyStateTooLong)),
     ),
 ];
 
@@ -123,15 +159,17 @@ fn are_told(
     frame: &mut Frame,
     clients: &Clients,
 ) -> Result<(), Fail> {
-    for (name, (door, code, last, more), want) in CASES {
-        let body = request(rt, alloc, code, last, more)?;
-        is_told_signed(rt, frame, clients, &body, (door, want), name)?;
+    for case in CASES.iter() {
+        is_case(rt, alloc, frame, clients, *case)?;
     }
     Ok(())
 }
 
+fn each_is_told(rt: &impl Abort, alloc: Global, clients: &Clients) -> Result<(), Fail> {
+    are_told(rt, alloc, &mut Frame::new(alloc)?, clients)
+}
+
 #[test]
 fn a_request_has_at_most_3584_octets_of_them(rt: HostRuntime) -> Result<(), Fail> {
-    let clients = three_clients(&rt, rt.alloc())?;
-    are_told(&rt, rt.alloc(), &mut Frame::new(rt.alloc())?, &clients)
+    each_is_told(&rt, rt.alloc(), &three_clients(&rt, rt.alloc())?)
 }

@@ -33,17 +33,21 @@ fn an_access_accept_has_the_authenticator_of_the_rfc(rt: HostRuntime) -> Result<
     Ok(())
 }
 
+fn two_frames(alloc: Global) -> Result<(Frame, Frame), AllocError> {
+    let first = Frame::new(alloc)?;
+    Ok((first, Frame::new(alloc)?))
+}
+
+fn four_frames(alloc: Global) -> Result<(Frame, Frame, Frame, Frame), AllocError> {
+    let (a, b) = two_frames(alloc)?;
+    let (c, d) = two_frames(alloc)?;
+    Ok((a, b, c, d))
+}
+
 fn empty_frames(alloc: Global) -> Result<[Frame; 8], AllocError> {
-    Ok([
-        Frame::new(alloc)?,
-        Frame::new(alloc)?,
-        Frame::new(alloc)?,
-        Frame::new(alloc)?,
-        Frame::new(alloc)?,
-        Frame::new(alloc)?,
-        Frame::new(alloc)?,
-        Frame::new(alloc)?,
-    ])
+    let (a, b, c, d) = four_frames(alloc)?;
+    let (e, f, g, h) = four_frames(alloc)?;
+    Ok([a, b, c, d, e, f, g, h])
 }
 
 fn are_written(rt: &impl Abort, frames: &[Frame; 8], wanted: &[&[u8]; 8]) {
@@ -239,6 +243,12 @@ fn write_before(alloc: Global, frames: &mut [Frame; 8]) -> Result<(), Fail> {
     Ok(())
 }
 
+fn write_and_seal(alloc: Global, frames: &mut [Frame; 8]) -> Result<(), Fail> {
+    write_before(alloc, frames)?;
+    seal_mixed(alloc, frames)?;
+    Ok(())
+}
+
 const MIXED: [&[u8]; 8] = [
     CHALLENGE,
     UNSEALED_REJECT,
@@ -253,8 +263,7 @@ const MIXED: [&[u8]; 8] = [
 #[test]
 fn replies_of_each_code_are_sealed_in_one_call(rt: HostRuntime) -> Result<(), Fail> {
     let mut frames = empty_frames(rt.alloc())?;
-    write_before(rt.alloc(), &mut frames)?;
-    seal_mixed(rt.alloc(), &mut frames)?;
+    write_and_seal(rt.alloc(), &mut frames)?;
     are_written(&rt, &frames, &MIXED);
     Ok(())
 }

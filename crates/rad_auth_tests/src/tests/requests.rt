@@ -32,7 +32,6 @@ const TEXT: Pair = (MESSAGE_AUTHENTICATOR, b"Sixteen octets..");
 
 const SHORT: Pair = (MESSAGE_AUTHENTICATOR, b"abc");
 
-// The attributes of the request of RFC 2865, section 7.1.
 const NAME: Pair = (USER_NAME, b"nemo");
 
 const PASSWORD: Pair = (
@@ -74,10 +73,14 @@ const SHORT_AND_SUM: &[u8; 79] = b"\
 
 const EMPTY_STATUS: &[u8; 20] = b"\x0c\x00\x00\x14\0\0\0\0\0\0\0\0\0\0\0\0\0\0\0\0";
 
-// A request to be signed: its Code, its Identifier, an Authenticator and its attributes.
+// A request to be signed: its Code, its Identifier, an Authenticator and its attributes. Those of an Access-Request stand
+// behind the RFC's.
 type Case = (u8, u8, &'static [u8; 16], &'static [Pair]);
 
-const CASES: [(&str, Case, &[u8]); 12] = [
+// Its name, the request, and the octets that it is signed as.
+type Signed = (&'static str, Case, &'static [u8]);
+
+const STARTS: [Signed; 3] = [
     (
         "a start",
         (code::ACCOUNTING_REQUEST, 7, UNUSED, &[STATUS]),
@@ -93,24 +96,17 @@ const CASES: [(&str, Case, &[u8]); 12] = [
         (code::ACCOUNTING_REQUEST, 7, UNUSED, &[STATUS, PROXY]),
         PROXIED_START,
     ),
+];
+
+const ACCESS_REQUESTS: [Signed; 5] = [
     (
         "an Access-Request with no room for a sum",
-        (
-            code::ACCESS_REQUEST,
-            0,
-            REQUEST_AUTHENTICATOR,
-            &[NAME, PASSWORD, ADDRESS, PORT],
-        ),
+        (code::ACCESS_REQUEST, 0, REQUEST_AUTHENTICATOR, &[]),
         ACCESS_REQUEST,
     ),
     (
         "an Access-Request with room for one",
-        (
-            code::ACCESS_REQUEST,
-            0,
-            REQUEST_AUTHENTICATOR,
-            &[NAME, PASSWORD, ADDRESS, PORT, ZEROS],
-        ),
+        (code::ACCESS_REQUEST, 0, REQUEST_AUTHENTICATOR, &[ZEROS]),
         SUMMED_REQUEST,
     ),
     (
@@ -119,18 +115,13 @@ const CASES: [(&str, Case, &[u8]); 12] = [
             code::ACCESS_REQUEST,
             0,
             REQUEST_AUTHENTICATOR,
-            &[NAME, PASSWORD, ADDRESS, PORT, ZEROS, TEXT],
+            &[ZEROS, TEXT],
         ),
         SUM_AND_TEXT,
     ),
     (
         "an Access-Request with text in the sum's place",
-        (
-            code::ACCESS_REQUEST,
-            0,
-            REQUEST_AUTHENTICATOR,
-            &[NAME, PASSWORD, ADDRESS, PORT, TEXT],
-        ),
+        (code::ACCESS_REQUEST, 0, REQUEST_AUTHENTICATOR, &[TEXT]),
         SUMMED_REQUEST,
     ),
     (
@@ -139,10 +130,13 @@ const CASES: [(&str, Case, &[u8]); 12] = [
             code::ACCESS_REQUEST,
             0,
             REQUEST_AUTHENTICATOR,
-            &[NAME, PASSWORD, ADDRESS, PORT, SHORT, ZEROS],
+            &[SHORT, ZEROS],
         ),
         SHORT_AND_SUM,
     ),
+];
+
+const STATUS_SERVERS: [Signed; 4] = [
     (
         "a Status-Server with no room for a sum",
         (code::STATUS_SERVER, 0, &[0; 16], &[]),
@@ -175,38 +169,89 @@ const CASES: [(&str, Case, &[u8]); 12] = [
     ),
 ];
 
+// The attributes of the request of RFC 2865, section 7.1.
+const OF_THE_RFC: [Pair; 4] = [NAME, PASSWORD, ADDRESS, PORT];
+
+// Adds attributes to a body, and to that of an Access-Request the RFC's before them.
+fn fill(rt: &impl Abort, body: &mut Body, pairs: &[Pair]) -> Result<(), AllocError> {
+    if body.code() == code::ACCESS_REQUEST {
+        extend(rt, body, &OF_THE_RFC)?;
+    }
+    extend(rt, body, pairs)
+}
+
 fn body_of(rt: &impl Abort, alloc: Global, code: u8, pairs: &[Pair]) -> Result<Body, AllocError> {
     let mut body = Body::new(alloc, code);
-    extend(rt, &mut body, pairs)?;
+    fill(rt, &mut body, pairs)?;
     Ok(body)
 }
 
 // Asserts the octets of a request under the first client's secret.
-fn is_signed(
+fn has_octets(
     rt: &impl Abort,
-    alloc: Global,
     frame: &mut Frame,
-    (code, id, authenticator, pairs): Case,
+    body: &Body,
+    from: (u8, &[u8; 16]),
     want: &[u8],
     name: &str,
 ) -> Result<(), Fail> {
-    let body = body_of(rt, alloc, code, pairs)?;
-    sign(rt, frame, &body, (id, authenticator), &Secret::new(SECRET))?;
+    sign(rt, frame, body, from, &Secret::new(SECRET))?;
     are_octets(rt, frame.octets(), want, name);
     Ok(())
 }
 
-fn are_signed(rt: &impl Abort, alloc: Global, frame: &mut Frame) -> Result<(), Fail> {
-    for (name, case, want) in CASES {
-        is_signed(rt, alloc, frame, case, want, name)?;
+fn is_signed(
+    rt: &impl Abort,
+    alloc: Global,
+    frame: &mut Frame,
+    (name, (code, id, authenticator, pairs), want): Signed,
+) -> Result<(), Fail> {
+    let body = body_of(rt, alloc, code, pairs)?;
+    has_octets(rt, frame, &body, (id, authenticator), want, name)
+}
+
+fn are_signed(
+    rt: &impl Abort,
+    alloc: Global,
+    frame: &mut Frame,
+    cases: &[Signed],
+) -> Result<(), Fail> {
+    for case in cases {
+        is_signed(rt, alloc, frame, *case)?;
     }
     Ok(())
+}
+
+fn starts_are_signed(rt: &impl Abort, alloc: Global, frame: &mut Frame) -> Result<(), Fail> {
+    are_signed(rt, alloc, frame, &STARTS)
+}
+
+fn access_requests_are_signed(
+    rt: &impl Abort,
+    alloc: Global,
+    frame: &mut Frame,
+) -> Result<(), Fail> {
+    are_signed(rt, alloc, frame, &ACCESS_REQUESTS)
+}
+
+fn status_servers_are_signed(
+    rt: &impl Abort,
+    alloc: Global,
+    frame: &mut Frame,
+) -> Result<(), Fail> {
+    are_signed(rt, alloc, frame, &STATUS_SERVERS)
+}
+
+fn each_is_signed(rt: &impl Abort, alloc: Global, frame: &mut Frame) -> Result<(), Fail> {
+    starts_are_signed(rt, alloc, frame)?;
+    access_requests_are_signed(rt, alloc, frame)?;
+    status_servers_are_signed(rt, alloc, frame)
 }
 
 // One frame serves all. The first Message-Authenticator of 16 octets gets the sum.
 #[test]
 fn requests_get_their_authenticators_and_sums(rt: HostRuntime) -> Result<(), Fail> {
-    are_signed(&rt, rt.alloc(), &mut Frame::new(rt.alloc())?)
+    each_is_signed(&rt, rt.alloc(), &mut Frame::new(rt.alloc())?)
 }
 
 // Signs a request under a secret, Identifier 5, and asserts that it is let in from the client at this place, whose secret
@@ -219,7 +264,7 @@ fn is_let_in_from(
     secret: &Secret,
     (own, place, stranger): (u32, u32, u32),
     (door, refused): (Door, Discard),
-) -> Result<(), TooLong> {
+) -> Result<(), Fail> {
     sign(rt, frame, body, (5, REQUEST_AUTHENTICATOR), secret)?;
     let octets = frame.octets();
     is_told(rt, clients, (own, door), octets, Ok((place, 5)), "its own");
@@ -234,41 +279,28 @@ fn is_let_in_from(
     Ok(())
 }
 
+// Asserts it of the first client and of the other.
 fn is_let_in(
     rt: &impl Abort,
-    alloc: Global,
+    frame: &mut Frame,
     clients: &Clients,
     body: &Body,
     by: (Door, Discard),
 ) -> Result<(), Fail> {
-    let mut frame = Frame::new(alloc)?;
     let first = (CLIENT, 0, OTHER_CLIENT);
-    is_let_in_from(
-        rt,
-        &mut frame,
-        clients,
-        body,
-        &Secret::new(SECRET),
-        first,
-        by,
-    )?;
+    is_let_in_from(rt, frame, clients, body, &Secret::new(SECRET), first, by)?;
     let other = (OTHER_CLIENT, 1, CLIENT);
-    is_let_in_from(
-        rt,
-        &mut frame,
-        clients,
-        body,
-        &Secret::new(OTHER_SECRET),
-        other,
-        by,
-    )?;
-    Ok(())
+    let secret = Secret::new(OTHER_SECRET);
+    is_let_in_from(rt, frame, clients, body, &secret, other, by)
 }
 
-const LET_IN: [(u8, &[Pair], (Door, Discard)); 4] = [
+// A request's Code, its attributes, the door that it goes to, and what it is told from another client.
+type LetIn = (u8, &'static [Pair], (Door, Discard));
+
+const LET_IN: [LetIn; 4] = [
     (
         code::ACCESS_REQUEST,
-        &[NAME, PASSWORD, ADDRESS, PORT, ZEROS],
+        &[ZEROS],
         (Auth, BadMessageAuthenticator),
     ),
     (
@@ -288,17 +320,36 @@ const LET_IN: [(u8, &[Pair], (Door, Discard)); 4] = [
     ),
 ];
 
-fn are_let_in(rt: &impl Abort, alloc: Global, clients: &Clients) -> Result<(), Fail> {
-    for (code, pairs, by) in LET_IN {
-        let body = body_of(rt, alloc, code, pairs)?;
-        is_let_in(rt, alloc, clients, &body, by)?;
+fn is_row_let_in(
+    rt: &impl Abort,
+    alloc: Global,
+    frame: &mut Frame,
+    clients: &Clients,
+    (code, pairs, by): LetIn,
+) -> Result<(), Fail> {
+    let body = body_of(rt, alloc, code, pairs)?;
+    is_let_in(rt, frame, clients, &body, by)
+}
+
+fn are_let_in(
+    rt: &impl Abort,
+    alloc: Global,
+    frame: &mut Frame,
+    clients: &Clients,
+) -> Result<(), Fail> {
+    for row in LET_IN.iter() {
+        is_row_let_in(rt, alloc, frame, clients, *row)?;
     }
     Ok(())
 }
 
+fn each_is_let_in(rt: &impl Abort, alloc: Global, clients: &Clients) -> Result<(), Fail> {
+    are_let_in(rt, alloc, &mut Frame::new(alloc)?, clients)
+}
+
 #[test]
 fn signed_requests_are_let_in(rt: HostRuntime) -> Result<(), Fail> {
-    are_let_in(&rt, rt.alloc(), &three_clients(&rt, rt.alloc())?)
+    each_is_let_in(&rt, rt.alloc(), &three_clients(&rt, rt.alloc())?)
 }
 
 // A body whose last Proxy-State has a Value of so many octets: with 249 the request has 4,096.
@@ -310,20 +361,30 @@ fn proxied(alloc: Global, code: u8, last: usize) -> Result<Body, AllocError>
     Ok(body)
 }
 
-// Signs the greatest request into a frame.
+// Signs a request into a frame, where it has 4,096 octets.
+fn is_taken(rt: &impl Abort, frame: &mut Frame, most: &Body) -> Result<(), Fail> {
+    sign(rt, frame, most, (7, UNUSED), &Secret::new(SECRET))?;
+    holds(rt, frame.octets().len() == 4096, "the greatest");
+    Ok(())
+}
+
+// Signs a request of 4,097 octets into a frame, which stays as it was, with these octets.
+fn is_refused(rt: &impl Abort, frame: &mut Frame, over: &Body, before: &[u8]) {
+    holds(rt, over.size() == 4077, "octets of attributes");
+    let signed = sign(rt, frame, over, (8, UNUSED), &Secret::new(SECRET));
+    holds(rt, signed == Err(TooLong), "a refusal");
+    are_octets(rt, frame.octets(), before, "a frame after a refusal");
+}
+
 fn is_taken_with_4096_octets(
     rt: &impl Abort,
     alloc: Global,
     frame: &mut Frame,
     code: u8,
 ) -> Result<(), Fail> {
-    let most = proxied(alloc, code, 249)?;
-    sign(rt, frame, &most, (7, UNUSED), &Secret::new(SECRET))?;
-    holds(rt, frame.octets().len() == 4096, "the greatest");
-    Ok(())
+    is_taken(rt, frame, &proxied(alloc, code, 249)?)
 }
 
-// Signs a greater request into a frame, which stays as it was, with these octets.
 fn is_refused_with_4097_octets(
     rt: &impl Abort,
     alloc: Global,
@@ -331,26 +392,37 @@ fn is_refused_with_4097_octets(
     code: u8,
     before: &[u8],
 ) -> Result<(), Fail> {
-    let over = proxied(alloc, code, 250)?;
-    holds(rt, over.size() == 4077, "octets of attributes");
-    let signed = sign(rt, frame, &over, (8, UNUSED), &Secret::new(SECRET));
-    holds(rt, signed == Err(TooLong), "a refusal");
-    are_octets(rt, frame.octets(), before, "a frame after a refusal");
+    is_refused(rt, frame, &proxied(alloc, code, 250)?, before);
     Ok(())
+}
+
+// Signs the greatest request into both frames, of which the first then stays as it was, as the other shows.
+fn is_bounded(
+    rt: &impl Abort,
+    alloc: Global,
+    frame: &mut Frame,
+    kept: &mut Frame,
+    code: u8,
+) -> Result<(), Fail> {
+    is_taken_with_4096_octets(rt, alloc, frame, code)?;
+    is_taken_with_4096_octets(rt, alloc, kept, code)?;
+    is_refused_with_4097_octets(rt, alloc, frame, code, kept.octets())
+}
+
+fn each_is_bounded(
+    rt: &impl Abort,
+    alloc: Global,
+    frame: &mut Frame,
+    kept: &mut Frame,
+) -> Result<(), Fail> {
+    is_bounded(rt, alloc, frame, kept, code::ACCESS_REQUEST)?;
+    is_bounded(rt, alloc, frame, kept, code::ACCOUNTING_REQUEST)?;
+    is_bounded(rt, alloc, frame, kept, code::STATUS_SERVER)
 }
 
 #[test]
 fn a_request_of_more_than_4096_octets_is_refused(rt: HostRuntime) -> Result<(), Fail> {
     let mut frame = Frame::new(rt.alloc())?;
     let mut kept = Frame::new(rt.alloc())?;
-    for code in [
-        code::ACCESS_REQUEST,
-        code::ACCOUNTING_REQUEST,
-        code::STATUS_SERVER,
-    ] {
-        is_taken_with_4096_octets(&rt, rt.alloc(), &mut frame, code)?;
-        is_taken_with_4096_octets(&rt, rt.alloc(), &mut kept, code)?;
-        is_refused_with_4097_octets(&rt, rt.alloc(), &mut frame, code, kept.octets())?;
-    }
-    Ok(())
+    each_is_bounded(&rt, rt.alloc(), &mut frame, &mut kept)
 }
