@@ -215,24 +215,61 @@ fn challenge(alloc: Global) -> Result<Body, AllocError>
 }
 
 // Replies of each Code, under the one secret or the other. The second lane, the fifth and the seventh have none.
-fn seal_mixed(alloc: Global, frames: &mut [Frame; 8]) -> Result<(), AllocError> {
-    let accept = accept(alloc)?;
-    let reject = reject(alloc)?;
+fn seal_four<'a>(
+    secret: &'a Secret,
+    other_secret: &'a Secret,
+    accept: &'a Body,
+    reject: &'a Body,
+    challenge: &'a Body,
+    response: &'a Body,
+    frames: &mut [Frame; 8],
+)
+    requires accept { IsReply accept.now }
+    requires reject { IsReply reject.now }
+    requires challenge { IsReply challenge.now }
+    requires response { IsReply response.now }
+{
+    let jobs = [
+        lane(ACCESS_REQUEST, challenge, secret),
+        None,
+        lane(OTHER_START, response, other_secret),
+        lane(OTHER_REQUEST, accept, other_secret),
+        None,
+        lane(ACCESS_REQUEST, reject, secret),
+        None,
+        lane(ACCESS_REQUEST, accept, secret),
+    ];
+    seal8(&jobs, frames);
+}
+
+fn seal_with(
+    alloc: Global,
+    accept: &Body,
+    reject: &Body,
+    frames: &mut [Frame; 8],
+) -> Result<(), AllocError>
+    requires accept { IsReply accept.now }
+    requires reject { IsReply reject.now }
+{
     let challenge = challenge(alloc)?;
     let response = response(alloc)?;
     let (secret, other_secret) = (Secret::new(SECRET), Secret::new(OTHER_SECRET));
-    let jobs = [
-        lane(ACCESS_REQUEST, &challenge, &secret),
-        None,
-        lane(OTHER_START, &response, &other_secret),
-        lane(OTHER_REQUEST, &accept, &other_secret),
-        None,
-        lane(ACCESS_REQUEST, &reject, &secret),
-        None,
-        lane(ACCESS_REQUEST, &accept, &secret),
-    ];
-    seal8(&jobs, frames);
+    seal_four(
+        &secret,
+        &other_secret,
+        accept,
+        reject,
+        &challenge,
+        &response,
+        frames,
+    );
     Ok(())
+}
+
+fn seal_mixed(alloc: Global, frames: &mut [Frame; 8]) -> Result<(), AllocError> {
+    let accept = accept(alloc)?;
+    let reject = reject(alloc)?;
+    seal_with(alloc, &accept, &reject, frames)
 }
 
 // Writes into the second frame and the third.
