@@ -2,7 +2,8 @@
 //!
 //! A `Packet` borrows a datagram and is exactly what the grammar of `specs/` says of its octets. A `Body` is a code and
 //! attributes, kept as they are spelled, and `write` puts the one spelling of a body, an Identifier and an Authenticator
-//! into a `Frame`. Attributes are read where they stand, and only `Body::push` and `Frame::new` take memory.
+//! into a `Frame`. Attributes are read where they stand, and only `Body::push`, `Body::copy` and `Frame::new` take
+//! memory.
 //!
 //! Others rest on this: `Packet::read` answers the packet that a datagram holds or the first fault, and `write` gives
 //! the packet's octets.
