@@ -1,4 +1,4 @@
-//! Digests and sums were computed by Python's hashlib and hmac, but for the exchanges of RFC 2865, section 7.1, and of
+//! Digests and HMACs were computed by Python's hashlib and hmac, but for the exchanges of RFC 2865, section 7.1, and of
 //! RFC 5997, section 6.
 ghost use Rattle.std.specs.Prelude.{◌≤◌};
 ghost use Rattle.rad_packet.specs.Attributes.{value_max};
@@ -55,8 +55,8 @@ const ACCESS_REQUEST: &[u8; 56] = b"\
     \x04\x06\xc0\xa8\x01\x10\
     \x05\x06\x00\x00\x00\x03";
 
-// The same with a Message-Authenticator behind it.
-const SUMMED_REQUEST: &[u8; 74] = b"\
+// The same followed by a Message-Authenticator.
+const SIGNED_REQUEST: &[u8; 74] = b"\
     \x01\x00\x00\x4a\
     \x0f\x40\x3f\x94\x73\x97\x80\x57\xbd\x83\xd5\xcb\x98\xf4\x22\x7a\
     \x01\x06nemo\
@@ -88,7 +88,7 @@ const START: &[u8; 26] = b"\
     \xbf\x75\x02\x99\xba\x71\x11\xcf\x8a\x9d\xef\x2b\x87\x2d\x43\x6c\
     \x28\x06\x00\x00\x00\x01";
 
-// The same with a Proxy-State behind it.
+// The same followed by a Proxy-State.
 const PROXIED_START: &[u8; 31] = b"\
     \x04\x07\x00\x1f\
     \x82\xef\xfc\xea\xf7\xaa\xf5\x45\x43\xe7\x6e\xe4\x58\x9a\xd7\x22\
@@ -139,9 +139,9 @@ fn arrival(source: u32, door: Door, octets: &[u8]) -> Option<Arrival<'_>> {
 }
 
 // The client's place and the Identifier of a request, or the discard.
-type Told = Result<(u32, u8), Discard>;
+type Verdict = Result<(u32, u8), Discard>;
 
-fn told(lane: &Option<Result<Request, Discard>>) -> Option<Told> {
+fn verdict(lane: &Option<Result<Request, Discard>>) -> Option<Verdict> {
     match lane {
         None => None,
         Some(Ok(request)) => Some(Ok((request.client, request.packet.identifier()))),
@@ -149,23 +149,23 @@ fn told(lane: &Option<Result<Request, Discard>>) -> Option<Told> {
     }
 }
 
-// What `check8` tells of eight arrivals.
-fn told_of_eight(clients: &Clients, arrivals: &[Option<Arrival>; 8]) -> [Option<Told>; 8] {
+// The verdicts of `check8` on eight arrivals.
+fn verdicts_on_eight(clients: &Clients, arrivals: &[Option<Arrival>; 8]) -> [Option<Verdict>; 8] {
     let verdicts = check8(clients, arrivals);
     [
-        told(&verdicts[0]),
-        told(&verdicts[1]),
-        told(&verdicts[2]),
-        told(&verdicts[3]),
-        told(&verdicts[4]),
-        told(&verdicts[5]),
-        told(&verdicts[6]),
-        told(&verdicts[7]),
+        verdict(&verdicts[0]),
+        verdict(&verdicts[1]),
+        verdict(&verdicts[2]),
+        verdict(&verdicts[3]),
+        verdict(&verdicts[4]),
+        verdict(&verdicts[5]),
+        verdict(&verdicts[6]),
+        verdict(&verdicts[7]),
     ]
 }
 
-// What it tells of one.
-fn told_of(clients: &Clients, source: u32, door: Door, octets: &[u8]) -> Option<Told> {
+// Its verdict on one.
+fn verdict_on(clients: &Clients, source: u32, door: Door, octets: &[u8]) -> Option<Verdict> {
     let arrivals = [
         arrival(source, door, octets),
         None,
@@ -176,20 +176,20 @@ fn told_of(clients: &Clients, source: u32, door: Door, octets: &[u8]) -> Option<
         None,
         None,
     ];
-    told(&check8(clients, &arrivals)[0])
+    verdict(&check8(clients, &arrivals)[0])
 }
 
-// Asserts what a datagram is told.
-fn is_told(
+// Asserts the verdict on a datagram.
+fn has_verdict(
     rt: &impl Abort,
     clients: &Clients,
     (source, door): (u32, Door),
     octets: &[u8],
-    want: Told,
+    want: Verdict,
     what: &str,
 ) {
-    let told = told_of(clients, source, door, octets);
-    assert!(rt; told == Some(want), "{what} from {source:x} to {door:?}");
+    let verdict = verdict_on(clients, source, door, octets);
+    assert!(rt; verdict == Some(want), "{what} from {source:x} to {door:?}");
 }
 
 // Asserts what is so, or ends with what was meant.

@@ -135,16 +135,16 @@ fn fault(rt: &impl AllocGlobal, text: &str) -> Option<ConfigFault> {
 }
 
 /// Asserts the outcome of a text.
-fn is_told<R: Abort + AllocGlobal>(rt: &R, text: &str, want: &str) -> Result<(), AllocError> {
+fn reads_as<R: Abort + AllocGlobal>(rt: &R, text: &str, want: &str) -> Result<(), AllocError> {
     let printed = outcome(rt, text)?;
     is_printed(rt, printed.as_str(), want, text);
     Ok(())
 }
 
 /// Asserts the outcome of each text.
-fn are_told<R: Abort + AllocGlobal>(rt: &R, cases: &[(&str, &str)]) -> Result<(), AllocError> {
+fn read_as<R: Abort + AllocGlobal>(rt: &R, cases: &[(&str, &str)]) -> Result<(), AllocError> {
     for (text, want) in cases {
-        is_told(rt, text, want)?;
+        reads_as(rt, text, want)?;
     }
     Ok(())
 }

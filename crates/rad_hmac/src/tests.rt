@@ -1,4 +1,4 @@
-//! The sums of RFC 2202, section 2, and sums and digests by Python's hmac and hashlib.
+//! The HMACs of RFC 2202, section 2, and HMACs and digests by Python's hmac and hashlib.
 ghost use Rattle.std.specs.Prelude.{◌≡◌, ◌-◌, ◌<◌, ◌^◌, ◌≤◌, length};
 ghost use Rattle.rad_md5.specs.Pieces.{HasFreePiece, message};
 ghost use Rattle.rad_hmac.specs.Hmac.{hmac};
@@ -23,13 +23,13 @@ fn pieces(octets: &[u8]) -> Pieces<'_>
     Pieces::of([front, &[], back, &[], &[]])
 }
 
-// The sum of one message, in the third lane; the others sum nothing.
-fn sum(key: &[u8], message: &[u8]) -> [u8; 16]
+// The HMAC of one message, in the third lane; the others have empty messages.
+fn hmac_of(key: &[u8], message: &[u8]) -> [u8; 16]
     requires { length message.now < 2 ^ 32 - 64 }
     ensures { result ≡ hmac key.now message.now }
 {
     let key = Key::new(key);
-    let sums = hmac8(&[
+    let hmacs = hmac8(&[
         (&key, pieces(&[])),
         (&key, pieces(&[])),
         (&key, pieces(message)),
@@ -39,7 +39,7 @@ fn sum(key: &[u8], message: &[u8]) -> [u8; 16]
         (&key, pieces(&[])),
         (&key, pieces(&[])),
     ]);
-    sums[2]
+    hmacs[2]
 }
 
 // A key or a message of at most 80 octets with its middle octet's lowest bit turned, in the first octets.
@@ -54,7 +54,7 @@ fn turned(octets: &[u8]) -> [u8; 80]
     turned
 }
 
-// A name, a key, a message and its sum.
+// A name, a key, a message and its HMAC.
 type Case = (
     &'static str,
     &'static [u8],
@@ -107,27 +107,27 @@ const CASES: [Case; 7] = [
     ),
 ];
 
-// A bit of the message or of the key turned gives another sum.
+// A bit of the message or of the key turned gives another HMAC.
 fn turned_has_another(rt: &impl Abort, key: &[u8], message: &[u8], want: &[u8; 16], name: &str)
     requires key { length key.now ≤ 80 }
     requires message { length message.now ≤ 80 }
 {
-    let other_message = sum(key, &turned(message)[..message.len()]);
+    let other_message = hmac_of(key, &turned(message)[..message.len()]);
     holds(rt, other_message != *want, "a bit of the message", name);
-    let other_key = sum(&turned(key)[..key.len()], message);
+    let other_key = hmac_of(&turned(key)[..key.len()], message);
     holds(rt, other_key != *want, "a bit of the key", name);
 }
 
-fn has_its_sum(rt: &impl Abort, (name, key, message, want): Case) {
+fn has_its_hmac(rt: &impl Abort, (name, key, message, want): Case) {
     assert!(rt; key.len() <= 80 && message.len() <= 80, "{name}");
-    holds(rt, sum(key, message) == *want, "the sum", name);
+    holds(rt, hmac_of(key, message) == *want, "the HMAC", name);
     turned_has_another(rt, key, message, want, name);
 }
 
 #[test]
-fn messages_have_the_sums_of_the_rfc(rt: HostRuntime) {
+fn messages_have_the_hmacs_of_the_rfc(rt: HostRuntime) {
     for case in CASES.iter() {
-        has_its_sum(&rt, *case);
+        has_its_hmac(&rt, *case);
     }
 }
 
@@ -135,10 +135,10 @@ fn messages_have_the_sums_of_the_rfc(rt: HostRuntime) {
 const TEXT: &[u8; 200] =
     b"This document describes HMAC, a mechanism for message authentication using cryptographic hash functions. HMAC can be used with any iterative cryptographic hash function, e.g., MD5, SHA-1, in combinati";
 
-fn is_sum(rt: &impl Abort, key: &[u8], message: &[u8], want: &[u8; 16], name: &str)
+fn is_hmac(rt: &impl Abort, key: &[u8], message: &[u8], want: &[u8; 16], name: &str)
     requires { length message.now ≤ 80 }
 {
-    holds(rt, sum(key, message) == *want, "the sum", name);
+    holds(rt, hmac_of(key, message) == *want, "the HMAC", name);
 }
 
 #[test]
@@ -148,11 +148,11 @@ fn a_key_is_digested_from_65_octets_on(rt: HostRuntime) {
     let of_64_octets = b"\xc5\x0f\x12\xc9\x5f\x2f\x4b\xb7\x1d\xba\xa8\xcf\xd4\x71\x2b\xce";
     let of_65_octets = b"\x18\x3e\xbc\x5e\x13\x2e\x65\xa1\xdf\x13\x07\xfc\x45\xcf\x13\x08";
     let digest_of_65_octets = b"\x34\x53\x0d\xab\xb7\xcb\x68\xaf\x86\x6f\xa2\x15\x61\x55\x0f\x98";
-    is_sum(&rt, &[], &[], of_no_octets, "no octets");
-    is_sum(&rt, &TEXT[..63], b"Hi There", of_63_octets, "63 octets");
-    is_sum(&rt, &TEXT[..64], b"Hi There", of_64_octets, "64 octets");
-    is_sum(&rt, &TEXT[..65], b"Hi There", of_65_octets, "65 octets");
-    is_sum(
+    is_hmac(&rt, &[], &[], of_no_octets, "no octets");
+    is_hmac(&rt, &TEXT[..63], b"Hi There", of_63_octets, "63 octets");
+    is_hmac(&rt, &TEXT[..64], b"Hi There", of_64_octets, "64 octets");
+    is_hmac(&rt, &TEXT[..65], b"Hi There", of_65_octets, "65 octets");
+    is_hmac(
         &rt,
         digest_of_65_octets,
         b"Hi There",
@@ -161,7 +161,7 @@ fn a_key_is_digested_from_65_octets_on(rt: HostRuntime) {
     );
 }
 
-// The digest of a message behind each octet of a key with this one turned into it.
+// The digest of a key, each octet xored with this one, followed by a message.
 fn padded_digest(key: &[u8; 64], pad: u8, message: &[u8]) -> [u8; 16] {
     let mut block = *key;
     for octet in block.iter_mut() {
@@ -173,7 +173,7 @@ fn padded_digest(key: &[u8; 64], pad: u8, message: &[u8]) -> [u8; 16] {
 }
 
 // HMAC by plain digests.
-fn plain_sum(key: &[u8], message: &[u8]) -> [u8; 16] {
+fn plain_hmac(key: &[u8], message: &[u8]) -> [u8; 16] {
     let mut block = [0; 64];
     if key.len() > 64 {
         block[..16].copy_from_slice(&Md5::digest(key));
@@ -206,7 +206,7 @@ fn each_lane_has_its_own_key_and_message(rt: HostRuntime) {
         &text[11..76],
         &text[0..200],
     ];
-    let sums = hmac8(&[
+    let hmacs = hmac8(&[
         (&Key::new(keys[0]), pieces(messages[0])),
         (&Key::new(keys[1]), pieces(messages[1])),
         (&Key::new(keys[2]), pieces(messages[2])),
@@ -220,7 +220,7 @@ fn each_lane_has_its_own_key_and_message(rt: HostRuntime) {
         "lane 0", "lane 1", "lane 2", "lane 3", "lane 4", "lane 5", "lane 6", "lane 7",
     ];
     for lane in 0..8 {
-        let want = plain_sum(keys[lane], messages[lane]);
-        holds(&rt, sums[lane] == want, "the sum", names[lane]);
+        let want = plain_hmac(keys[lane], messages[lane]);
+        holds(&rt, hmacs[lane] == want, "the HMAC", names[lane]);
     }
 }

@@ -54,7 +54,7 @@ fn holds(rt: &impl Abort, it: bool, what: &str, name: &str) {
     assert!(rt; it, "{what}, {name}");
 }
 
-// The request with another Length, more octets behind it, and then cut or filled up with octets 2. Two such octets are
+// The request with another Length, followed by more octets, and then cut or filled up with octets 2. Two such octets are
 // an attribute with no Value.
 fn datagram(alloc: Global, len: u16, more: &[u8], came: usize) -> Result<Vec<u8>, AllocError> {
     let mut octets = REQUEST.to_vec(alloc)?;
@@ -126,7 +126,7 @@ fn reads_the_request(rt: HostRuntime) -> Result<(), Fail> {
 
 const ODD: Result<usize, ReadFault> = Err(ReadFault::BadAttributes);
 
-// What it is, Length, what stands behind the request, the datagram's size, and the packet's size or the fault.
+// What it is, Length, what follows the request, the datagram's size, and the packet's size or the fault.
 type Datagram = (
     &'static str,
     u16,

@@ -1,14 +1,14 @@
 //! What an Accounting-Request says, and what its attributes are.
 
-use super::{CLIENT, Told, is_told, three_clients};
+use super::{CLIENT, Verdict, has_verdict, three_clients};
 use rad_auth::Clients;
 use rad_auth::Discard::{BadAuthenticator, NoStatusType};
 use rad_auth::Door::Acct;
 use std::process::Abort;
 use std::test::Fail;
 
-// An Accounting-Request of the first client, Identifier 7: the name, the octets, and what is told.
-type Case = (&'static str, &'static [u8], Told);
+// An Accounting-Request of the first client, Identifier 7: the name, the octets, and the verdict.
+type Case = (&'static str, &'static [u8], Verdict);
 
 const CASES: [Case; 13] = [
     (
@@ -111,17 +111,17 @@ const CASES: [Case; 13] = [
 ];
 
 fn is_case(rt: &impl Abort, clients: &Clients, (name, octets, want): Case) {
-    is_told(rt, clients, (CLIENT, Acct), octets, want, name);
+    has_verdict(rt, clients, (CLIENT, Acct), octets, want, name);
 }
 
-fn are_told(rt: &impl Abort, clients: &Clients) {
+fn have_verdicts(rt: &impl Abort, clients: &Clients) {
     for case in CASES.iter() {
         is_case(rt, clients, *case);
     }
 }
 
 #[test]
-fn accounting_requests_are_told_their_verdicts(rt: HostRuntime) -> Result<(), Fail> {
-    are_told(&rt, &three_clients(&rt, rt.alloc())?);
+fn accounting_requests_get_their_verdicts(rt: HostRuntime) -> Result<(), Fail> {
+    have_verdicts(&rt, &three_clients(&rt, rt.alloc())?);
     Ok(())
 }

@@ -1,9 +1,9 @@
-//! Datagrams of each kind, from each source and at each door.
+//! Datagrams of each kind, from each source and at each port.
 
 use super::{
-    ACCESS_REQUEST, CLIENT, OTHER_CLIENT, OTHER_START, RFC_ACCOUNTING_STATUS, RFC_STATUS, START,
-    STATUS_SERVER, STRANGER, STRICT_CLIENT, SUMMED_REQUEST, Told, are_octets, arrival, is_told,
-    three_clients,
+    ACCESS_REQUEST, CLIENT, OTHER_CLIENT, OTHER_START, RFC_ACCOUNTING_STATUS, RFC_STATUS,
+    SIGNED_REQUEST, START, STATUS_SERVER, STRANGER, STRICT_CLIENT, Verdict, are_octets, arrival,
+    has_verdict, three_clients,
 };
 use rad_auth::Discard::{
     BadAttributes, BadAuthenticator, BadLength, BadMessageAuthenticator, NoMessageAuthenticator,
@@ -49,11 +49,11 @@ const PADDED_START: &[u8; 29] = b"\
     \x28\x06\x00\x00\x00\x01\
     \x21\x03a";
 
-// A datagram: its name, the source and door that it came from and to, its octets, and what it is told.
-type Case = (&'static str, u32, Door, &'static [u8], Told);
+// A datagram: its name, its source and the server's port, its octets, and its verdict.
+type Case = (&'static str, u32, Door, &'static [u8], Verdict);
 
-// Those that are let in.
-const LET_IN: [Case; 12] = [
+// Those that are admitted.
+const ADMITTED: [Case; 12] = [
     (
         "an Access-Request",
         CLIENT,
@@ -69,10 +69,10 @@ const LET_IN: [Case; 12] = [
         Ok((0, 0)),
     ),
     (
-        "a summed Access-Request",
+        "a signed Access-Request",
         CLIENT,
         Auth,
-        SUMMED_REQUEST,
+        SIGNED_REQUEST,
         Ok((0, 0)),
     ),
     ("a Status-Server", CLIENT, Auth, STATUS_SERVER, Ok((0, 0))),
@@ -115,10 +115,10 @@ const NO_REQUESTS: [Case; 10] = [
         Err(UnknownClient),
     ),
     (
-        "a summed Access-Request",
+        "a signed Access-Request",
         STRANGER,
         Auth,
-        SUMMED_REQUEST,
+        SIGNED_REQUEST,
         Err(UnknownClient),
     ),
     ("no octets", CLIENT, Acct, b"", Err(Short)),
@@ -154,7 +154,7 @@ const NO_REQUESTS: [Case; 10] = [
     ),
 ];
 
-// Those of Codes that the door doesn't take.
+// Those of Codes that the port doesn't accept.
 const WRONG_CODES: [Case; 10] = [
     (
         "an Access-Request",
@@ -164,10 +164,10 @@ const WRONG_CODES: [Case; 10] = [
         Err(WrongCode),
     ),
     (
-        "a summed Access-Request",
+        "a signed Access-Request",
         CLIENT,
         Acct,
-        SUMMED_REQUEST,
+        SIGNED_REQUEST,
         Err(WrongCode),
     ),
     (
@@ -210,8 +210,8 @@ const WRONG_CODES: [Case; 10] = [
     ),
 ];
 
-// Those of which an Authenticator or a sum is wrong or absent.
-const WRONG_SUMS: [Case; 6] = [
+// Those of which an Authenticator or an HMAC is wrong or absent.
+const WRONG_AUTHENTICATORS: [Case; 6] = [
     (
         "an Authenticator of zeros",
         CLIENT,
@@ -257,45 +257,45 @@ const WRONG_SUMS: [Case; 6] = [
 ];
 
 fn is_case(rt: &impl Abort, clients: &Clients, (name, source, door, octets, want): Case) {
-    is_told(rt, clients, (source, door), octets, want, name);
+    has_verdict(rt, clients, (source, door), octets, want, name);
 }
 
-fn are_told(rt: &impl Abort, clients: &Clients, cases: &[Case]) {
+fn have_verdicts(rt: &impl Abort, clients: &Clients, cases: &[Case]) {
     for case in cases {
         is_case(rt, clients, *case);
     }
 }
 
-fn requests_are_told(rt: &impl Abort, clients: &Clients) {
-    are_told(rt, clients, &LET_IN);
+fn requests_have_verdicts(rt: &impl Abort, clients: &Clients) {
+    have_verdicts(rt, clients, &ADMITTED);
 }
 
-fn no_requests_are_told(rt: &impl Abort, clients: &Clients) {
-    are_told(rt, clients, &NO_REQUESTS);
+fn no_requests_have_verdicts(rt: &impl Abort, clients: &Clients) {
+    have_verdicts(rt, clients, &NO_REQUESTS);
 }
 
-fn wrong_codes_are_told(rt: &impl Abort, clients: &Clients) {
-    are_told(rt, clients, &WRONG_CODES);
+fn wrong_codes_have_verdicts(rt: &impl Abort, clients: &Clients) {
+    have_verdicts(rt, clients, &WRONG_CODES);
 }
 
-fn wrong_sums_are_told(rt: &impl Abort, clients: &Clients) {
-    are_told(rt, clients, &WRONG_SUMS);
+fn wrong_authenticators_have_verdicts(rt: &impl Abort, clients: &Clients) {
+    have_verdicts(rt, clients, &WRONG_AUTHENTICATORS);
 }
 
-fn each_is_told(rt: &impl Abort, clients: &Clients) {
-    requests_are_told(rt, clients);
-    no_requests_are_told(rt, clients);
-    wrong_codes_are_told(rt, clients);
-    wrong_sums_are_told(rt, clients);
+fn each_has_its_verdict(rt: &impl Abort, clients: &Clients) {
+    requests_have_verdicts(rt, clients);
+    no_requests_have_verdicts(rt, clients);
+    wrong_codes_have_verdicts(rt, clients);
+    wrong_authenticators_have_verdicts(rt, clients);
 }
 
 #[test]
-fn each_datagram_is_told_its_verdict(rt: HostRuntime) -> Result<(), Fail> {
-    each_is_told(&rt, &three_clients(&rt, rt.alloc())?);
+fn each_datagram_gets_its_verdict(rt: HostRuntime) -> Result<(), Fail> {
+    each_has_its_verdict(&rt, &three_clients(&rt, rt.alloc())?);
     Ok(())
 }
 
-// Asserts that a request was let in with these octets.
+// Asserts that a request was admitted with these octets.
 fn has_octets(rt: &impl Abort, lane: &Option<Result<Request, Discard>>, want: &[u8], what: &str) {
     let octets = match lane {
         Some(Ok(request)) => request.packet.octets(),
@@ -304,8 +304,8 @@ fn has_octets(rt: &impl Abort, lane: &Option<Result<Request, Discard>>, want: &[
     are_octets(rt, octets, want, what);
 }
 
-// Asserts that a datagram is let in as a request of these octets.
-fn is_let_in_as(rt: &impl Abort, clients: &Clients, door: Door, datagram: &[u8], want: &[u8]) {
+// Asserts that a datagram is admitted as a request of these octets.
+fn is_admitted_as(rt: &impl Abort, clients: &Clients, door: Door, datagram: &[u8], want: &[u8]) {
     let arrivals = [
         arrival(CLIENT, door, datagram),
         None,
@@ -319,13 +319,13 @@ fn is_let_in_as(rt: &impl Abort, clients: &Clients, door: Door, datagram: &[u8],
     has_octets(rt, &check8(clients, &arrivals)[0], want, "padded");
 }
 
-fn are_let_in_as(rt: &impl Abort, clients: &Clients) {
-    is_let_in_as(rt, clients, Auth, PADDED_REQUEST, ACCESS_REQUEST);
-    is_let_in_as(rt, clients, Acct, PADDED_START, START);
+fn are_admitted_as(rt: &impl Abort, clients: &Clients) {
+    is_admitted_as(rt, clients, Auth, PADDED_REQUEST, ACCESS_REQUEST);
+    is_admitted_as(rt, clients, Acct, PADDED_START, START);
 }
 
 #[test]
 fn padding_is_no_part_of_a_request(rt: HostRuntime) -> Result<(), Fail> {
-    are_let_in_as(&rt, &three_clients(&rt, rt.alloc())?);
+    are_admitted_as(&rt, &three_clients(&rt, rt.alloc())?);
     Ok(())
 }

@@ -6,7 +6,7 @@ use super::{REQUEST_AUTHENTICATOR, SECRET, are_octets, holds_at};
 use rad_auth::{PASSWORD_MAX, Secret, hide, reveal, value_fits};
 use std::process::Abort;
 
-// What stands in a room before a value or a text is written into it.
+// What a room holds before a value or a text is written into it.
 const FILLED: [u8; PASSWORD_MAX] = [7; PASSWORD_MAX];
 
 // A value or a text that was written into a room.
@@ -25,7 +25,7 @@ impl Written {
     }
 }
 
-// The value of a password, behind which the room stays as it was.
+// The value of a password, after which the room is unchanged.
 pub(crate) fn hidden(rt: &impl Abort, secret: &Secret, password: &[u8]) -> Written
     requires { length password.now ≤ 128 }
 {
@@ -43,16 +43,16 @@ pub(crate) fn hidden_with(
 {
     let mut room = FILLED;
     let len = hide(secret, authenticator, password, &mut room).min(PASSWORD_MAX);
-    are_octets(rt, &room[len..], &FILLED[len..], "behind the value");
+    are_octets(rt, &room[len..], &FILLED[len..], "after the value");
     Written { room, len }
 }
 
-// The text that is hidden as a value, behind which the room stays as it was.
+// The text that is hidden as a value, after which the room is unchanged.
 fn opened(rt: &impl Abort, secret: &Secret, value: &[u8]) -> Written {
     assert!(rt; value_fits(value));
     let mut room = FILLED;
     let len = reveal(secret, REQUEST_AUTHENTICATOR, value, &mut room).min(PASSWORD_MAX);
-    are_octets(rt, &room[len..], &FILLED[len..], "behind the text");
+    are_octets(rt, &room[len..], &FILLED[len..], "after the text");
     Written { room, len }
 }
 
@@ -211,7 +211,7 @@ const LAST_BLOCKS: &[u8; 2064] = b"\
     \xe3\xc3\x23\xe1\xfa\xa7\xa3\x5a\xc9\x97\x40\xc5\x03\x47\xd7\xb6\
     \xcd\x2a\xc2\xb9\x32\xec\xe7\x9e\x7c\x3f\x88\x10\xc6\x2a\xef\x14";
 
-// The password of this many octets, none of them zero, with zeros behind it.
+// The password of this many octets, none of them zero, padded with zeros.
 pub(crate) fn password_of(len: usize) -> [u8; PASSWORD_MAX]
     requires { len ≤ 128 }
 {

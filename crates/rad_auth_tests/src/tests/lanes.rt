@@ -2,8 +2,9 @@
 ghost use Rattle.std.specs.Prelude.{◌<◌};
 
 use super::{
-    ACCESS_REQUEST, CLIENT, OTHER_CLIENT, OTHER_START, PROXIED_START, START, STATUS_SERVER,
-    STRANGER, SUMMED_REQUEST, Told, arrival, holds, holds_at, three_clients, told_of_eight, with,
+    ACCESS_REQUEST, CLIENT, OTHER_CLIENT, OTHER_START, PROXIED_START, SIGNED_REQUEST, START,
+    STATUS_SERVER, STRANGER, Verdict, arrival, holds, holds_at, three_clients, verdicts_on_eight,
+    with,
 };
 use rad_auth::Discard::{
     BadAuthenticator, BadMessageAuthenticator, Short, UnknownClient, WrongCode,
@@ -14,10 +15,10 @@ use std::alloc::Global;
 use std::process::Abort;
 use std::test::Fail;
 
-// A datagram's source, door and octets, and what it is told.
-type Lane = Option<(u32, Door, &'static [u8], Told)>;
+// A datagram's source, port and octets, and its verdict.
+type Lane = Option<(u32, Door, &'static [u8], Verdict)>;
 
-fn are_told(rt: &impl Abort, clients: &Clients, lanes: &[Lane; 8]) {
+fn have_verdicts(rt: &impl Abort, clients: &Clients, lanes: &[Lane; 8]) {
     let mut arrivals = [None; 8];
     let mut wanted = [None; 8];
     for lane in 0..8 {
@@ -26,9 +27,9 @@ fn are_told(rt: &impl Abort, clients: &Clients, lanes: &[Lane; 8]) {
             wanted[lane] = Some(want);
         }
     }
-    let told = told_of_eight(clients, &arrivals);
+    let found = verdicts_on_eight(clients, &arrivals);
     for lane in 0..8 {
-        holds_at(rt, told[lane] == wanted[lane], "lane", lane);
+        holds_at(rt, found[lane] == wanted[lane], "lane", lane);
     }
 }
 
@@ -43,13 +44,13 @@ const MIXED: [Lane; 8] = [
     Some((STRANGER, Acct, b"", Err(UnknownClient))),
 ];
 
-const DIGESTS_AND_SUMS: [Lane; 8] = [
+const DIGESTS_AND_HMACS: [Lane; 8] = [
     Some((CLIENT, Acct, START, Ok((0, 7)))),
-    Some((CLIENT, Auth, SUMMED_REQUEST, Ok((0, 0)))),
+    Some((CLIENT, Auth, SIGNED_REQUEST, Ok((0, 0)))),
     Some((
         OTHER_CLIENT,
         Auth,
-        SUMMED_REQUEST,
+        SIGNED_REQUEST,
         Err(BadMessageAuthenticator),
     )),
     None,
@@ -59,17 +60,17 @@ const DIGESTS_AND_SUMS: [Lane; 8] = [
     Some((CLIENT, Acct, PROXIED_START, Ok((0, 7)))),
 ];
 
-fn mixed_are_told(rt: &impl Abort, clients: &Clients) {
-    are_told(rt, clients, &MIXED);
+fn mixed_have_verdicts(rt: &impl Abort, clients: &Clients) {
+    have_verdicts(rt, clients, &MIXED);
 }
 
-fn digests_and_sums_are_told(rt: &impl Abort, clients: &Clients) {
-    are_told(rt, clients, &DIGESTS_AND_SUMS);
+fn digests_and_hmacs_have_verdicts(rt: &impl Abort, clients: &Clients) {
+    have_verdicts(rt, clients, &DIGESTS_AND_HMACS);
 }
 
 fn each_has_its_verdict(rt: &impl Abort, clients: &Clients) {
-    mixed_are_told(rt, clients);
-    digests_and_sums_are_told(rt, clients);
+    mixed_have_verdicts(rt, clients);
+    digests_and_hmacs_have_verdicts(rt, clients);
 }
 
 #[test]
@@ -103,8 +104,8 @@ fn a_request_says_where_it_came_from_and_to(rt: HostRuntime) -> Result<(), Fail>
     Ok(())
 }
 
-// Requests of two clients, each with its sum: the source, the door, and the octets. Their Identifiers are 16 to 23.
-const SUMMED: [(u32, Door, &[u8]); 8] = [
+// Requests of two clients, each with its HMAC: the source, the port, and the octets. Their Identifiers are 16 to 23.
+const SIGNED: [(u32, Door, &[u8]); 8] = [
     (
         CLIENT,
         Auth,
@@ -172,12 +173,12 @@ const SUMMED: [(u32, Door, &[u8]); 8] = [
     ),
 ];
 
-// The lanes, where this source stands for the first client, and this for the other. They are told this discard, or that
-// they are let in.
-fn summed_lanes(first: u32, other: u32, refused: bool) -> [Lane; 8] {
+// The lanes, where this source stands for the first client, and this for the other. They are discarded, or
+// admitted.
+fn signed_lanes(first: u32, other: u32, refused: bool) -> [Lane; 8] {
     let mut lanes = [None; 8];
     for lane in 0..8 {
-        let (source, door, octets) = SUMMED[lane];
+        let (source, door, octets) = SIGNED[lane];
         let (source, place) = if source == CLIENT {
             (first, 0)
         } else {
@@ -193,21 +194,21 @@ fn summed_lanes(first: u32, other: u32, refused: bool) -> [Lane; 8] {
     lanes
 }
 
-fn each_sum_has_its_own_secret(rt: &impl Abort, clients: &Clients) {
-    are_told(rt, clients, &summed_lanes(CLIENT, OTHER_CLIENT, false));
-    are_told(rt, clients, &summed_lanes(OTHER_CLIENT, CLIENT, true));
+fn each_hmac_has_its_own_secret(rt: &impl Abort, clients: &Clients) {
+    have_verdicts(rt, clients, &signed_lanes(CLIENT, OTHER_CLIENT, false));
+    have_verdicts(rt, clients, &signed_lanes(OTHER_CLIENT, CLIENT, true));
 }
 
 #[test]
-fn each_sum_is_made_under_its_own_secret(rt: HostRuntime) -> Result<(), Fail> {
-    each_sum_has_its_own_secret(&rt, &three_clients(&rt, rt.alloc())?);
+fn each_hmac_is_computed_under_its_own_secret(rt: HostRuntime) -> Result<(), Fail> {
+    each_hmac_has_its_own_secret(&rt, &three_clients(&rt, rt.alloc())?);
     Ok(())
 }
 
 // 10.0.0.0, which is the first of eight clients. The others are 10.0.0.1 to 10.0.0.7.
 const FIRST_OF_EIGHT: u32 = 0x0A00_0000;
 
-// What a client has and sends: a secret, an Access-Request with its sum, and an Accounting-Request.
+// What a client has and sends: a secret, an Access-Request with its HMAC, and an Accounting-Request.
 type OfClient = (&'static [u8; 9], &'static [u8], &'static [u8]);
 
 // The Identifiers are 32 to 39 and 40 to 47.
@@ -310,7 +311,7 @@ fn eight_clients(rt: &impl Abort, alloc: Global) -> Result<Clients, ClientFault>
     Ok(clients)
 }
 
-// What the eight clients send to a door, where the source is the client so many places on.
+// What the eight clients send to a port, where the source is the client so many places on.
 fn eight_lanes(door: Door, shift: usize) -> [Lane; 8]
     requires { shift < 8 }
 {
@@ -334,12 +335,12 @@ fn eight_lanes(door: Door, shift: usize) -> [Lane; 8]
 
 fn each_has_its_own_key(rt: &impl Abort, clients: &Clients) {
     for shift in 0..8 {
-        are_told(rt, clients, &eight_lanes(Auth, shift));
-        are_told(rt, clients, &eight_lanes(Acct, shift));
+        have_verdicts(rt, clients, &eight_lanes(Auth, shift));
+        have_verdicts(rt, clients, &eight_lanes(Acct, shift));
     }
 }
 
-// From its own client each is let in, and from none of the seven others.
+// From its own client each is admitted, and from none of the seven others.
 #[test]
 fn each_lane_is_checked_under_its_own_key(rt: HostRuntime) -> Result<(), Fail> {
     each_has_its_own_key(&rt, &eight_clients(&rt, rt.alloc())?);

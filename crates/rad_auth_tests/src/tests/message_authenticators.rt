@@ -1,7 +1,8 @@
 //! Message-Authenticators of Access-Requests: how many, of what length, over what, and where among the attributes.
 
 use super::{
-    ACCESS_REQUEST, CLIENT, OTHER_CLIENT, STRANGER, STRICT_CLIENT, Told, is_told, three_clients,
+    ACCESS_REQUEST, CLIENT, OTHER_CLIENT, STRANGER, STRICT_CLIENT, Verdict, has_verdict,
+    three_clients,
 };
 use rad_auth::Clients;
 use rad_auth::Discard::{
@@ -12,112 +13,112 @@ use std::alloc::{AllocError, Global};
 use std::process::Abort;
 use std::test::Fail;
 
-const SUM: &[u8; 18] = b"\x50\x12\x63\xb7\x8a\x6b\x9d\x2f\x14\x99\x89\xfb\xf5\x7e\xa2\x1d\x19\x4c";
+const HMAC: &[u8; 18] = b"\x50\x12\x63\xb7\x8a\x6b\x9d\x2f\x14\x99\x89\xfb\xf5\x7e\xa2\x1d\x19\x4c";
 
 // The same octets as an attribute of another Type.
 const OTHER_TYPE: &[u8; 18] =
     b"\x51\x12\x63\xb7\x8a\x6b\x9d\x2f\x14\x99\x89\xfb\xf5\x7e\xa2\x1d\x19\x4c";
 
 // Under the other client's secret.
-const OTHER_SUM: &[u8; 18] =
+const OTHER_HMAC: &[u8; 18] =
     b"\x50\x12\x32\xbc\x70\xcc\x99\x42\x51\x6f\xdb\x53\xad\xb0\xe4\xf4\x09\x3b";
 
-const PADDED_SUM: &[u8; 21] =
+const PADDED_HMAC: &[u8; 21] =
     b"\x50\x12\x63\xb7\x8a\x6b\x9d\x2f\x14\x99\x89\xfb\xf5\x7e\xa2\x1d\x19\x4cabc";
 
-const SUM_OVER_PADDING: &[u8; 21] =
+const HMAC_OVER_PADDING: &[u8; 21] =
     b"\x50\x12\x64\xa3\x8b\xfd\x77\xac\x7f\xd2\x7c\x43\x97\x00\x75\x34\xf8\xd5abc";
 
 // Over the RFC's request alone.
-const SUM_OVER_OTHERS: &[u8; 18] =
+const HMAC_OVER_OTHERS: &[u8; 18] =
     b"\x50\x12\xec\xe3\x20\x85\x3d\x91\xe0\x48\x43\x2b\x28\x97\x70\x31\xc6\x76";
 
 // With zeros in the Authenticator's place too.
-const SUM_OVER_ZEROS: &[u8; 18] =
+const HMAC_OVER_ZEROS: &[u8; 18] =
     b"\x50\x12\x3c\xc9\xfe\x49\x53\x5d\xd7\x14\x9c\x8b\x1d\xe2\xfc\x8e\xad\x04";
 
-const SUM_AND_TEXT: &[u8; 36] = b"\
+const HMAC_AND_TEXT: &[u8; 36] = b"\
     \x50\x12\x18\xfc\xe4\x04\x9a\x22\x25\xd1\xe2\x54\x04\x26\x3d\xff\x20\xa6\
     \x50\x12Sixteen octets..";
 
-const TEXT_AND_SUM: &[u8; 36] = b"\
+const TEXT_AND_HMAC: &[u8; 36] = b"\
     \x50\x12Sixteen octets..\
     \x50\x12\xda\x45\x4f\x1a\x0b\x1f\x02\x33\xf9\xb5\x91\x7f\x25\x36\xdc\xa3";
 
-// The sum over both as zeros, in both.
-const SUM_TWICE: &[u8; 36] = b"\
+// The HMAC over both as zeros, in both.
+const HMAC_TWICE: &[u8; 36] = b"\
     \x50\x12\xb7\x6e\x32\x9a\x78\xbb\xea\xba\xa3\x23\x04\x31\x93\xce\xb9\x46\
     \x50\x12\xb7\x6e\x32\x9a\x78\xbb\xea\xba\xa3\x23\x04\x31\x93\xce\xb9\x46";
 
-const SHORT_AND_SUM: &[u8; 23] = b"\
+const SHORT_AND_HMAC: &[u8; 23] = b"\
     \x50\x05abc\
     \x50\x12\x16\xbd\xcb\xca\x4d\xd2\x7b\xcd\xc9\x19\xad\xd4\xd8\xb9\x3c\x7f";
 
-const SUM_AND_SHORT: &[u8; 23] = b"\
+const HMAC_AND_SHORT: &[u8; 23] = b"\
     \x50\x12\x93\xc5\x6d\x66\x1a\xad\x5c\xa9\xb5\x02\x33\xe9\x44\xf4\x60\x8a\
     \x50\x05abc";
 
-const EAP_AND_SUM: &[u8; 21] = b"\
+const EAP_AND_HMAC: &[u8; 21] = b"\
     \x4f\x03a\
     \x50\x12\x54\xa6\x6c\x24\x3b\xa4\x57\x28\x35\xc1\x7e\x99\xd7\x94\x5d\x6c";
 
-const SUM_AND_EAP: &[u8; 21] = b"\
+const HMAC_AND_EAP: &[u8; 21] = b"\
     \x50\x12\x7a\xf4\x5c\xd5\x42\xeb\x59\x0d\x6c\xcd\xd0\xf9\x5f\xb4\x64\x5f\
     \x4f\x03a";
 
-// The sum that is right before the EAP-Message.
-const EAP_AND_WRONG_SUM: &[u8; 21] = b"\
+// The HMAC that is right before the EAP-Message.
+const EAP_AND_WRONG_HMAC: &[u8; 21] = b"\
     \x4f\x03a\
     \x50\x12\x7a\xf4\x5c\xd5\x42\xeb\x59\x0d\x6c\xcd\xd0\xf9\x5f\xb4\x64\x5f";
 
 const ZEROS: &[u8; 18] = b"\x50\x12\0\0\0\0\0\0\0\0\0\0\0\0\0\0\0\0";
 
-// What stands behind the RFC's request: its name, the source, the Length, the octets, and what is told.
-type Case = (&'static str, u32, u16, &'static [u8], Told);
+// What follows the RFC's request: its name, the source, the Length, the octets, and the verdict.
+type Case = (&'static str, u32, u16, &'static [u8], Verdict);
 
-// Those that are let in.
-const LET_IN: [Case; 13] = [
+// Those that are admitted.
+const ADMITTED: [Case; 13] = [
     ("nothing", CLIENT, 56, b"", Ok((0, 0))),
     ("padding", CLIENT, 56, b"abc", Ok((0, 0))),
     ("zeros past Length", CLIENT, 56, ZEROS, Ok((0, 0))),
-    ("the sum", CLIENT, 74, SUM, Ok((0, 0))),
-    ("the sum and padding", CLIENT, 74, PADDED_SUM, Ok((0, 0))),
+    ("the HMAC", CLIENT, 74, HMAC, Ok((0, 0))),
+    ("the HMAC and padding", CLIENT, 74, PADDED_HMAC, Ok((0, 0))),
     (
-        "the sum with another Type",
+        "the HMAC with another Type",
         CLIENT,
         74,
         OTHER_TYPE,
         Ok((0, 0)),
     ),
     (
-        "an EAP-Message and the sum",
+        "an EAP-Message and the HMAC",
         CLIENT,
         77,
-        EAP_AND_SUM,
+        EAP_AND_HMAC,
         Ok((0, 0)),
     ),
     (
-        "the sum and an EAP-Message",
+        "the HMAC and an EAP-Message",
         CLIENT,
         77,
-        SUM_AND_EAP,
+        HMAC_AND_EAP,
         Ok((0, 0)),
     ),
     ("nothing", OTHER_CLIENT, 56, b"", Ok((1, 0))),
-    ("the sum", OTHER_CLIENT, 74, OTHER_SUM, Ok((1, 0))),
-    ("the sum", STRICT_CLIENT, 74, SUM, Ok((2, 0))),
+    ("the HMAC", OTHER_CLIENT, 74, OTHER_HMAC, Ok((1, 0))),
+    ("the HMAC", STRICT_CLIENT, 74, HMAC, Ok((2, 0))),
     (
-        "the sum and padding",
+        "the HMAC and padding",
         STRICT_CLIENT,
         74,
-        PADDED_SUM,
+        PADDED_HMAC,
         Ok((2, 0)),
     ),
     (
-        "the sum behind EAP",
+        "the HMAC after EAP",
         STRICT_CLIENT,
         77,
-        EAP_AND_SUM,
+        EAP_AND_HMAC,
         Ok((2, 0)),
     ),
 ];
@@ -147,80 +148,80 @@ const WRONG: [Case; 15] = [
         Err(BadMessageAuthenticator),
     ),
     (
-        "another client's sum",
+        "another client's HMAC",
         OTHER_CLIENT,
         74,
-        SUM,
+        HMAC,
         Err(BadMessageAuthenticator),
     ),
     (
-        "the sum over padding too",
+        "the HMAC over padding too",
         CLIENT,
         74,
-        SUM_OVER_PADDING,
+        HMAC_OVER_PADDING,
         Err(BadMessageAuthenticator),
     ),
     (
-        "the sum over the others",
+        "the HMAC over the others",
         CLIENT,
         74,
-        SUM_OVER_OTHERS,
+        HMAC_OVER_OTHERS,
         Err(BadMessageAuthenticator),
     ),
     (
-        "the sum over zeros",
+        "the HMAC over zeros",
         CLIENT,
         74,
-        SUM_OVER_ZEROS,
+        HMAC_OVER_ZEROS,
         Err(BadMessageAuthenticator),
     ),
     (
-        "the sum and text",
+        "the HMAC and text",
         CLIENT,
         92,
-        SUM_AND_TEXT,
+        HMAC_AND_TEXT,
         Err(BadMessageAuthenticator),
     ),
     (
-        "text and the sum",
+        "text and the HMAC",
         CLIENT,
         92,
-        TEXT_AND_SUM,
+        TEXT_AND_HMAC,
         Err(BadMessageAuthenticator),
     ),
     (
-        "the sum twice",
+        "the HMAC twice",
         CLIENT,
         92,
-        SUM_TWICE,
+        HMAC_TWICE,
         Err(BadMessageAuthenticator),
     ),
     (
-        "the sum twice",
+        "the HMAC twice",
         STRICT_CLIENT,
         92,
-        SUM_TWICE,
+        HMAC_TWICE,
         Err(BadMessageAuthenticator),
     ),
     (
-        "3 octets and the sum",
+        "3 octets and the HMAC",
         CLIENT,
         79,
-        SHORT_AND_SUM,
+        SHORT_AND_HMAC,
         Err(BadMessageAuthenticator),
     ),
     (
-        "the sum and 3 octets",
+        "the HMAC and 3 octets",
         CLIENT,
         79,
-        SUM_AND_SHORT,
+        HMAC_AND_SHORT,
         Err(BadMessageAuthenticator),
     ),
     (
-        "EAP and a wrong sum",
+        "EAP and a wrong HMAC",
         CLIENT,
         77,
-        EAP_AND_WRONG_SUM,
+        EAP_AND_WRONG_HMAC,
         Err(BadMessageAuthenticator),
     ),
 ];
@@ -234,7 +235,7 @@ const OTHERS: [Case; 12] = [
         b"",
         Err(UnknownClient),
     ),
-    ("the sum", STRANGER, 74, SUM, Err(UnknownClient)),
+    ("the HMAC", STRANGER, 74, HMAC, Err(UnknownClient)),
     ("Length 57 of 56 octets", CLIENT, 57, b"", Err(Truncated)),
     (
         "Length 57 of 56 octets",
@@ -251,10 +252,10 @@ const OTHERS: [Case; 12] = [
         Err(BadAttributes),
     ),
     (
-        "the sum and one octet",
+        "the HMAC and one octet",
         CLIENT,
         75,
-        PADDED_SUM,
+        PADDED_HMAC,
         Err(BadAttributes),
     ),
     (
@@ -286,14 +287,14 @@ const OTHERS: [Case; 12] = [
         Err(NoMessageAuthenticator),
     ),
     (
-        "the sum past Length",
+        "the HMAC past Length",
         STRICT_CLIENT,
         56,
-        SUM,
+        HMAC,
         Err(NoMessageAuthenticator),
     ),
     (
-        "the sum with another Type",
+        "the HMAC with another Type",
         STRICT_CLIENT,
         74,
         OTHER_TYPE,
@@ -301,7 +302,7 @@ const OTHERS: [Case; 12] = [
     ),
 ];
 
-// The RFC's request with another Length, and with more octets behind it.
+// The RFC's request with another Length, and followed by more octets.
 fn extended(alloc: Global, len: u16, more: &[u8]) -> Result<Vec<u8>, AllocError> {
     let request = ACCESS_REQUEST.as_slice();
     let mut octets = Vec::new(alloc);
@@ -315,38 +316,43 @@ fn extended(alloc: Global, len: u16, more: &[u8]) -> Result<Vec<u8>, AllocError>
 fn is_case(rt: &impl Abort, alloc: Global, clients: &Clients, case: Case) -> Result<(), Fail> {
     let (name, source, len, more, want) = case;
     let octets = extended(alloc, len, more)?;
-    is_told(rt, clients, (source, Auth), &octets, want, name);
+    has_verdict(rt, clients, (source, Auth), &octets, want, name);
     Ok(())
 }
 
-fn are_told(rt: &impl Abort, alloc: Global, clients: &Clients, cases: &[Case]) -> Result<(), Fail> {
+fn have_verdicts(
+    rt: &impl Abort,
+    alloc: Global,
+    clients: &Clients,
+    cases: &[Case],
+) -> Result<(), Fail> {
     for case in cases {
         is_case(rt, alloc, clients, *case)?;
     }
     Ok(())
 }
 
-fn right_are_told(rt: &impl Abort, alloc: Global, clients: &Clients) -> Result<(), Fail> {
-    are_told(rt, alloc, clients, &LET_IN)
+fn right_have_verdicts(rt: &impl Abort, alloc: Global, clients: &Clients) -> Result<(), Fail> {
+    have_verdicts(rt, alloc, clients, &ADMITTED)
 }
 
-fn wrong_are_told(rt: &impl Abort, alloc: Global, clients: &Clients) -> Result<(), Fail> {
-    are_told(rt, alloc, clients, &WRONG)
+fn wrong_have_verdicts(rt: &impl Abort, alloc: Global, clients: &Clients) -> Result<(), Fail> {
+    have_verdicts(rt, alloc, clients, &WRONG)
 }
 
-fn others_are_told(rt: &impl Abort, alloc: Global, clients: &Clients) -> Result<(), Fail> {
-    are_told(rt, alloc, clients, &OTHERS)
+fn others_have_verdicts(rt: &impl Abort, alloc: Global, clients: &Clients) -> Result<(), Fail> {
+    have_verdicts(rt, alloc, clients, &OTHERS)
 }
 
-fn each_is_told(rt: &impl Abort, alloc: Global, clients: &Clients) -> Result<(), Fail> {
-    right_are_told(rt, alloc, clients)?;
-    wrong_are_told(rt, alloc, clients)?;
-    others_are_told(rt, alloc, clients)
+fn each_has_its_verdict(rt: &impl Abort, alloc: Global, clients: &Clients) -> Result<(), Fail> {
+    right_have_verdicts(rt, alloc, clients)?;
+    wrong_have_verdicts(rt, alloc, clients)?;
+    others_have_verdicts(rt, alloc, clients)
 }
 
 #[test]
-fn each_message_authenticator_is_told_its_verdict(rt: HostRuntime) -> Result<(), Fail> {
-    each_is_told(&rt, rt.alloc(), &three_clients(&rt, rt.alloc())?)
+fn each_message_authenticator_gets_its_verdict(rt: HostRuntime) -> Result<(), Fail> {
+    each_has_its_verdict(&rt, rt.alloc(), &three_clients(&rt, rt.alloc())?)
 }
 
 const FIRST: &[u8; 74] = b"\
@@ -367,10 +373,10 @@ const IN_THE_MIDDLE: &[u8; 74] = b"\
     \x04\x06\xc0\xa8\x01\x10\
     \x05\x06\x00\x00\x00\x03";
 
-// Asserts what a request with the sum anywhere is told.
-fn is_told_anywhere(rt: &impl Abort, clients: &Clients, source: u32, want: Told) {
-    is_told(rt, clients, (source, Auth), FIRST, want, "first");
-    is_told(
+// Asserts the verdict on a request with the HMAC anywhere.
+fn has_verdict_anywhere(rt: &impl Abort, clients: &Clients, source: u32, want: Verdict) {
+    has_verdict(rt, clients, (source, Auth), FIRST, want, "first");
+    has_verdict(
         rt,
         clients,
         (source, Auth),
@@ -380,15 +386,15 @@ fn is_told_anywhere(rt: &impl Abort, clients: &Clients, source: u32, want: Told)
     );
 }
 
-fn each_is_told_anywhere(rt: &impl Abort, clients: &Clients) {
-    is_told_anywhere(rt, clients, CLIENT, Ok((0, 0)));
-    is_told_anywhere(rt, clients, STRICT_CLIENT, Ok((2, 0)));
-    is_told_anywhere(rt, clients, OTHER_CLIENT, Err(BadMessageAuthenticator));
+fn each_has_its_verdict_anywhere(rt: &impl Abort, clients: &Clients) {
+    has_verdict_anywhere(rt, clients, CLIENT, Ok((0, 0)));
+    has_verdict_anywhere(rt, clients, STRICT_CLIENT, Ok((2, 0)));
+    has_verdict_anywhere(rt, clients, OTHER_CLIENT, Err(BadMessageAuthenticator));
 }
 
 // Where it is last, the table above has it.
 #[test]
 fn a_message_authenticator_may_stand_anywhere(rt: HostRuntime) -> Result<(), Fail> {
-    each_is_told_anywhere(&rt, &three_clients(&rt, rt.alloc())?);
+    each_has_its_verdict_anywhere(&rt, &three_clients(&rt, rt.alloc())?);
     Ok(())
 }

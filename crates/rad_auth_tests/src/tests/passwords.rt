@@ -21,7 +21,7 @@ fn is_right(
 }
 
 // Asserts whether a password is that of a value.
-fn is_told(
+fn checks_as(
     rt: &impl Abort,
     secret: &Secret,
     value: &[u8],
@@ -39,13 +39,13 @@ fn is_right_whole(rt: &impl Abort, secret: &Secret, len: usize)
     let mut octets = password_of(len);
     let value = hidden(rt, secret, &octets[..len]);
     let value = value.octets();
-    is_told(rt, secret, value, &octets[..len], true, "whole");
+    checks_as(rt, secret, value, &octets[..len], true, "whole");
     if len < PASSWORD_MAX {
         octets[len] = 1;
-        is_told(rt, secret, value, &octets[..len + 1], false, "one more");
+        checks_as(rt, secret, value, &octets[..len + 1], false, "one more");
     }
     if len > 0 {
-        is_told(
+        checks_as(
             rt,
             secret,
             value,
@@ -54,7 +54,7 @@ fn is_right_whole(rt: &impl Abort, secret: &Secret, len: usize)
             "without the last",
         );
         octets[len - 1] ^= 1;
-        is_told(rt, secret, value, &octets[..len], false, "the last another");
+        checks_as(rt, secret, value, &octets[..len], false, "the last another");
     }
 }
 
@@ -69,7 +69,7 @@ fn a_password_of_each_length_is_right_whole(rt: HostRuntime) {
 const VALUE_OF_NOTHING: &[u8; 16] =
     b"\x6c\xcc\x13\xf9\xf2\xba\x74\xab\x5f\xe2\xe4\x3f\x78\x2a\x0a\xee";
 
-// Of `seventeen octets`, which are 16, and of the same with a full stop behind them, and an exclamation mark.
+// Of `seventeen octets`, which are 16, and of the same followed by a full stop, and by an exclamation mark.
 const SIXTEEN: &[u8; 16] = b"\x1f\xa9\x65\x9c\x9c\xce\x11\xce\x31\xc2\x8b\x5c\x0c\x4f\x7e\x9d";
 
 const SEVENTEEN: &[u8; 32] = b"\
@@ -105,7 +105,7 @@ const RFC_CASES: [Case; 8] = [
     ("an octet more", RFC_VALUE, b"arctangentx", false),
     ("a capital letter", RFC_VALUE, b"Arctangent", false),
     ("no octets", RFC_VALUE, b"", false),
-    ("a zero behind it", RFC_VALUE, b"arctangent\0", true),
+    ("a zero after it", RFC_VALUE, b"arctangent\0", true),
     (
         "zeros to 16 octets",
         RFC_VALUE,
@@ -145,10 +145,10 @@ const CASES: [Case; 11] = [
 ];
 
 fn is_case(rt: &impl Abort, secret: &Secret, (name, value, password, want): Case) {
-    is_told(rt, secret, value, password, want, name);
+    checks_as(rt, secret, value, password, want, name);
 }
 
-fn are_told(rt: &impl Abort, secret: &Secret, cases: &[Case]) {
+fn check_as(rt: &impl Abort, secret: &Secret, cases: &[Case]) {
     for case in cases {
         is_case(rt, secret, *case);
     }
@@ -157,8 +157,8 @@ fn are_told(rt: &impl Abort, secret: &Secret, cases: &[Case]) {
 #[test]
 fn all_blocks_of_a_value_count(rt: HostRuntime) {
     let secret = Secret::new(SECRET);
-    are_told(&rt, &secret, &RFC_CASES);
-    are_told(&rt, &secret, &CASES);
+    check_as(&rt, &secret, &RFC_CASES);
+    check_as(&rt, &secret, &CASES);
 }
 
 // Asserts that a value with a bit turned is of another password.
@@ -175,7 +175,7 @@ fn is_wrong_turned(rt: &impl Abort, secret: &Secret, password: &[u8], bit: usize
 fn each_bit_of_a_value_counts(rt: HostRuntime) {
     let secret = Secret::new(SECRET);
     let password = password_of(128);
-    is_told(&rt, &secret, VALUE_OF_128, &password, true, "no bit");
+    checks_as(&rt, &secret, VALUE_OF_128, &password, true, "no bit");
     for bit in 0..1024 {
         is_wrong_turned(&rt, &secret, &password, bit);
     }
@@ -211,9 +211,9 @@ fn is_right_under(rt: &impl Abort, first: &Secret, octets: &[u8], want: &[u8; 32
     let secret = Secret::new(octets);
     let value = hidden(rt, &secret, b"seventeen octets.");
     are_octets(rt, value.octets(), want, name);
-    is_told(rt, &secret, want, b"seventeen octets.", true, name);
-    is_told(rt, first, want, b"seventeen octets.", false, name);
-    is_told(rt, &secret, SEVENTEEN, b"seventeen octets.", false, name);
+    checks_as(rt, &secret, want, b"seventeen octets.", true, name);
+    checks_as(rt, first, want, b"seventeen octets.", false, name);
+    checks_as(rt, &secret, SEVENTEEN, b"seventeen octets.", false, name);
 }
 
 #[test]
@@ -260,7 +260,7 @@ fn is_hidden_under_the_other(rt: &impl Abort, secret: &Secret) {
     are_octets(rt, value.octets(), UNDER_OTHER_AUTHENTICATOR, "hidden");
 }
 
-fn is_told_under(
+fn checks_as_under(
     rt: &impl Abort,
     secret: &Secret,
     (name, authenticator, value, want): UnderAuthenticator,
@@ -274,6 +274,6 @@ fn a_password_is_right_under_its_own_request_authenticator(rt: HostRuntime) {
     let secret = Secret::new(SECRET);
     is_hidden_under_the_other(&rt, &secret);
     for case in AUTHENTICATOR_CASES.iter() {
-        is_told_under(&rt, &secret, *case);
+        checks_as_under(&rt, &secret, *case);
     }
 }

@@ -3,9 +3,10 @@ ghost use Rattle.std.specs.Prelude.{◌≤◌};
 ghost use Rattle.rad_packet.specs.Attributes.{value_max};
 
 use super::{
-    CLIENT, Pair, SECRET, Told, extend, extend_by_proxies, holds, is_told, sign, three_clients,
+    CLIENT, Pair, SECRET, Verdict, extend, extend_by_proxies, has_verdict, holds, sign,
+    three_clients,
 };
-use Behind::{Eap, EapAndSum, Nothing, Status, Sum};
+use After::{Eap, EapAndHmac, Hmac, Nothing, Status};
 use rad_auth::Discard::{NoMessageAuthenticator, NoStatusType, ProxyStateTooLong};
 use rad_auth::Door::{Acct, Auth};
 use rad_auth::{Clients, Door, Secret};
@@ -15,7 +16,7 @@ use std::alloc::{AllocError, Global};
 use std::process::Abort;
 use std::test::Fail;
 
-// A request with fifteen Proxy-States, the last with a Value of so many octets, and these attributes behind them.
+// A request with fifteen Proxy-States, the last with a Value of so many octets, and these attributes after them.
 fn request(
     rt: &impl Abort,
     alloc: Global,
@@ -38,34 +39,34 @@ fn fourteen_of_255_octets_and_one_of_14_are_3584(rt: HostRuntime) -> Result<(), 
     Ok(())
 }
 
-// What stands behind the Proxy-States.
+// What follows the Proxy-States.
 #[derive(Clone, Copy)]
-enum Behind {
+enum After {
     Nothing,
     Status,
-    Sum,
+    Hmac,
     Eap,
-    EapAndSum,
+    EapAndHmac,
 }
 
-// A request: its Code, how many octets the Value of its last Proxy-State has, and what stands behind that.
-type Proxied = (u8, usize, Behind);
+// A request: its Code, how many octets the Value of its last Proxy-State has, and what follows that.
+type Proxied = (u8, usize, After);
 
-// A request's name, the door that it goes to, and what is told.
-type Case = (&'static str, Proxied, (Door, Told));
+// A request's name, the port that it goes to, and its verdict.
+type Case = (&'static str, Proxied, (Door, Verdict));
 
-// Signs a request, Identifier 7, and asserts what it is told.
-fn is_told_signed(
+// Signs a request, Identifier 7, and asserts its verdict.
+fn has_verdict_when_signed(
     rt: &impl Abort,
     frame: &mut Frame,
     clients: &Clients,
     body: &Body,
-    (door, want): (Door, Told),
+    (door, want): (Door, Verdict),
     name: &str,
 ) -> Result<(), Fail> {
     let from = (7, b"Sixteen octets..");
     sign(rt, frame, body, from, &Secret::new(SECRET))?;
-    is_told(rt, clients, (CLIENT, door), frame.octets(), want, name);
+    has_verdict(rt, clients, (CLIENT, door), frame.octets(), want, name);
     Ok(())
 }
 
@@ -74,26 +75,26 @@ fn is_case(
     alloc: Global,
     frame: &mut Frame,
     clients: &Clients,
-    (name, (code, last, behind), want): Case,
+    (name, (code, last, after), want): Case,
 ) -> Result<(), Fail> {
     assert!(rt; last <= VALUE_MAX);
-    let body = request(rt, alloc, code, last, pairs(behind))?;
-    is_told_signed(rt, frame, clients, &body, want, name)
+    let body = request(rt, alloc, code, last, pairs(after))?;
+    has_verdict_when_signed(rt, frame, clients, &body, want, name)
 }
 
 const STATUS: Pair = (ACCT_STATUS_TYPE, b"\0\0\0\x01");
 
 const EAP: Pair = (EAP_MESSAGE, b"a");
 
-const SUM: Pair = (MESSAGE_AUTHENTICATOR, &[0; 16]);
+const HMAC: Pair = (MESSAGE_AUTHENTICATOR, &[0; 16]);
 
-fn pairs(behind: Behind) -> &'static [Pair] {
-    match behind {
+fn pairs(after: After) -> &'static [Pair] {
+    match after {
         Nothing => &[],
         Status => &[STATUS],
-        Sum => &[SUM],
+        Hmac => &[HMAC],
         Eap => &[EAP],
-        EapAndSum => &[EAP, SUM],
+        EapAndHmac => &[EAP, HMAC],
     }
 }
 
@@ -115,7 +116,11 @@ const CASES: [Case; 13] = [
         (Acct, Err(ProxyStateTooLong)),
     ),
     ("the most", (ACCESS, 12, Nothing), (Auth, Ok((0, 7)))),
-    ("the most, and a sum", (ACCESS, 12, Sum), (Auth, Ok((0, 7)))),
+    (
+        "the most, and an HMAC",
+        (ACCESS, 12, Hmac),
+        (Auth, Ok((0, 7))),
+    ),
     (
         "one more",
         (ACCESS, 13, Nothing),
@@ -127,33 +132,33 @@ const CASES: [Case; 13] = [
         (Auth, Err(NoMessageAuthenticator)),
     ),
     (
-        "one more, an EAP-Message, and a sum",
-        (ACCESS, 13, EapAndSum),
+        "one more, an EAP-Message, and an HMAC",
+        (ACCESS, 13, EapAndHmac),
         (Auth, Err(ProxyStateTooLong)),
     ),
     (
         "the most",
-        (code::STATUS_SERVER, 12, Sum),
+        (code::STATUS_SERVER, 12, Hmac),
         (Auth, Ok((0, 7))),
     ),
     (
         "the most",
-        (code::STATUS_SERVER, 12, Sum),
+        (code::STATUS_SERVER, 12, Hmac),
         (Acct, Ok((0, 7))),
     ),
     (
         "one more",
-        (code::STATUS_SERVER, 13, Sum),
+        (code::STATUS_SERVER, 13, Hmac),
         (Auth, Err(ProxyStateTooLong)),
     ),
     (
         "one more",
-        (code::STATUS_SERVER, 13, Sum),
+        (code::STATUS_SERVER, 13, Hmac),
         (Acct, Err(ProxyStateTooLong)),
     ),
 ];
 
-fn are_told(
+fn have_verdicts(
     rt: &impl Abort,
     alloc: Global,
     frame: &mut Frame,
@@ -165,11 +170,11 @@ fn are_told(
     Ok(())
 }
 
-fn each_is_told(rt: &impl Abort, alloc: Global, clients: &Clients) -> Result<(), Fail> {
-    are_told(rt, alloc, &mut Frame::new(alloc)?, clients)
+fn each_has_its_verdict(rt: &impl Abort, alloc: Global, clients: &Clients) -> Result<(), Fail> {
+    have_verdicts(rt, alloc, &mut Frame::new(alloc)?, clients)
 }
 
 #[test]
 fn a_request_has_at_most_3584_octets_of_them(rt: HostRuntime) -> Result<(), Fail> {
-    each_is_told(&rt, rt.alloc(), &three_clients(&rt, rt.alloc())?)
+    each_has_its_verdict(&rt, rt.alloc(), &three_clients(&rt, rt.alloc())?)
 }

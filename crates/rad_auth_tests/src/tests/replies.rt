@@ -179,7 +179,7 @@ const OTHER_RESPONSE: &[u8; 25] = b"\
     \x86\xe6\x97\x53\xf8\xbc\xc0\xab\x99\x0b\xfa\xc2\x74\x49\x2f\xb0\
     \x21\x05abc";
 
-// A reject as it stands in a frame before, Identifier 1.
+// A reject that is in a frame before, Identifier 1.
 const UNSEALED_REJECT: &[u8; 53] = b"\
     \x03\x01\x00\x35\
     Sixteen octets..\
@@ -329,12 +329,12 @@ fn seal_two<'a>(secret: &'a Secret, body: &'a Body, other_body: &'a Body, frames
     seal8(&jobs, frames);
 }
 
-// An accept with these octets in place of the sum.
-fn bare_accept(alloc: Global, sum: &[u8; 16]) -> Result<Body, AllocError>
+// An accept with these octets in place of the HMAC.
+fn bare_accept(alloc: Global, hmac: &[u8; 16]) -> Result<Body, AllocError>
     ensures { IfOk result IsReply }
 {
     let mut body = Body::new(alloc, code::ACCESS_ACCEPT);
-    body.push(MESSAGE_AUTHENTICATOR, sum)?;
+    body.push(MESSAGE_AUTHENTICATOR, hmac)?;
     Ok(body)
 }
 
@@ -348,7 +348,7 @@ fn seal_accepts(alloc: Global, frames: &mut [Frame; 8]) -> Result<(), AllocError
 const ACCEPTS: [&[u8]; 8] = [STATUS_REPLY, STATUS_REPLY, b"", b"", b"", b"", b"", b""];
 
 #[test]
-fn what_stands_in_place_of_the_sum_is_not_looked_at(rt: HostRuntime) -> Result<(), Fail> {
+fn a_message_authenticator_in_the_body_is_overwritten(rt: HostRuntime) -> Result<(), Fail> {
     let mut frames = empty_frames(rt.alloc())?;
     seal_accepts(rt.alloc(), &mut frames)?;
     are_written(&rt, &frames, &ACCEPTS);

@@ -4,8 +4,8 @@ ghost use Rattle.rad_packet.specs.Attributes.{value_max};
 
 use super::{
     ACCESS_REQUEST, CLIENT, OTHER_CLIENT, OTHER_SECRET, PROXIED_START, Pair, REQUEST_AUTHENTICATOR,
-    RFC_ACCOUNTING_STATUS, RFC_STATUS, SECRET, START, STATUS_SERVER, SUMMED_REQUEST, are_octets,
-    extend, extend_by_proxies, holds, is_told, sign, three_clients,
+    RFC_ACCOUNTING_STATUS, RFC_STATUS, SECRET, SIGNED_REQUEST, START, STATUS_SERVER, are_octets,
+    extend, extend_by_proxies, has_verdict, holds, sign, three_clients,
 };
 use rad_auth::Discard::{BadAuthenticator, BadMessageAuthenticator};
 use rad_auth::Door::{Acct, Auth};
@@ -49,8 +49,8 @@ const START_WITH_ZEROS: &[u8; 44] = b"\
     \x28\x06\x00\x00\x00\x01\
     \x50\x12\x00\x00\x00\x00\x00\x00\x00\x00\x00\x00\x00\x00\x00\x00\x00\x00";
 
-// The sum is in the first Message-Authenticator, and text is in the second.
-const SUM_AND_TEXT: &[u8; 92] = b"\
+// The HMAC is in the first Message-Authenticator, and text is in the second.
+const HMAC_AND_TEXT: &[u8; 92] = b"\
     \x01\x00\x00\x5c\
     \x0f\x40\x3f\x94\x73\x97\x80\x57\xbd\x83\xd5\xcb\x98\xf4\x22\x7a\
     \x01\x06nemo\
@@ -60,8 +60,8 @@ const SUM_AND_TEXT: &[u8; 92] = b"\
     \x50\x12\x18\xfc\xe4\x04\x9a\x22\x25\xd1\xe2\x54\x04\x26\x3d\xff\x20\xa6\
     \x50\x12Sixteen octets..";
 
-// The second Message-Authenticator has the sum.
-const SHORT_AND_SUM: &[u8; 79] = b"\
+// The second Message-Authenticator has the HMAC.
+const SHORT_AND_HMAC: &[u8; 79] = b"\
     \x01\x00\x00\x4f\
     \x0f\x40\x3f\x94\x73\x97\x80\x57\xbd\x83\xd5\xcb\x98\xf4\x22\x7a\
     \x01\x06nemo\
@@ -73,8 +73,8 @@ const SHORT_AND_SUM: &[u8; 79] = b"\
 
 const EMPTY_STATUS: &[u8; 20] = b"\x0c\x00\x00\x14\0\0\0\0\0\0\0\0\0\0\0\0\0\0\0\0";
 
-// A request to be signed: its Code, its Identifier, an Authenticator and its attributes. Those of an Access-Request stand
-// behind the RFC's.
+// A request to be signed: its Code, its Identifier, an Authenticator and its attributes. Those of an Access-Request follow
+// the RFC's.
 type Case = (u8, u8, &'static [u8; 16], &'static [Pair]);
 
 // Its name, the request, and the octets that it is signed as.
@@ -100,14 +100,14 @@ const STARTS: [Signed; 3] = [
 
 const ACCESS_REQUESTS: [Signed; 5] = [
     (
-        "an Access-Request with no room for a sum",
+        "an Access-Request with no room for an HMAC",
         (code::ACCESS_REQUEST, 0, REQUEST_AUTHENTICATOR, &[]),
         ACCESS_REQUEST,
     ),
     (
         "an Access-Request with room for one",
         (code::ACCESS_REQUEST, 0, REQUEST_AUTHENTICATOR, &[ZEROS]),
-        SUMMED_REQUEST,
+        SIGNED_REQUEST,
     ),
     (
         "an Access-Request with room for two",
@@ -117,12 +117,12 @@ const ACCESS_REQUESTS: [Signed; 5] = [
             REQUEST_AUTHENTICATOR,
             &[ZEROS, TEXT],
         ),
-        SUM_AND_TEXT,
+        HMAC_AND_TEXT,
     ),
     (
-        "an Access-Request with text in the sum's place",
+        "an Access-Request with text in the HMAC's place",
         (code::ACCESS_REQUEST, 0, REQUEST_AUTHENTICATOR, &[TEXT]),
-        SUMMED_REQUEST,
+        SIGNED_REQUEST,
     ),
     (
         "an Access-Request with one of 3 octets before it",
@@ -132,13 +132,13 @@ const ACCESS_REQUESTS: [Signed; 5] = [
             REQUEST_AUTHENTICATOR,
             &[SHORT, ZEROS],
         ),
-        SHORT_AND_SUM,
+        SHORT_AND_HMAC,
     ),
 ];
 
 const STATUS_SERVERS: [Signed; 4] = [
     (
-        "a Status-Server with no room for a sum",
+        "a Status-Server with no room for an HMAC",
         (code::STATUS_SERVER, 0, &[0; 16], &[]),
         EMPTY_STATUS,
     ),
@@ -248,15 +248,15 @@ fn each_is_signed(rt: &impl Abort, alloc: Global, frame: &mut Frame) -> Result<(
     status_servers_are_signed(rt, alloc, frame)
 }
 
-// One frame serves all. The first Message-Authenticator of 16 octets gets the sum.
+// One frame serves all. The first Message-Authenticator of 16 octets gets the HMAC.
 #[test]
-fn requests_get_their_authenticators_and_sums(rt: HostRuntime) -> Result<(), Fail> {
+fn requests_get_their_authenticators(rt: HostRuntime) -> Result<(), Fail> {
     each_is_signed(&rt, rt.alloc(), &mut Frame::new(rt.alloc())?)
 }
 
-// Signs a request under a secret, Identifier 5, and asserts that it is let in from the client at this place, whose secret
-// it is, and told this discard from another.
-fn is_let_in_from(
+// Signs a request under a secret, Identifier 5, and asserts that it is admitted from the client at this place, whose secret
+// it is, and discarded for this reason from another.
+fn is_admitted_from(
     rt: &impl Abort,
     frame: &mut Frame,
     clients: &Clients,
@@ -267,8 +267,8 @@ fn is_let_in_from(
 ) -> Result<(), Fail> {
     sign(rt, frame, body, (5, REQUEST_AUTHENTICATOR), secret)?;
     let octets = frame.octets();
-    is_told(rt, clients, (own, door), octets, Ok((place, 5)), "its own");
-    is_told(
+    has_verdict(rt, clients, (own, door), octets, Ok((place, 5)), "its own");
+    has_verdict(
         rt,
         clients,
         (stranger, door),
@@ -280,7 +280,7 @@ fn is_let_in_from(
 }
 
 // Asserts it of the first client and of the other.
-fn is_let_in(
+fn is_admitted(
     rt: &impl Abort,
     frame: &mut Frame,
     clients: &Clients,
@@ -288,16 +288,16 @@ fn is_let_in(
     by: (Door, Discard),
 ) -> Result<(), Fail> {
     let first = (CLIENT, 0, OTHER_CLIENT);
-    is_let_in_from(rt, frame, clients, body, &Secret::new(SECRET), first, by)?;
+    is_admitted_from(rt, frame, clients, body, &Secret::new(SECRET), first, by)?;
     let other = (OTHER_CLIENT, 1, CLIENT);
     let secret = Secret::new(OTHER_SECRET);
-    is_let_in_from(rt, frame, clients, body, &secret, other, by)
+    is_admitted_from(rt, frame, clients, body, &secret, other, by)
 }
 
-// A request's Code, its attributes, the door that it goes to, and what it is told from another client.
-type LetIn = (u8, &'static [Pair], (Door, Discard));
+// A request's Code, its attributes, the port that it goes to, and why it is discarded from another client.
+type Admitted = (u8, &'static [Pair], (Door, Discard));
 
-const LET_IN: [LetIn; 4] = [
+const ADMITTED: [Admitted; 4] = [
     (
         code::ACCESS_REQUEST,
         &[ZEROS],
@@ -320,36 +320,36 @@ const LET_IN: [LetIn; 4] = [
     ),
 ];
 
-fn is_row_let_in(
+fn is_row_admitted(
     rt: &impl Abort,
     alloc: Global,
     frame: &mut Frame,
     clients: &Clients,
-    (code, pairs, by): LetIn,
+    (code, pairs, by): Admitted,
 ) -> Result<(), Fail> {
     let body = body_of(rt, alloc, code, pairs)?;
-    is_let_in(rt, frame, clients, &body, by)
+    is_admitted(rt, frame, clients, &body, by)
 }
 
-fn are_let_in(
+fn are_admitted(
     rt: &impl Abort,
     alloc: Global,
     frame: &mut Frame,
     clients: &Clients,
 ) -> Result<(), Fail> {
-    for row in LET_IN.iter() {
-        is_row_let_in(rt, alloc, frame, clients, *row)?;
+    for row in ADMITTED.iter() {
+        is_row_admitted(rt, alloc, frame, clients, *row)?;
     }
     Ok(())
 }
 
-fn each_is_let_in(rt: &impl Abort, alloc: Global, clients: &Clients) -> Result<(), Fail> {
-    are_let_in(rt, alloc, &mut Frame::new(alloc)?, clients)
+fn each_is_admitted(rt: &impl Abort, alloc: Global, clients: &Clients) -> Result<(), Fail> {
+    are_admitted(rt, alloc, &mut Frame::new(alloc)?, clients)
 }
 
 #[test]
-fn signed_requests_are_let_in(rt: HostRuntime) -> Result<(), Fail> {
-    each_is_let_in(&rt, rt.alloc(), &three_clients(&rt, rt.alloc())?)
+fn signed_requests_are_admitted(rt: HostRuntime) -> Result<(), Fail> {
+    each_is_admitted(&rt, rt.alloc(), &three_clients(&rt, rt.alloc())?)
 }
 
 // A body whose last Proxy-State has a Value of so many octets: with 249 the request has 4,096.

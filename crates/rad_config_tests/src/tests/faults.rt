@@ -1,4 +1,4 @@
-use super::{are_told, is_printed};
+use super::{is_printed, read_as};
 use rad_config::ConfigFault;
 use std::test::Fail;
 
@@ -63,7 +63,7 @@ const PRINTED: [(&str, &str); 25] = [
 
 #[test]
 fn each_fault_is_printed(rt: HostRuntime) -> Result<(), Fail> {
-    are_told(&rt, &PRINTED)?;
+    read_as(&rt, &PRINTED)?;
     let printed = ConfigFault::NoMemory.to_string(rt.alloc())?;
     is_printed(
         &rt,
@@ -74,7 +74,7 @@ fn each_fault_is_printed(rt: HostRuntime) -> Result<(), Fail> {
     Ok(())
 }
 
-/// Texts with several faults, and the one that is told.
+/// Texts with several faults, and the one that is reported.
 const FIRST: [(&str, &str); 11] = [
     (
         "hold = 0\nwindow = 0",
@@ -120,7 +120,7 @@ const FIRST: [(&str, &str); 11] = [
 ];
 
 #[test]
-fn the_first_fault_is_told(rt: HostRuntime) -> Result<(), Fail> {
-    are_told(&rt, &FIRST)?;
+fn the_first_fault_is_reported(rt: HostRuntime) -> Result<(), Fail> {
+    read_as(&rt, &FIRST)?;
     Ok(())
 }

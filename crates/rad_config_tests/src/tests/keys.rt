@@ -1,4 +1,4 @@
-use super::{are_told, is_told};
+use super::{read_as, reads_as};
 use std::alloc::AllocError;
 use std::process::Abort;
 use std::test::Fail;
@@ -53,8 +53,8 @@ const NO_NUMBERS: [&str; 6] = [
     "-9223372036854775808",
 ];
 
-// Asserts the outcome of a text in which this value stands behind a key.
-fn is_told_at<R: Abort + AllocGlobal>(
+// Asserts the outcome of a text with this value at a key.
+fn reads_as_at<R: Abort + AllocGlobal>(
     rt: &R,
     key: &str,
     value: &str,
@@ -62,42 +62,42 @@ fn is_told_at<R: Abort + AllocGlobal>(
     want: &str,
 ) -> Result<(), AllocError> {
     let text = format!(in rt.alloc(); "{key} = {value}{after}")?;
-    is_told(rt, text.as_str(), want)
+    reads_as(rt, text.as_str(), want)
 }
 
-// Asserts the outcome of a text in which this number stands behind a key.
-fn number_is_told<R: Abort + AllocGlobal>(
+// Asserts the outcome of a text with this number at a key.
+fn number_reads_as<R: Abort + AllocGlobal>(
     rt: &R,
     key: &str,
     number: i64,
     want: &str,
 ) -> Result<(), AllocError> {
     let text = format!(in rt.alloc(); "{key} = {number}")?;
-    is_told(rt, text.as_str(), want)
+    reads_as(rt, text.as_str(), want)
 }
 
 // The same with each of these numbers.
-fn numbers_are_told<R: Abort + AllocGlobal>(
+fn numbers_read_as<R: Abort + AllocGlobal>(
     rt: &R,
     key: &str,
     numbers: &[i64],
     want: &str,
 ) -> Result<(), AllocError> {
     for number in numbers {
-        number_is_told(rt, key, *number, want)?;
+        number_reads_as(rt, key, *number, want)?;
     }
     Ok(())
 }
 
 // The same with each of these values.
-fn are_told_at<R: Abort + AllocGlobal>(
+fn read_as_at<R: Abort + AllocGlobal>(
     rt: &R,
     key: &str,
     values: &[&str],
     want: &str,
 ) -> Result<(), AllocError> {
     for value in values {
-        is_told_at(rt, key, value, "", want)?;
+        reads_as_at(rt, key, value, "", want)?;
     }
     Ok(())
 }
@@ -105,7 +105,7 @@ fn are_told_at<R: Abort + AllocGlobal>(
 #[test]
 fn numbers_have_ranges(rt: HostRuntime) -> Result<(), Fail> {
     for (key, fit, _, _) in &NUMBERS {
-        numbers_are_told(&rt, key, fit, "read")?;
+        numbers_read_as(&rt, key, fit, "read")?;
     }
     Ok(())
 }
@@ -113,7 +113,7 @@ fn numbers_have_ranges(rt: HostRuntime) -> Result<(), Fail> {
 #[test]
 fn no_number_is_past_its_range(rt: HostRuntime) -> Result<(), Fail> {
     for (key, _, refused, bad) in &NUMBERS {
-        numbers_are_told(&rt, key, refused, bad)?;
+        numbers_read_as(&rt, key, refused, bad)?;
     }
     Ok(())
 }
@@ -121,12 +121,12 @@ fn no_number_is_past_its_range(rt: HostRuntime) -> Result<(), Fail> {
 #[test]
 fn only_numbers_are_numbers(rt: HostRuntime) -> Result<(), Fail> {
     for (key, _, _, bad) in &NUMBERS {
-        are_told_at(&rt, key, &NO_NUMBERS, bad)?;
+        read_as_at(&rt, key, &NO_NUMBERS, bad)?;
     }
     Ok(())
 }
 
-/// Keys that hold a text, each with what stands behind it, lengths that fit, lengths that don't, and the fault of these.
+/// Keys that hold a text, each with what follows it, lengths that fit, lengths that don't, and the fault of these.
 const TEXTS: [(&str, &str, [usize; 2], [usize; 2], &str); 7] = [
     (
         "[[client]]\naddress = \"1.2.3.4\"\nsecret",
@@ -185,8 +185,8 @@ fn spelled(rt: &impl AllocGlobal, letter: &str, count: usize) -> Result<String, 
     format!(in rt.alloc(); "\"{letters}\"")
 }
 
-// Asserts the outcome of a text in which so many letters stand behind a key.
-fn letters_are_told<R: Abort + AllocGlobal>(
+// Asserts the outcome of a text with so many letters at a key.
+fn letters_read_as<R: Abort + AllocGlobal>(
     rt: &R,
     key: &str,
     (letter, count): (&str, usize),
@@ -194,11 +194,11 @@ fn letters_are_told<R: Abort + AllocGlobal>(
     want: &str,
 ) -> Result<(), AllocError> {
     let value = spelled(rt, letter, count)?;
-    is_told_at(rt, key, value.as_str(), after, want)
+    reads_as_at(rt, key, value.as_str(), after, want)
 }
 
 // The same with each of these lengths.
-fn lengths_are_told<R: Abort + AllocGlobal>(
+fn lengths_read_as<R: Abort + AllocGlobal>(
     rt: &R,
     key: &str,
     lengths: &[usize],
@@ -206,7 +206,7 @@ fn lengths_are_told<R: Abort + AllocGlobal>(
     want: &str,
 ) -> Result<(), AllocError> {
     for length in lengths {
-        letters_are_told(rt, key, ("x", *length), after, want)?;
+        letters_read_as(rt, key, ("x", *length), after, want)?;
     }
     Ok(())
 }
@@ -214,7 +214,7 @@ fn lengths_are_told<R: Abort + AllocGlobal>(
 #[test]
 fn texts_have_lengths(rt: HostRuntime) -> Result<(), Fail> {
     for (key, after, fit, _, _) in &TEXTS {
-        lengths_are_told(&rt, key, fit, after, "read")?;
+        lengths_read_as(&rt, key, fit, after, "read")?;
     }
     Ok(())
 }
@@ -222,7 +222,7 @@ fn texts_have_lengths(rt: HostRuntime) -> Result<(), Fail> {
 #[test]
 fn no_text_is_past_its_lengths(rt: HostRuntime) -> Result<(), Fail> {
     for (key, after, _, refused, bad) in &TEXTS {
-        lengths_are_told(&rt, key, refused, after, bad)?;
+        lengths_read_as(&rt, key, refused, after, bad)?;
     }
     Ok(())
 }
@@ -230,7 +230,7 @@ fn no_text_is_past_its_lengths(rt: HostRuntime) -> Result<(), Fail> {
 #[test]
 fn numbers_are_no_texts(rt: HostRuntime) -> Result<(), Fail> {
     for (key, after, _, _, bad) in &TEXTS {
-        is_told_at(&rt, key, "5", after, bad)?;
+        reads_as_at(&rt, key, "5", after, bad)?;
     }
     Ok(())
 }
@@ -245,7 +245,7 @@ const LETTERS: [(usize, &str); 2] = [
 fn octets_are_counted(rt: HostRuntime) -> Result<(), Fail> {
     for (count, want) in LETTERS {
         let key = "[[client]]\naddress = \"1.2.3.4\"\nsecret";
-        letters_are_told(&rt, key, ("ä", count), "", want)?;
+        letters_read_as(&rt, key, ("ä", count), "", want)?;
     }
     Ok(())
 }
@@ -281,7 +281,7 @@ const ZEROS: [(&str, &str); 7] = [
 
 #[test]
 fn only_passwords_and_answers_have_no_zero(rt: HostRuntime) -> Result<(), Fail> {
-    are_told(&rt, &ZEROS)?;
+    read_as(&rt, &ZEROS)?;
     Ok(())
 }
 
@@ -305,19 +305,19 @@ const ADDRESSES: [(&str, &str); 12] = [
 ];
 
 // Asserts the outcome of a text with this client.
-fn client_is_told<R: Abort + AllocGlobal>(
+fn client_reads_as<R: Abort + AllocGlobal>(
     rt: &R,
     address: &str,
     want: &str,
 ) -> Result<(), AllocError> {
     let text = format!(in rt.alloc(); "[[client]]\naddress = \"{address}\"\nsecret = \"s\"")?;
-    is_told(rt, text.as_str(), want)
+    reads_as(rt, text.as_str(), want)
 }
 
 #[test]
 fn addresses_have_ranges(rt: HostRuntime) -> Result<(), Fail> {
     for (address, want) in ADDRESSES {
-        client_is_told(&rt, address, want)?;
+        client_reads_as(&rt, address, want)?;
     }
     Ok(())
 }
@@ -355,7 +355,7 @@ const POOLS: [(&str, &str, &str); 8] = [
 ];
 
 // Asserts the outcome of a text with this pool.
-fn pool_is_told<R: Abort + AllocGlobal>(
+fn pool_reads_as<R: Abort + AllocGlobal>(
     rt: &R,
     first: &str,
     last: &str,
@@ -364,13 +364,13 @@ fn pool_is_told<R: Abort + AllocGlobal>(
     let text = format!(in rt.alloc();
         "[[pool]]\nname = \"a\"\nfirst = \"{first}\"\nlast = \"{last}\""
     )?;
-    is_told(rt, text.as_str(), want)
+    reads_as(rt, text.as_str(), want)
 }
 
 #[test]
 fn pools_have_bounds(rt: HostRuntime) -> Result<(), Fail> {
     for (first, last, want) in POOLS {
-        pool_is_told(&rt, first, last, want)?;
+        pool_reads_as(&rt, first, last, want)?;
     }
     Ok(())
 }
@@ -397,6 +397,6 @@ const FLAGS: [(&str, &str); 4] = [
 
 #[test]
 fn a_flag_is_a_boolean(rt: HostRuntime) -> Result<(), Fail> {
-    are_told(&rt, &FLAGS)?;
+    read_as(&rt, &FLAGS)?;
     Ok(())
 }

@@ -1,4 +1,4 @@
-use super::{holds, is_number, is_told};
+use super::{holds, is_number, reads_as};
 use rad_config::Config;
 use std::alloc::AllocError;
 use std::process::Abort;
@@ -86,7 +86,7 @@ const TOO_MANY: [(u32, u32, u32, &str); 3] = [
 ];
 
 // Asserts the outcome of a text with so many clients, pools and users.
-fn is_numbered_told<R: Abort + AllocGlobal>(
+fn numbered_reads_as<R: Abort + AllocGlobal>(
     rt: &R,
     clients: u32,
     pools: u32,
@@ -94,13 +94,13 @@ fn is_numbered_told<R: Abort + AllocGlobal>(
     want: &str,
 ) -> Result<(), AllocError> {
     let text = numbered(rt, clients, pools, users)?;
-    is_told(rt, text.as_str(), want)
+    reads_as(rt, text.as_str(), want)
 }
 
 #[test]
 fn longer_lists_are_too_many(rt: HostRuntime) -> Result<(), Fail> {
     for (clients, pools, users, want) in TOO_MANY {
-        is_numbered_told(&rt, clients, pools, users, want)?;
+        numbered_reads_as(&rt, clients, pools, users, want)?;
     }
     Ok(())
 }

@@ -1,4 +1,4 @@
-//! The requests of `make` with the longest options, and the faults of longer ones. The digests and sums were made with Python's
+//! The requests of `make` with the longest options, and the faults of longer ones. The digests and HMACs were made with Python's
 //! `hashlib` and `hmac`.
 
 use crate::tests::{concat, is_text};
@@ -43,7 +43,7 @@ const TOO_LONG: &str =
     "invalid value for '--extra <HEX>': attributes that leave the request at most 4096 octets would fit";
 
 /// The request in hexadecimal, or the printed fault.
-fn told(rt: &impl AllocGlobal, make: &Make) -> Result<String, Fail> {
+fn outcome(rt: &impl AllocGlobal, make: &Make) -> Result<String, Fail> {
     match make.request(rt.alloc()) {
         Ok(request) => Ok(hex::encode(rt.alloc(), request.octets())?),
         Err(fault) => Ok(fault.to_string(rt.alloc())?),
@@ -52,8 +52,8 @@ fn told(rt: &impl AllocGlobal, make: &Make) -> Result<String, Fail> {
 
 /// Asserts which request or fault these options give.
 fn gives<R: Abort + AllocGlobal>(rt: &R, make: &Make, want: &str, what: &str) -> Result<(), Fail> {
-    let told = told(rt, make)?;
-    is_text(rt, told.as_str(), want, what);
+    let outcome = outcome(rt, make)?;
+    is_text(rt, outcome.as_str(), want, what);
     Ok(())
 }
 
@@ -144,7 +144,7 @@ fn with_password<R: Abort + AllocGlobal>(
     gives(rt, &Make { password, ..make }, want, "a long password")
 }
 
-/// The longest password, hidden and by CHAP, and one octet more in each kind: that is told after the User-Name and before
+/// The longest password, hidden and by CHAP, and one octet more in each kind: that is reported after the User-Name and before
 /// `extra`.
 #[test]
 fn long_passwords(rt: HostRuntime) -> Result<(), Fail> {

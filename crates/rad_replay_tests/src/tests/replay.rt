@@ -1,4 +1,4 @@
-//! Whole replays, over memory. The digests and sums of requests and replies were made with Python's `hashlib` and `hmac`, but
+//! Whole replays, over memory. The digests and HMACs of requests and replies were made with Python's `hashlib` and `hmac`, but
 //! for those of RFC 2865, section 7.1, and RFC 5997, section 6.
 
 use crate::tests::make::ACCOUNT;
@@ -96,13 +96,13 @@ const STATUS: &str =
 const STATUS_REPLY: &str =
     "reply 02da00267e6d7a5f5dfa87b519bef260a6f15081501257566a4a4a4c690f8e18b73ae7a7f65f\n";
 
-/// That of section 6.2, to the accounting door.
+/// That of section 6.2, to the accounting port.
 const ACCT_STATUS: &str =
     "15 acct 192.168.1.16:1024 0cb30026925f6b66dd5fed571fcb1db7ad3882605012e8d6eabda910875cd91fdade26367858";
 
 const ACCT_STATUS_REPLY: &str = "reply 05b300140f6f92145f107e2f504e860a4860669c\n";
 
-/// A Status-Server with two Proxy-States, after the door, and its replies at either door.
+/// A Status-Server with two Proxy-States, after the port, and its replies at either port.
 const PROXIED_STATUS: &str =
     " 192.168.1.16:1024 0c09002f8a54f4686fb394c52866e302185d062350121dd7410c3f96080f1b791d21febe7a6f21047a7a2105616263";
 
@@ -187,7 +187,7 @@ const SCENARIOS: [Scenario; 24] = [
         fault: "",
     },
     Scenario {
-        name: "an Access-Request to the accounting door",
+        name: "an Access-Request to the accounting port",
         input: &[
             GATEWAY,
             "0 acct 192.168.1.16:1024 010000380f403f9473978057bd83d5cb98f4227a01066e656d6f02120dbe708d93d413ce3196e43f782a0aee0406c0a80110050600000003\n",
@@ -196,13 +196,13 @@ const SCENARIOS: [Scenario; 24] = [
         fault: "",
     },
     Scenario {
-        name: "a Status-Server to each door",
+        name: "a Status-Server to each port",
         input: &[GATEWAY, STATUS, "\n", ACCT_STATUS, "\n"],
         output: &["1 ", STATUS_REPLY, "2 ", ACCT_STATUS_REPLY],
         fault: "",
     },
     Scenario {
-        name: "a Status-Server with two Proxy-States to each door",
+        name: "a Status-Server with two Proxy-States to each port",
         input: &[
             GATEWAY,
             "0 auth",

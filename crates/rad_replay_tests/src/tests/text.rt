@@ -119,7 +119,7 @@ fn reads_up_to_4096_octets(rt: HostRuntime) -> Result<(), Fail> {
     Ok(())
 }
 
-/// Asserts what stands before and after the divider of a text.
+/// Asserts what is before and after the divider of a text.
 fn is_divided(rt: &impl Abort, text: &[u8], want: Option<(&[u8], &[u8])>) {
     assert!(rt; divide(text) == want, "{text:?}");
 }

@@ -1,4 +1,4 @@
-//! Command lines, run over memory. The digests and sums were made with Python's `hashlib` and `hmac`.
+//! Command lines, run over memory. The digests and HMACs were made with Python's `hashlib` and `hmac`.
 
 use crate::command::Fault;
 use crate::tests::fake::Fake;
@@ -157,7 +157,7 @@ const HIDDEN_PASSWORDS: [Made; 8] = [
         "--kind access --random 0f403f9473978057bd83d5cb98f4227a --password é",
         "010000260f403f9473978057bd83d5cb98f4227a0212af6513f9f2ba74ab5fe2e43f782a0aee\n",
     ),
-    // The sum runs over the password too.
+    // The HMAC runs over the password too.
     (
         "--kind access --mac --password arctangent --user nemo --random 0f403f9473978057bd83d5cb98f4227a",
         "0100003e0f403f9473978057bd83d5cb98f4227a501241287e85c3eb5cf152ff4bb7a21fbf2501066e656d6f02120dbe708d93d413ce3196e43f782a0aee\n",
@@ -418,7 +418,7 @@ fn no_memory(rt: HostRuntime) {
     Fake::new(rt.alloc(), b"a report").reports(&rt, fault, 1, "radpool: out of memory\n");
 }
 
-/// Configurations, each with its divider, and what is told of them.
+/// Configurations, each with its divider, and the fault that is printed.
 const FAULTY: [(&[u8], &str); 11] = [
     (b"hold = \"x\"\n---", "3 BadValue at top 0 hold\n"),
     (b"window = 30\nhold = 29\n---", "4 HoldBelowWindow\n"),
@@ -452,17 +452,17 @@ fn is_faulty(
     rt: &impl Abort,
     alloc: Global,
     input: &'static [u8],
-    told: &str,
+    fault: &str,
 ) -> Result<(), AllocError> {
-    let text = ["radpool: config fault ", told].concat(alloc)?;
+    let text = ["radpool: config fault ", fault].concat(alloc)?;
     Fake::replay(alloc, input).ends(rt, 1, "", &text);
     Ok(())
 }
 
 #[test]
 fn faulty_configurations(rt: HostRuntime) -> Result<(), Fail> {
-    for (input, told) in FAULTY.iter() {
-        is_faulty(&rt, rt.alloc(), input, told)?;
+    for (input, fault) in FAULTY.iter() {
+        is_faulty(&rt, rt.alloc(), input, fault)?;
     }
     Ok(())
 }
