@@ -1,12 +1,12 @@
 //! Admission and sealing: `bench/admission.c`.
 //!
 //! Each export makes a lot of 64 requests from four clients and the bodies of their replies, and does its work over all
-//! of them as many times as it is told. Those that seal lay out the last replies, each in a slot of 128 octets. Each
-//! answers how many requests were right, or how many replies were written; 0 where there is no memory for the lot.
+//! of them as many times as asked. Those that seal lay out the last replies, each in a slot of 128 octets. Each
+//! returns how many requests were right, or how many replies were written; 0 if memory for the lot was refused.
 //!
-//! What `check8` and `seal8` do eight side by side is compared with the digests and sums alone of the same octets, made
+//! What `check8` and `seal8` do eight side by side is compared with the digests and HMACs alone of the same octets, made
 //! one after the other by the toolchain's `md5`. A check finds the client's secret, reads the packet, makes its digest
-//! (Accounting-Request) or its sum, and compares that with what stands there. A seal writes the packet, then its sum,
+//! (Accounting-Request) or its HMAC, and compares that with what is there. A seal writes the packet, then its HMAC,
 //! then its digest. Nothing else of admission is done.
 ghost use Rattle.std.specs.Prelude.{◌<◌};
 
@@ -29,7 +29,7 @@ const ZEROS: [u8; 16] = [0; 16];
 // Where a packet's Authenticator begins.
 const AUTHENTICATOR_AT: usize = 4;
 
-// Where the sum stands in a packet that has one: in its first attribute.
+// Where the HMAC is in a packet that has one: in its first attribute.
 const SUM_AT: usize = HEADER_SIZE + 2;
 
 const SUM_END: usize = SUM_AT + 16;
@@ -135,7 +135,7 @@ fn check_one_by_one(alloc: Global, kind: u32, rounds: u32) -> Result<usize, Allo
     Ok(right)
 }
 
-// Whether the digest of an Accounting-Request, or the sum of another request, is the one that stands there.
+// Whether the digest of an Accounting-Request, or the HMAC of another request, is the one that it has.
 fn is_right(datagram: &[u8], secret: &[u8]) -> bool {
     let Ok(packet) = Packet::read(datagram) else {
         return false;
@@ -179,7 +179,7 @@ fn seal_one_by_one(
     Ok(written)
 }
 
-// Writes a reply, whose body has zeros in the sum's place, and then its sum and its digest.
+// Writes a reply, whose body has zeros in its Message-Authenticator, and then its HMAC and its digest.
 fn seal(job: &Option<Job>, frame: &mut Frame) -> bool {
     let Some(job) = job else {
         return false;
@@ -217,19 +217,19 @@ pub extern "C" fn radpool_both(alloc: Global, kind: u32, rounds: u32, out: &mut 
     seal_in_lanes(alloc, kind, rounds, true, out).unwrap_or(0)
 }
 
-/// The digests or sums of one request after the other.
+/// The digests or HMACs of one request after the other.
 #[unsafe(no_mangle)]
 pub extern "C" fn kit_check(alloc: Global, kind: u32, rounds: u32, _out: &mut [u8]) -> usize {
     check_one_by_one(alloc, kind, rounds).unwrap_or(0)
 }
 
-/// The sums and digests of one reply after the other.
+/// The HMACs and digests of one reply after the other.
 #[unsafe(no_mangle)]
 pub extern "C" fn kit_seal(alloc: Global, kind: u32, rounds: u32, out: &mut [u8]) -> usize {
     seal_one_by_one(alloc, kind, rounds, false, out).unwrap_or(0)
 }
 
-/// The digest or sum of one request after the other, each time with those of its reply.
+/// The digest or HMAC of one request after the other, each time with those of its reply.
 #[unsafe(no_mangle)]
 pub extern "C" fn kit_both(alloc: Global, kind: u32, rounds: u32, out: &mut [u8]) -> usize {
     seal_one_by_one(alloc, kind, rounds, true, out).unwrap_or(0)

@@ -7,7 +7,7 @@ fn read(alloc: Global, text: &[u8]) -> Option<Config> {
     Config::read(alloc, std::str::from_utf8(text).ok()?).ok()
 }
 
-/// Reads a text, and answers how many users it names; 0 where it has a fault.
+/// Reads a text, and returns how many users it names; 0 if it has a fault.
 #[unsafe(no_mangle)]
 pub extern "C" fn radpool_read(alloc: Global, text: &[u8]) -> usize {
     match read(alloc, text) {
@@ -16,7 +16,7 @@ pub extern "C" fn radpool_read(alloc: Global, text: &[u8]) -> usize {
     }
 }
 
-/// Reads a text, asks as often as it is told for each of its users by name, and answers how many were found.
+/// Reads a text, looks up each of its users by name as often as asked, and returns how many were found.
 #[unsafe(no_mangle)]
 pub extern "C" fn radpool_find(alloc: Global, text: &[u8], rounds: u32) -> usize {
     let Some(config) = read(alloc, text) else {

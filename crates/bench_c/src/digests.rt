@@ -1,6 +1,6 @@
-//! Digests and sums: `bench/digests.c`.
+//! Digests and HMACs: `bench/digests.c`.
 //!
-//! Each export takes messages, one in each slot of 256 octets, does its work over them as many times as it is told, and
+//! Each export takes messages, one in each slot of 256 octets, does its work over them as many times as asked, and
 //! writes what it made of them one after the other. A message is cut as a server cuts a packet: a header of 4 octets, an
 //! authenticator of 16, attributes, and a secret of 9.
 ghost use Rattle.std.specs.Prelude.{◌≡◌, ◌+◌, ◌-◌, ◌*◌, ◌<◌, ◌≤◌, ◌^◌, length};
@@ -17,7 +17,7 @@ const SECRET_LEN: usize = 9;
 
 const SHORTEST: usize = 20 + SECRET_LEN;
 
-// The key of all sums.
+// The key of all HMACs.
 const SECRET: &[u8; SECRET_LEN] = b"xyzzy5461";
 
 // Message i.
@@ -62,7 +62,7 @@ fn eight<'a>(slots: &'a [u8], lengths: &[u32], i: usize) -> [Pieces<'a>; LANES]
     ]
 }
 
-// The sums of eight messages from the i-th on.
+// The HMACs of eight messages from the i-th on.
 fn sum_eight(key: &Key, slots: &[u8], lengths: &[u32], i: usize) -> [[u8; DIGEST_LEN]; LANES]
     requires places { i + 8 ≤ length lengths.now }
     requires slots { 256 * length lengths.now ≤ length slots.now }
@@ -107,7 +107,7 @@ fn each_in_lanes(
     Ok(())
 }
 
-/// `digest_each` over all messages; no digest is written where there is no memory for them.
+/// `digest_each` over all messages; no digest is written if memory for them is refused.
 #[unsafe(no_mangle)]
 pub extern "C" fn radpool_digest_each(
     alloc: Global,

@@ -1,6 +1,6 @@
 //! Password checks: `bench/passwords.c`.
 //!
-//! Each export checks all cases of a lot as many times as it is told, and answers how often a password was right.
+//! Each export checks all cases of a lot as many times as asked, and returns how often a password was right.
 ghost use Rattle.std.specs.Prelude.{◌≤◌, length};
 ghost use Rattle.rad_auth.specs.Passwords.{password_max};
 

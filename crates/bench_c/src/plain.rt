@@ -1,4 +1,4 @@
-//! Digests and sums one after the other, by the plain formulas over the toolchain's `md5`: what the works that take many
+//! Digests and HMACs one after the other, by the plain formulas over the toolchain's `md5`: what the works that take many
 //! side by side are compared with.
 ghost use Rattle.std.specs.Prelude.{◌≤◌, length};
 

@@ -7,7 +7,7 @@ use Rattle.rad_packet.specs.Attributes.{has_len}
 use Rattle.rad_packet.specs.Ladders.{◌>>=◌, refuse_if}
 use Rattle.rad_packet.specs.Packets.{Packet, packet_of}
 use Rattle.rad_auth.specs.Admission.{IsAdmitted, IsAnswerable, admission, content_checks, has_bad_authenticator, has_bad_message_authenticator, is_taken, lacks_message_authenticator, lacks_status_type, own_datagram, packet_or_discard, proxy_states_max, proxy_states_size, request_in, request_of}
-use Rattle.rad_auth.specs.Clients.{Client, client_at, client_of}
+use Rattle.rad_auth.specs.Clients.{Client, client_place, client_of}
 use Rattle.rad_auth.specs.Datagrams.{Datagram}
 use Rattle.rad_auth.specs.declared.arrival.Request.{Request}
 use Rattle.rad_auth.specs.declared.discard.Discard.{Discard}
@@ -41,9 +41,9 @@ in_place (Some place) (Ok p) datagram request e = at (is_taken datagram.door p.c
         (ap (λ (r : Request). Some r.client) same, subst (λ (r : Request). IsTrue (is_taken r.door r.packet.code)) same taken)
 
 held_in_place : (clients : List Client) (datagram : Datagram) (request : Request) → request_in clients datagram ≡ Ok request
-    → (client_at clients datagram.source ≡ Some request.client) × IsTrue (is_taken request.door request.packet.code)
+    → (client_place clients datagram.source ≡ Some request.client) × IsTrue (is_taken request.door request.packet.code)
 unfolding request_in
-held_in_place clients datagram request e = in_place (client_at clients datagram.source) (packet_or_discard (packet_of datagram.octets)) datagram request e
+held_in_place clients datagram request e = in_place (client_place clients datagram.source) (packet_or_discard (packet_of datagram.octets)) datagram request e
 
 last_rungs : (a b c d e : Bool) (checked : Unit {0})
     → (refuse_if a BadAuthenticator >>= λ _. (refuse_if b BadMessageAuthenticator >>= λ _. (refuse_if c NoMessageAuthenticator >>= λ _. (refuse_if d NoStatusType >>= λ _. refuse_if e ProxyStateTooLong)))) ≡ Ok checked

@@ -4,7 +4,7 @@ use Rattle.std.specs.Prelude.{is_some, if◌then◌else◌}
 use Rattle.std.specs.Cmp.{nat_eq_equiv}
 use Rattle.std.specs.List.{position, prefix_len, list_any}
 use Rattle.std.proofs.lemmas.List.{length-map, get_or-map}
-use Rattle.rad_auth.specs.Clients.{Client, client_at, client_of}
+use Rattle.rad_auth.specs.Clients.{Client, client_place, client_of}
 use Rattle.rad_auth.specs.ClientRows.{row_client, row_clients}
 use Rattle.rad_auth.specs.declared.client.ClientRow.{ClientRow}
 
@@ -36,18 +36,18 @@ pub client-at_row : (rows : List ClientRow) (i : ℕ) (row : ClientRow) → i < 
 client-at_row rows i row within read = ap row_client read ∙ sym (get_or-map row_client rows i row _ within)
 
 -- the place of an address in the index is the place of its client
-pub client_at-addresses : (addresses : List ℕ) (rows : List ClientRow) (source : ℕ) → addresses ≡ map (λ row. row.address) rows → position (nat_eq source) addresses ≡ client_at (row_clients rows) source
-client_at-addresses addresses rows source same =
+pub client_place-addresses : (addresses : List ℕ) (rows : List ClientRow) (source : ℕ) → addresses ≡ map (λ row. row.address) rows → position (nat_eq source) addresses ≡ client_place (row_clients rows) source
+client_place-addresses addresses rows source same =
     ap (position (nat_eq source)) same ∙ position-map (nat_eq source) (λ row. row.address) rows
     ∙ (λ j. position (λ (row : ClientRow). nat_eq_equiv.symm source row.address j) rows)
     ∙ sym (position-map (λ client. client.address == source) row_client rows)
 
 -- the index after a client whose address is new
-pub addresses-push : (addresses keys : List ℕ) (rows : List ClientRow) (row : ClientRow) → addresses ≡ map (λ row. row.address) rows → is_some (client_at (row_clients rows) row.address) ≡ false
+pub addresses-push : (addresses keys : List ℕ) (rows : List ClientRow) (row : ClientRow) → addresses ≡ map (λ row. row.address) rows → is_some (client_place (row_clients rows) row.address) ≡ false
     → keys ≡ (if list_any (nat_eq row.address) addresses then addresses else addresses ++ row.address ∷ []) → keys ≡ map (λ row. row.address) (rows ++ row ∷ [])
 addresses-push addresses keys rows row same none inserted =
     let new : list_any (nat_eq row.address) addresses ≡ false =
-    sym (is_some-position (nat_eq row.address) addresses) ∙ ap is_some (client_at-addresses addresses rows row.address same) ∙ none in
+    sym (is_some-position (nat_eq row.address) addresses) ∙ ap is_some (client_place-addresses addresses rows row.address same) ∙ none in
     inserted ∙ (rw new (ap (λ (ks : List ℕ). ks ++ row.address ∷ []) same)) ∙ sym (map-push (λ row. row.address) rows row)
 
 -- the row of a client

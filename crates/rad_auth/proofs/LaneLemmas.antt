@@ -3,11 +3,11 @@ use Rattle.std.proofs.Common.{◌≡◌, ℕ, zero, suc, ◌<◌, List, [], ◌�
 use Rattle.std.specs.Prelude.{map, All, IfSome}
 use Rattle.rad_hmac.specs.Hmac.{hmac, keyed_sum}
 use Rattle.rad_auth.specs.Clients.{Client, secret_at}
-use Rattle.rad_auth.specs.RequestLanes.{HasKeyOf, HasSummedText, IsMessageAuthenticator, OfCandidate}
-use Rattle.rad_auth.specs.ReplyLanes.{IsReplySum}
+use Rattle.rad_auth.specs.RequestLanes.{HasKeyOf, HasHmacText, IsMessageAuthenticator, OfCandidate}
+use Rattle.rad_auth.specs.ReplyLanes.{IsReplyHmac}
 use Rattle.rad_auth.specs.ReplyLanes as reply
-use Rattle.rad_auth.specs.Sums.{message_authenticator}
-use Rattle.rad_auth.specs.declared.seal.Job.{Job}
+use Rattle.rad_auth.specs.Authenticators.{message_authenticator}
+use Rattle.rad_auth.specs.declared.job.Job.{Job}
 use Rattle.rad_auth.specs.declared.candidate.Candidate.{Candidate}
 use Rattle.rad_auth.specs.declared.discard.Discard.{Discard}
 use Rattle.std.proofs.lemmas.List.{get_or_read_under}
@@ -45,36 +45,36 @@ below_eight P p0 p1 p2 p3 p4 p5 p6 p7 (suc (suc (suc (suc (suc (suc zero)))))) h
 below_eight P p0 p1 p2 p3 p4 p5 p6 p7 (suc (suc (suc (suc (suc (suc (suc zero))))))) h = p7
 below_eight P p0 p1 p2 p3 p4 p5 p6 p7 (suc (suc (suc (suc (suc (suc (suc (suc n)))))))) h = absurd (omega arith)
 
--- the sum of a lane's text under its key
-lane_sum : (clients : List Client) (key text sum : List ℕ) (lane : Option (Result Candidate Discard))
-    → OfCandidate (HasKeyOf clients key) lane → OfCandidate (HasSummedText text) lane → sum ≡ keyed_sum key text
-    → OfCandidate (IsMessageAuthenticator clients sum) lane
-lane_sum clients key text sum None keyed summed e = tt
-lane_sum clients key text sum (Some (Err discard)) keyed summed e = tt
-lane_sum clients key text sum (Some (Ok candidate)) keyed summed e = λ taken. at candidate.noted.behind_sum summed
+-- the HMAC of a lane's text under its key
+lane_hmac : (clients : List Client) (key text mac : List ℕ) (lane : Option (Result Candidate Discard))
+    → OfCandidate (HasKeyOf clients key) lane → OfCandidate (HasHmacText text) lane → mac ≡ keyed_sum key text
+    → OfCandidate (IsMessageAuthenticator clients mac) lane
+lane_hmac clients key text mac None keyed signed e = tt
+lane_hmac clients key text mac (Some (Err discard)) keyed signed e = tt
+lane_hmac clients key text mac (Some (Ok candidate)) keyed signed e = λ taken. at candidate.summary.after_hmac signed
   where
-    at : (o : Option ℕ) → IfSome o (λ behind. (secret : List ℕ) → hmac secret text ≡ message_authenticator candidate.request.packet secret)
-        → IfSome o (λ behind. sum ≡ message_authenticator candidate.request.packet (secret_at clients candidate.request.client))
+    at : (o : Option ℕ) → IfSome o (λ after. (secret : List ℕ) → hmac secret text ≡ message_authenticator candidate.request.packet secret)
+        → IfSome o (λ after. mac ≡ message_authenticator candidate.request.packet (secret_at clients candidate.request.client))
     at None h = tt
-    at (Some behind) h = e ∙ keyed text ∙ h (secret_at clients candidate.request.client)
+    at (Some after) h = e ∙ keyed text ∙ h (secret_at clients candidate.request.client)
 
-pub lane_sum_at : (clients : List Client) (lanes : List (Option (Result Candidate Discard))) (j : ℕ) (lane : Option (Result Candidate Discard)) (key text sum : List ℕ)
+pub lane_hmac_at : (clients : List Client) (lanes : List (Option (Result Candidate Discard))) (j : ℕ) (lane : Option (Result Candidate Discard)) (key text mac : List ℕ)
     → length lanes ≡ 8 → j < 8 → lane ≡ get_or lanes j lane
-    → OfCandidate (HasKeyOf clients key) (get_or lanes j lane) → OfCandidate (HasSummedText text) (get_or lanes j lane) → sum ≡ keyed_sum key text
-    → OfCandidate (IsMessageAuthenticator clients sum) (get_or lanes j None)
-lane_sum_at clients lanes j lane key text sum long lt is keyed summed e =
-    subst (OfCandidate (IsMessageAuthenticator clients sum)) (sym is ∙ get_or_read_under lanes j 8 lane None is lt (sym long)) (lane_sum clients key text sum (get_or lanes j lane) keyed summed e)
+    → OfCandidate (HasKeyOf clients key) (get_or lanes j lane) → OfCandidate (HasHmacText text) (get_or lanes j lane) → mac ≡ keyed_sum key text
+    → OfCandidate (IsMessageAuthenticator clients mac) (get_or lanes j None)
+lane_hmac_at clients lanes j lane key text mac long lt is keyed signed e =
+    subst (OfCandidate (IsMessageAuthenticator clients mac)) (sym is ∙ get_or_read_under lanes j 8 lane None is lt (sym long)) (lane_hmac clients key text mac (get_or lanes j lane) keyed signed e)
 
--- the sum of a reply's text under its key
-reply_sum : (key text sum : List ℕ) (lane : Option Job)
-    → IfSome lane (λ job. (text : List ℕ) → keyed_sum key text ≡ hmac job.secret.now text) → IfSome lane (reply.HasSummedText text) → sum ≡ keyed_sum key text
-    → IsReplySum lane sum
-reply_sum key text sum None keyed summed e = tt
-reply_sum key text sum (Some job) keyed summed e = λ has. e ∙ keyed text ∙ summed has
+-- the HMAC of a reply's text under its key
+reply_hmac : (key text mac : List ℕ) (lane : Option Job)
+    → IfSome lane (λ job. (text : List ℕ) → keyed_sum key text ≡ hmac job.secret.now text) → IfSome lane (reply.HasReplyHmacText text) → mac ≡ keyed_sum key text
+    → IsReplyHmac lane mac
+reply_hmac key text mac None keyed signed e = tt
+reply_hmac key text mac (Some job) keyed signed e = λ has. e ∙ keyed text ∙ signed has
 
-pub reply_sum_at : (jobs : List (Option Job)) (j : ℕ) (lane : Option Job) (key text sum : List ℕ)
+pub reply_hmac_at : (jobs : List (Option Job)) (j : ℕ) (lane : Option Job) (key text mac : List ℕ)
     → length jobs ≡ 8 → j < 8 → lane ≡ get_or jobs j lane
-    → IfSome (get_or jobs j lane) (λ job. (text : List ℕ) → keyed_sum key text ≡ hmac job.secret.now text) → IfSome (get_or jobs j lane) (reply.HasSummedText text) → sum ≡ keyed_sum key text
-    → IsReplySum (get_or jobs j None) sum
-reply_sum_at jobs j lane key text sum long lt is keyed summed e =
-    subst (λ job. IsReplySum job sum) (sym is ∙ get_or_read_under jobs j 8 lane None is lt (sym long)) (reply_sum key text sum (get_or jobs j lane) keyed summed e)
+    → IfSome (get_or jobs j lane) (λ job. (text : List ℕ) → keyed_sum key text ≡ hmac job.secret.now text) → IfSome (get_or jobs j lane) (reply.HasReplyHmacText text) → mac ≡ keyed_sum key text
+    → IsReplyHmac (get_or jobs j None) mac
+reply_hmac_at jobs j lane key text mac long lt is keyed signed e =
+    subst (λ job. IsReplyHmac job mac) (sym is ∙ get_or_read_under jobs j 8 lane None is lt (sym long)) (reply_hmac key text mac (get_or jobs j lane) keyed signed e)

@@ -1,9 +1,9 @@
 pub mod AdmissionLemmas
 pub mod AttributeLemmas
+pub mod AuthenticatorLemmas
 pub mod ClientRowsLemmas
 pub mod LaneLemmas
-pub mod NotedLemmas
 pub mod PasswordLemmas
 pub mod ReplyLemmas
 pub mod SameOctetsLemmas
-pub mod SumsLemmas
+pub mod SummaryLemmas

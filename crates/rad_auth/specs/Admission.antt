@@ -12,24 +12,24 @@ use Rattle.rad_auth.specs.declared.arrival.Door.TheVariants.{Auth, Acct}
 use Rattle.rad_auth.specs.declared.arrival.Request.{Request}
 use Rattle.rad_auth.specs.declared.discard.Discard.{Discard}
 use Rattle.rad_auth.specs.declared.discard.Discard.TheVariants.{UnknownClient, WrongCode, BadAuthenticator, BadMessageAuthenticator, NoMessageAuthenticator, NoStatusType, ProxyStateTooLong}
-use Rattle.rad_auth.specs.Clients.{Client, client_at, client_of}
+use Rattle.rad_auth.specs.Clients.{Client, client_place, client_of}
 use Rattle.rad_auth.specs.Datagrams.{Datagram, datagram_of}
 use Rattle.rad_auth.specs.Discards.{discard_of_fault}
-use Rattle.rad_auth.specs.Sums.{accounting_authenticator, message_authenticator}
+use Rattle.rad_auth.specs.Authenticators.{accounting_authenticator, message_authenticator}
 
 -- ---- what the checks ask
 
--- Whether a door takes a Code: Access-Request 1 and Status-Server 12, or Accounting-Request 4 and Status-Server 12
+-- Whether a port accepts a Code: Access-Request 1 and Status-Server 12, or Accounting-Request 4 and Status-Server 12
 -- (RFC 5997, section 3).
 abbrev pub is_taken : Door → ℕ → Bool
 is_taken Auth code = (code == 1) || (code == 12)
 is_taken Acct code = (code == 4) || (code == 12)
 
 -- whether a Code is one whose Message-Authenticator is looked at: Access-Request and Status-Server
-abbrev pub is_summed : ℕ → Bool
-is_summed code = (code == 1) || (code == 12)
+abbrev pub checks_message_authenticator : ℕ → Bool
+checks_message_authenticator code = (code == 1) || (code == 12)
 
--- whether the Request Authenticator is the digest that an Accounting-Request has to have
+-- whether the Request Authenticator is the digest that an Accounting-Request must have
 abbrev pub has_accounting_authenticator : Client → Packet → Bool
 has_accounting_authenticator client p = pointwise ◌==◌ p.authenticator (accounting_authenticator p client.secret)
 
@@ -37,18 +37,18 @@ has_accounting_authenticator client p = pointwise ◌==◌ p.authenticator (acco
 abbrev pub has_bad_authenticator : Client → Packet → Bool
 has_bad_authenticator client p = (p.code == 4) && not (has_accounting_authenticator client p)
 
--- whether the Message-Authenticator, Type 80, stands once, with 16 octets, and they are the sum (RFC 3579, section 3.2)
+-- whether the Message-Authenticator, Type 80, occurs once, with 16 octets, and they are the HMAC (RFC 3579, section 3.2)
 abbrev pub has_right_message_authenticator : Client → Packet → Bool
-has_right_message_authenticator client p = (count 80 p.attributes == 1) && is_sum (first_value 80 p.attributes)
+has_right_message_authenticator client p = (count 80 p.attributes == 1) && is_hmac (first_value 80 p.attributes)
   where
-    is_sum : Option (List ℕ) → Bool
-    is_sum None = false
-    is_sum (Some value) = (length value == 16) && pointwise ◌==◌ value (message_authenticator p client.secret)
+    is_hmac : Option (List ℕ) → Bool
+    is_hmac None = false
+    is_hmac (Some value) = (length value == 16) && pointwise ◌==◌ value (message_authenticator p client.secret)
 
 -- Whether there is a Message-Authenticator, but not one that is right. That of an Accounting-Request is not looked at.
 abbrev pub has_bad_message_authenticator : Client → Packet → Bool
 has_bad_message_authenticator client p =
-    is_summed p.code && (has 80 p.attributes && not (has_right_message_authenticator client p))
+    checks_message_authenticator p.code && (has 80 p.attributes && not (has_right_message_authenticator client p))
 
 -- whether a packet must have a Message-Authenticator: each Status-Server (RFC 5997, section 3), and an Access-Request with
 -- an EAP-Message, Type 79 (RFC 3579, section 3.1), or from a client of which it is required
@@ -64,7 +64,7 @@ lacks_message_authenticator client p = not (has 80 p.attributes) && needs_messag
 abbrev pub lacks_status_type : Packet → Bool
 lacks_status_type p = (p.code == 4) && not (has_len 40 4 p.attributes)
 
--- the most octets of Proxy-State attributes, Type 33, in sum
+-- the most octets of Proxy-State attributes, Type 33, in total
 abbrev pub proxy_states_max : ℕ
 proxy_states_max = 3584
 
@@ -89,10 +89,10 @@ request_of datagram place p = record {
   packet = p;
 }
 
--- the request that a datagram holds, whose content is still to be checked: from a client, and of a Code that the door takes
+-- the request that a datagram holds, whose content is still to be checked: from a client, and of a Code that the port accepts
 unfoldable pub request_in : List Client → Datagram → Result Request Discard
 request_in clients datagram = do
-  place ← ok_or (client_at clients datagram.source) UnknownClient
+  place ← ok_or (client_place clients datagram.source) UnknownClient
   p ← packet_or_discard (packet_of datagram.octets)
   taken ← refuse_if (not (is_taken datagram.door p.code)) WrongCode
   Ok (request_of datagram place p)
@@ -102,7 +102,7 @@ unfoldable pub content_checks : Client → Packet → Result (Unit {0}) Discard
 content_checks client p = do
   authentic ← refuse_if (has_bad_authenticator client p) BadAuthenticator
   unaltered ← refuse_if (has_bad_message_authenticator client p) BadMessageAuthenticator
-  summed ← refuse_if (lacks_message_authenticator client p) NoMessageAuthenticator
+  signed ← refuse_if (lacks_message_authenticator client p) NoMessageAuthenticator
   status ← refuse_if (lacks_status_type p) NoStatusType
   refuse_if (nat_lt proxy_states_max (proxy_states_size p)) ProxyStateTooLong
 
@@ -136,8 +136,8 @@ IsAdmitted clients request = admission clients (own_datagram request) ≡ Ok req
 abbrev pub HoldsAdmitted : List Client → Option (Result Request Discard) → Type 0
 HoldsAdmitted clients lane = IfSome lane (λ verdict. IfOk verdict (IsAdmitted clients))
 
--- what those who answer a request use of it: its client is one of the list, its door takes its Code, an Accounting-Request
--- says its status, and its Proxy-State attributes have at most so many octets in sum
+-- what those who answer a request use of it: its client is one of the list, its port accepts its Code, an Accounting-Request
+-- says its status, and its Proxy-State attributes have at most so many octets in total
 pub record IsAnswerable (clients : List Client) (request : Request) : Type 0 where
   pub client : request.client < length clients
   pub taken : IsTrue (is_taken request.door request.packet.code)

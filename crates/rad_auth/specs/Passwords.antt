@@ -11,7 +11,7 @@ abbrev pub password_max : ℕ
 password_max = 128
 
 -- The blocks of a text, hidden one after the other: each block's exclusive or with the digest of the secret and what
--- stands before it. That is the hidden block before it; before the first stands the Request Authenticator.
+-- precedes it. That is the hidden block before it; the Request Authenticator precedes the first.
 abbrev pub hidden_blocks : List ℕ → List ℕ → List (List ℕ) → List (List ℕ)
 hidden_blocks secret before [] = []
 hidden_blocks secret before (block ∷ blocks) =
@@ -32,7 +32,7 @@ abbrev pub hidden_text : List ℕ → List ℕ → List ℕ → List ℕ
 hidden_text secret request_authenticator text =
     concat (hidden_blocks secret request_authenticator (first_blocks (block_count (length text)) text))
 
--- a password with zeros behind it to a length
+-- a password padded with zeros to a length
 abbrev pub padded_password : ℕ → List ℕ → List ℕ
 padded_password len password = password ++ replicate (len - length password) 0
 
@@ -49,7 +49,7 @@ hidden_password secret request_authenticator password =
 abbrev pub value_fits : List ℕ → Bool
 value_fits value = (length value % 16 == 0) && (nat_le 16 (length value) && nat_le (length value) password_max)
 
--- whether a password is right for a value: it is at most as long, and with zeros behind it to the value's length it is
+-- whether a password is right for a value: it is at most as long, and padded with zeros to the value's length it is
 -- hidden as that value
 abbrev pub password_right : List ℕ → List ℕ → List ℕ → List ℕ → Bool
 password_right secret request_authenticator value password =

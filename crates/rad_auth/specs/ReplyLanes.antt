@@ -1,4 +1,4 @@
--- Eight lanes of replies on their way to their frames: the header, the sum and the digest of each.
+-- Eight lanes of replies on their way to their frames: the header, the HMAC and the digest of each.
 use Rattle.std.specs.Prelude.{◌≡◌, ℕ, ◌+◌, ◌==◌, not, Bool, false, List, ◌∷◌, ◌++◌, replicate, Option, Some, None, IfSome, IsTrue}
 use Rattle.std.specs.Int.{w16, to_be_bytes}
 use Rattle.md5.specs.Md5.{md5}
@@ -6,8 +6,8 @@ use Rattle.rad_hmac.specs.Hmac.{hmac}
 use Rattle.rad_packet.specs.Attributes.{size}
 use Rattle.rad_packet.specs.Bodies.{packet_of_body}
 use Rattle.rad_packet.specs.Packets.{Packet, header_size}
-use Rattle.rad_auth.specs.declared.seal.Job.{Job}
-use Rattle.rad_auth.specs.Sums.{message_authenticator, response_authenticator, summed_body}
+use Rattle.rad_auth.specs.declared.job.Job.{Job}
+use Rattle.rad_auth.specs.Authenticators.{message_authenticator, response_authenticator, signed_body}
 
 -- the header of a reply, with the Request Authenticator in the Authenticator's place
 abbrev pub header_octets : Job → List ℕ
@@ -17,36 +17,36 @@ abbrev pub lane_header : Option Job → List ℕ
 lane_header None = replicate 20 0
 lane_header (Some job) = header_octets job
 
--- the reply as it is summed
+-- the reply as its HMAC is computed
 abbrev pub unsealed : Job → Packet
 unsealed job = packet_of_body job.body.now job.id job.request_authenticator
 
 -- whether a lane has a reply with a Message-Authenticator
-abbrev pub has_sum : Option Job → Bool
-has_sum None = false
-has_sum (Some job) = not (job.body.now.code == 5)
+abbrev pub has_hmac : Option Job → Bool
+has_hmac None = false
+has_hmac (Some job) = not (job.body.now.code == 5)
 
--- the Message-Authenticator of a reply, where it has one
-abbrev pub HasReplySum : List ℕ → Job → Type 0
-HasReplySum sum job = IsTrue (has_sum (Some job)) → sum ≡ message_authenticator (unsealed job) job.secret.now
+-- the Message-Authenticator of a reply, if it has one
+abbrev pub HasReplyHmac : List ℕ → Job → Type 0
+HasReplyHmac mac job = IsTrue (has_hmac (Some job)) → mac ≡ message_authenticator (unsealed job) job.secret.now
 
 -- the Response Authenticator of a reply
 abbrev pub HasReplyDigest : List ℕ → Job → Type 0
 HasReplyDigest digest job =
-    digest ≡ response_authenticator (summed_body job.body.now job.id job.request_authenticator job.secret.now) job.id job.request_authenticator job.secret.now
+    digest ≡ response_authenticator (signed_body job.body.now job.id job.request_authenticator job.secret.now) job.id job.request_authenticator job.secret.now
 
 -- the same of a lane
-abbrev pub IsReplySum : Option Job → List ℕ → Type 0
-IsReplySum lane sum = IfSome lane (HasReplySum sum)
+abbrev pub IsReplyHmac : Option Job → List ℕ → Type 0
+IsReplyHmac lane mac = IfSome lane (HasReplyHmac mac)
 
 abbrev pub IsReplyDigest : Option Job → List ℕ → Type 0
 IsReplyDigest lane digest = IfSome lane (HasReplyDigest digest)
 
--- a text whose sum is the reply's Message-Authenticator, where it has one
-abbrev pub HasSummedText : List ℕ → Job → Type 0
-HasSummedText text job = IsTrue (has_sum (Some job)) → hmac job.secret.now text ≡ message_authenticator (unsealed job) job.secret.now
+-- a text whose HMAC is the reply's Message-Authenticator, if it has one
+abbrev pub HasReplyHmacText : List ℕ → Job → Type 0
+HasReplyHmacText text job = IsTrue (has_hmac (Some job)) → hmac job.secret.now text ≡ message_authenticator (unsealed job) job.secret.now
 
 -- a text whose digest is the reply's Response Authenticator
 abbrev pub HasDigestedText : List ℕ → Job → Type 0
 HasDigestedText text job =
-    md5 text ≡ response_authenticator (summed_body job.body.now job.id job.request_authenticator job.secret.now) job.id job.request_authenticator job.secret.now
+    md5 text ≡ response_authenticator (signed_body job.body.now job.id job.request_authenticator job.secret.now) job.id job.request_authenticator job.secret.now

@@ -1,13 +1,13 @@
--- Eight lanes of arrivals on their way through the checks: what was read of each, and the digest and the sum that were
+-- Eight lanes of arrivals on their way through the checks: what was read of each, and the digest and the HMAC that were
 -- made for it.
 use Rattle.std.specs.Prelude.{◌≡◌, ℕ, ◌<◌, ◌==◌, ◌&&◌, Bool, false, is_some, List, length, Option, Some, None, Result, Ok, Err, option_map, IfOk, IfSome, IsTrue}
 use Rattle.md5.specs.Md5.{md5}
 use Rattle.rad_hmac.specs.Hmac.{hmac, keyed_sum}
 use Rattle.rad_packet.specs.Ladders.{◌>>=◌}
 use Rattle.rad_packet.specs.Packets.{Packet}
-use Rattle.rad_auth.specs.Admission.{content_checks, is_summed, own_datagram, request_in}
+use Rattle.rad_auth.specs.Admission.{content_checks, checks_message_authenticator, own_datagram, request_in}
 use Rattle.rad_auth.specs.Clients.{Client, client_of, secret_at}
-use Rattle.rad_auth.specs.Sums.{accounting_authenticator, message_authenticator}
+use Rattle.rad_auth.specs.Authenticators.{accounting_authenticator, message_authenticator}
 use Rattle.rad_auth.specs.declared.candidate.Candidate.{Candidate}
 use Rattle.rad_auth.specs.declared.arrival.Request.{Request}
 use Rattle.rad_auth.specs.declared.discard.Discard.{Discard}
@@ -27,7 +27,7 @@ verdict_on clients read = do
 abbrev pub verdict_on_lane : List Client → Option (Result Candidate Discard) → Option (Result Request Discard)
 verdict_on_lane clients lane = option_map (verdict_on clients) lane
 
--- a fact about the candidate of a lane, where it has one
+-- a fact about the candidate of a lane, if it has one
 abbrev pub OfCandidate : (Candidate → Type 0) → Option (Result Candidate Discard) → Type 0
 OfCandidate Holds lane = IfSome lane (λ read. IfOk read Holds)
 
@@ -36,21 +36,21 @@ pub record IsCandidate (clients : List Client) (candidate : Candidate) : Type 0 
   pub client : candidate.request.client < length clients
   pub held : request_in clients (own_datagram candidate.request) ≡ Ok candidate.request
 
--- the digest that an Accounting-Request has to have
+-- the digest that an Accounting-Request must have
 abbrev pub IsAccountingAuthenticator : List Client → List ℕ → Candidate → Type 0
 IsAccountingAuthenticator clients digest candidate =
     candidate.request.packet.code ≡ 4
     → digest ≡ accounting_authenticator candidate.request.packet (secret_at clients candidate.request.client)
 
--- the sum that a Message-Authenticator has to have under a secret, where one can hold a sum
-abbrev pub IsSumUnder : List ℕ → List ℕ → Candidate → Type 0
-IsSumUnder secret sum candidate =
-    IfSome candidate.noted.behind_sum (λ behind. sum ≡ message_authenticator candidate.request.packet secret)
+-- the HMAC that a Message-Authenticator must have under a secret, if one can hold it
+abbrev pub IsHmacUnder : List ℕ → List ℕ → Candidate → Type 0
+IsHmacUnder secret mac candidate =
+    IfSome candidate.summary.after_hmac (λ after. mac ≡ message_authenticator candidate.request.packet secret)
 
 -- the same under the client's secret, where the Message-Authenticator is looked at
 abbrev pub IsMessageAuthenticator : List Client → List ℕ → Candidate → Type 0
-IsMessageAuthenticator clients sum candidate =
-    IsTrue (is_summed candidate.request.packet.code) → IsSumUnder (secret_at clients candidate.request.client) sum candidate
+IsMessageAuthenticator clients mac candidate =
+    IsTrue (checks_message_authenticator candidate.request.packet.code) → IsHmacUnder (secret_at clients candidate.request.client) mac candidate
 
 -- whether a lane has an Accounting-Request
 abbrev pub is_accounting : Option (Result Candidate Discard) → Bool
@@ -58,22 +58,22 @@ is_accounting None = false
 is_accounting (Some (Err discard)) = false
 is_accounting (Some (Ok candidate)) = candidate.request.packet.code == 4
 
--- whether a lane has a sum that is looked at
-abbrev pub will_be_summed : Option (Result Candidate Discard) → Bool
-will_be_summed None = false
-will_be_summed (Some (Err discard)) = false
-will_be_summed (Some (Ok candidate)) = is_summed candidate.request.packet.code && is_some candidate.noted.behind_sum
+-- whether a lane has an HMAC that is checked
+abbrev pub will_be_signed : Option (Result Candidate Discard) → Bool
+will_be_signed None = false
+will_be_signed (Some (Err discard)) = false
+will_be_signed (Some (Ok candidate)) = checks_message_authenticator candidate.request.packet.code && is_some candidate.summary.after_hmac
 
--- a text whose digest is the Authenticator that an Accounting-Request has to have
+-- a text whose digest is the Authenticator that an Accounting-Request must have
 abbrev pub HasAccountingText : List Client → List ℕ → Candidate → Type 0
 HasAccountingText clients text candidate =
     md5 text ≡ accounting_authenticator candidate.request.packet (secret_at clients candidate.request.client)
 
--- a text whose sum is the Message-Authenticator, under each secret
-abbrev pub HasSummedText : List ℕ → Candidate → Type 0
-HasSummedText text candidate = IfSome candidate.noted.behind_sum (λ behind.
+-- a text whose HMAC is the Message-Authenticator, under each secret
+abbrev pub HasHmacText : List ℕ → Candidate → Type 0
+HasHmacText text candidate = IfSome candidate.summary.after_hmac (λ after.
     (secret : List ℕ) → hmac secret text ≡ message_authenticator candidate.request.packet secret)
 
--- a key that sums under the secret of the candidate's client
+-- a key under which an HMAC is that of the secret of the candidate's client
 abbrev pub HasKeyOf : List Client → List ℕ → Candidate → Type 0
 HasKeyOf clients key candidate = (text : List ℕ) → keyed_sum key text ≡ hmac (secret_at clients candidate.request.client) text

@@ -2,14 +2,10 @@
 use Rattle.std.specs.Prelude.{◌≡◌, ◌≢◌, ◌⊎◌, ℕ, ◌+◌, ◌≤◌, ◌==◌, if◌then◌else◌, List, [], ◌∷◌, Option, Some, None, IfSome, All, length}
 use Rattle.std.specs.Simd.Lanes.{zip2}
 use Rattle.rad_packet.specs.Attributes.{Attribute, count, size}
-use Rattle.rad_packet.specs.Bodies.{Body, packet_of_body}
+use Rattle.rad_packet.specs.Bodies.{Body, FitsPacket, packet_of_body}
 use Rattle.rad_packet.specs.Packets.{header_size, length_max, packet_octets}
-use Rattle.rad_auth.specs.declared.seal.Job.{Job}
-use Rattle.rad_auth.specs.Sums.{accounting_authenticator, response_authenticator, summed_body}
-
--- a body whose packet has at most 4,096 octets
-abbrev pub FitsPacket : Body → Type 0
-FitsPacket body = header_size + size body.attributes ≤ length_max
+use Rattle.rad_auth.specs.declared.job.Job.{Job}
+use Rattle.rad_auth.specs.Authenticators.{accounting_authenticator, response_authenticator, signed_body}
 
 -- the first attribute is no Message-Authenticator
 abbrev pub BeginsOtherwise : List Attribute → Type 0
@@ -41,24 +37,24 @@ pub record IsReply (body : Body) : Type 0 where
 pub record IsJob (job : Job) : Type 0 where
   pub reply : IsReply job.body.now
 
--- The reply's octets: its Message-Authenticator, where it has one, is summed with the Request Authenticator in the
+-- The reply's octets: its Message-Authenticator, if it has one, is computed with the Request Authenticator in the
 -- Authenticator's place, and then the Response Authenticator is made.
 abbrev pub reply_octets : Body → ℕ → List ℕ → List ℕ → List ℕ
 reply_octets body identifier request_authenticator secret =
-    let summed = summed_body body identifier request_authenticator secret in
-    packet_octets (packet_of_body summed identifier (response_authenticator summed identifier request_authenticator secret))
+    let signed = signed_body body identifier request_authenticator secret in
+    packet_octets (packet_of_body signed identifier (response_authenticator signed identifier request_authenticator secret))
 
 -- an Access-Request, an Accounting-Request or a Status-Server
 abbrev pub IsRequestCode : ℕ → Type 0
 IsRequestCode code = (code ≡ 1) ⊎ ((code ≡ 4) ⊎ (code ≡ 12))
 
--- The octets of a request. An Accounting-Request gets its Authenticator; another has the one that is given, and its sum
+-- The octets of a request. An Accounting-Request gets its Authenticator; another has the one that is given, and its HMAC
 -- if one of its attributes holds one.
 abbrev pub request_octets : Body → ℕ → List ℕ → List ℕ → List ℕ
 request_octets body identifier authenticator secret =
     if body.code == 4
     then packet_octets (packet_of_body body identifier (accounting_authenticator (packet_of_body body identifier authenticator) secret))
-    else packet_octets (packet_of_body (summed_body body identifier authenticator secret) identifier authenticator)
+    else packet_octets (packet_of_body (signed_body body identifier authenticator secret) identifier authenticator)
 
 -- each job can be done
 abbrev pub AreJobs : List (Option Job) → Type 0

@@ -3,9 +3,9 @@ use Rattle.std.specs.Prelude.{◌≡◌, ℕ, ◌≤◌, List, length, take}
 use Rattle.rad_hmac.specs.Hmac.{hmac, keyed_sum}
 use Rattle.rad_auth.specs.Clients.{secret_max}
 
--- the secret stands in the first octets, as many as are counted, and the key is made of it
+-- the secret is in the first octets, as many as are counted, and the key is made of it
 pub record KeepsSecret (octets : List ℕ) (len : ℕ) (key : List ℕ) : Type 0 where
   pub room : length octets ≡ secret_max
   pub some : 1 ≤ len
   pub within : len ≤ secret_max
-  pub sums : (text : List ℕ) → keyed_sum key text ≡ hmac (take len octets) text
+  pub macs : (text : List ℕ) → keyed_sum key text ≡ hmac (take len octets) text

@@ -1,23 +1,23 @@
-//! Admission: which datagrams are requests of a client, and which discard is told of the others.
+//! Admission: which datagrams are requests of a client, and why the others are discarded.
 ghost use Rattle.std.specs.Prelude.{◌≡◌, ◌<◌, length, map, All, IfOk, Ok};
 ghost use Rattle.rad_packet.specs.Attributes.{has};
-ghost use Rattle.rad_auth.specs.Admission.{HoldsAdmitted, IsAdmitted, IsAnswerable, admission, content_checks, has_bad_authenticator, has_bad_message_authenticator, has_right_message_authenticator, is_summed, is_taken, lane_admission, lacks_message_authenticator, lacks_status_type, own_datagram, request_in};
+ghost use Rattle.rad_auth.specs.Admission.{HoldsAdmitted, IsAdmitted, IsAnswerable, admission, content_checks, has_bad_authenticator, has_bad_message_authenticator, has_right_message_authenticator, is_taken, lane_admission, lacks_message_authenticator, lacks_status_type, own_datagram, request_in};
 ghost use Rattle.rad_auth.specs.Clients.{Client};
 ghost use Rattle.rad_auth.specs.Datagrams.{datagram_of};
-ghost use Rattle.rad_auth.specs.RequestLanes.{IsAccountingAuthenticator, IsCandidate, IsMessageAuthenticator, IsSumUnder, OfCandidate, asked_of, verdict_on, verdict_on_lane};
+ghost use Rattle.rad_auth.specs.RequestLanes.{IsAccountingAuthenticator, IsCandidate, IsMessageAuthenticator, IsHmacUnder, OfCandidate, asked_of, verdict_on, verdict_on_lane};
 
 use crate::arrival::{Arrival, Door, Request};
-use crate::candidate::{Candidate, Lane};
+use crate::candidate::{Candidate, Lane, checks_message_authenticator};
 use crate::client::Clients;
 use crate::discard::Discard;
-use crate::noted::Noted;
-use crate::request_sums::{accounting_authenticators, message_authenticators};
+use crate::request_authenticators::{accounting_authenticators, message_authenticators};
 use crate::same_octets::same_octets;
+use crate::summary::Summary;
 use rad_md5::DIGEST_LEN;
 use rad_packet::attribute::MESSAGE_AUTHENTICATOR;
 use rad_packet::{Packet, code};
 
-/// The most octets of a request's Proxy-State attributes in sum, Type and Length counted.
+/// The most octets of a request's Proxy-State attributes in total, Type and Length counted.
 pub const PROXY_STATES_MAX: usize = 3584;
 
 /// Checks eight arrivals: each is the request that it holds, or the first discard, and None stays None.
@@ -42,22 +42,22 @@ pub fn check8<'a>(
         read_lane(clients, h),
     ];
     let digests = accounting_authenticators(clients, &lanes);
-    let sums = message_authenticators(clients, &lanes);
+    let macs = message_authenticators(clients, &lanes);
     [
-        judge(clients, &lanes[0], &digests[0], &sums[0]),
-        judge(clients, &lanes[1], &digests[1], &sums[1]),
-        judge(clients, &lanes[2], &digests[2], &sums[2]),
-        judge(clients, &lanes[3], &digests[3], &sums[3]),
-        judge(clients, &lanes[4], &digests[4], &sums[4]),
-        judge(clients, &lanes[5], &digests[5], &sums[5]),
-        judge(clients, &lanes[6], &digests[6], &sums[6]),
-        judge(clients, &lanes[7], &digests[7], &sums[7]),
+        judge(clients, &lanes[0], &digests[0], &macs[0]),
+        judge(clients, &lanes[1], &digests[1], &macs[1]),
+        judge(clients, &lanes[2], &digests[2], &macs[2]),
+        judge(clients, &lanes[3], &digests[3], &macs[3]),
+        judge(clients, &lanes[4], &digests[4], &macs[4]),
+        judge(clients, &lanes[5], &digests[5], &macs[5]),
+        judge(clients, &lanes[6], &digests[6], &macs[6]),
+        judge(clients, &lanes[7], &digests[7], &macs[7]),
     ]
 }
 
-/// What every admitted request has.
+/// What every admitted request satisfies.
 ///
-/// It does nothing: it is the law on which those who answer requests rest.
+/// It does nothing at run time: it is the law on which those who answer requests rest.
 pub fn admitted_is_answerable(_clients: &Clients, _request: &Request)
     requires { IsAdmitted _clients.now _request.now }
     ensures { IsAnswerable _clients.now _request.now }
@@ -79,11 +79,11 @@ fn read_candidate<'a>(clients: &Clients, arrival: &Arrival<'a>) -> Result<Candid
     ensures candidate { IfOk result (IsCandidate clients.now) }
 {
     let request = read_request(clients, arrival)?;
-    let noted = Noted::of(request.packet.attributes());
-    Ok(Candidate { request, noted })
+    let summary = Summary::of(request.packet.attributes());
+    Ok(Candidate { request, summary })
 }
 
-// The checks that need no sum.
+// The checks that need no digest or HMAC.
 #[tactic(auto, unfolding(crate::specs::Admission::request_in))]
 fn read_request<'a>(clients: &Clients, arrival: &Arrival<'a>) -> Result<Request<'a>, Discard>
     ensures read { result ≡ request_in clients.now (datagram_of arrival.now) }
@@ -106,7 +106,7 @@ fn read_request<'a>(clients: &Clients, arrival: &Arrival<'a>) -> Result<Request<
     })
 }
 
-// Whether a door takes a Code.
+// Whether a port accepts a Code.
 fn is_taken(door: Door, code: u8) -> bool
     ensures { result ≡ is_taken door code }
 {
@@ -116,47 +116,40 @@ fn is_taken(door: Door, code: u8) -> bool
     }
 }
 
-/// Whether the Message-Authenticator of a Code is looked at.
-pub(crate) fn is_summed(code: u8) -> bool
-    ensures { result ≡ is_summed code }
-{
-    code == code::ACCESS_REQUEST || code == code::STATUS_SERVER
-}
-
-// The verdict on a lane, over the digest and the sum that were made for it.
+// The verdict on a lane, given the digest and the HMAC that were computed for it.
 fn judge<'a>(
     clients: &Clients,
     lane: &Lane<'a>,
     digest: &[u8; DIGEST_LEN],
-    sum: &[u8; DIGEST_LEN],
+    mac: &[u8; DIGEST_LEN],
 ) -> Option<Result<Request<'a>, Discard>>
     requires candidate { OfCandidate (IsCandidate clients.now) lane.now }
     requires digest { OfCandidate (IsAccountingAuthenticator clients.now digest.now) lane.now }
-    requires sum { OfCandidate (IsMessageAuthenticator clients.now sum.now) lane.now }
+    requires mac { OfCandidate (IsMessageAuthenticator clients.now mac.now) lane.now }
     ensures verdict { result ≡ verdict_on_lane clients.now lane.now }
     ensures request { HoldsAdmitted clients.now result }
 {
     match lane {
         None => None,
         Some(Err(discard)) => Some(Err(*discard)),
-        Some(Ok(candidate)) => Some(let_in(clients, candidate, digest, sum)),
+        Some(Ok(candidate)) => Some(admitted(clients, candidate, digest, mac)),
     }
 }
 
-fn let_in<'a>(
+fn admitted<'a>(
     clients: &Clients,
     candidate: &Candidate<'a>,
     digest: &[u8; DIGEST_LEN],
-    sum: &[u8; DIGEST_LEN],
+    mac: &[u8; DIGEST_LEN],
 ) -> Result<Request<'a>, Discard>
     requires candidate { IsCandidate clients.now candidate.now }
     requires digest { IsAccountingAuthenticator clients.now digest.now candidate.now }
-    requires sum { IsMessageAuthenticator clients.now sum.now candidate.now }
+    requires mac { IsMessageAuthenticator clients.now mac.now candidate.now }
     ensures verdict { result ≡ verdict_on clients.now (Ok candidate.now) }
     ensures admitted { IfOk result (IsAdmitted clients.now) }
 {
-    check_content(clients, candidate, digest, sum)?;
-    // The lanes are borrowed by what was made of them, so the request is built anew. No octet is copied.
+    check_content(clients, candidate, digest, mac)?;
+    // The lanes are still borrowed, so the request is built anew from their parts. No octet is copied.
     let Request {
         client,
         source,
@@ -173,23 +166,23 @@ fn let_in<'a>(
     })
 }
 
-// The checks of the content, over the digest and the sum that were made for it.
+// The checks of the content, given the digest and the HMAC that were computed for it.
 #[tactic(auto, unfolding(crate::specs::Admission::content_checks))]
 fn check_content(
     clients: &Clients,
     candidate: &Candidate,
     digest: &[u8; DIGEST_LEN],
-    sum: &[u8; DIGEST_LEN],
+    mac: &[u8; DIGEST_LEN],
 ) -> Result<(), Discard>
     requires candidate { IsCandidate clients.now candidate.now }
     requires digest { IsAccountingAuthenticator clients.now digest.now candidate.now }
-    requires sum { IsMessageAuthenticator clients.now sum.now candidate.now }
+    requires mac { IsMessageAuthenticator clients.now mac.now candidate.now }
     ensures { result ≡ asked_of content_checks clients.now candidate.now }
 {
     if has_bad_authenticator(clients, candidate, digest) {
         return Err(Discard::BadAuthenticator);
     }
-    if has_bad_message_authenticator(clients, candidate, sum) {
+    if has_bad_message_authenticator(clients, candidate, mac) {
         return Err(Discard::BadMessageAuthenticator);
     }
     if lacks_message_authenticator(clients, candidate) {
@@ -198,13 +191,13 @@ fn check_content(
     if lacks_status_type(candidate) {
         return Err(Discard::NoStatusType);
     }
-    if candidate.noted.proxy_states > PROXY_STATES_MAX {
+    if candidate.summary.proxy_states > PROXY_STATES_MAX {
         return Err(Discard::ProxyStateTooLong);
     }
     Ok(())
 }
 
-// Whether an Accounting-Request has another Authenticator than this digest.
+// Whether an Accounting-Request has an Authenticator other than this digest.
 fn has_bad_authenticator(
     clients: &Clients,
     candidate: &Candidate,
@@ -217,43 +210,43 @@ fn has_bad_authenticator(
     packet.code() == code::ACCOUNTING_REQUEST && !same_octets(&packet.authenticator(), digest)
 }
 
-// Whether a Message-Authenticator that is looked at isn't this sum, or is doubled.
+// Whether a Message-Authenticator that is checked isn't this HMAC, or occurs more than once.
 fn has_bad_message_authenticator(
     clients: &Clients,
     candidate: &Candidate,
-    sum: &[u8; DIGEST_LEN],
+    mac: &[u8; DIGEST_LEN],
 ) -> bool
-    requires { IsMessageAuthenticator clients.now sum.now candidate.now }
+    requires { IsMessageAuthenticator clients.now mac.now candidate.now }
     ensures { result ≡ asked_of has_bad_message_authenticator clients.now candidate.now }
 {
-    is_summed(candidate.request.packet.code())
+    checks_message_authenticator(candidate.request.packet.code())
         && has_message_authenticator(candidate)
-        && !has_right_message_authenticator(candidate, sum)
+        && !has_right_message_authenticator(candidate, mac)
 }
 
 // Whether a Message-Authenticator is there.
 fn has_message_authenticator(candidate: &Candidate) -> bool
     ensures { result ≡ has 80 candidate.now.request.packet.attributes }
 {
-    candidate.noted.message_authenticators > 0
+    candidate.summary.message_authenticators > 0
 }
 
-// Whether the Message-Authenticator stands once, and is this sum.
-fn has_right_message_authenticator(candidate: &Candidate, sum: &[u8; DIGEST_LEN]) -> bool
-    ensures { (client : Client) → IsSumUnder client.secret sum.now candidate.now
+// Whether the Message-Authenticator occurs once, and is this HMAC.
+fn has_right_message_authenticator(candidate: &Candidate, mac: &[u8; DIGEST_LEN]) -> bool
+    ensures { (client : Client) → IsHmacUnder client.secret mac.now candidate.now
         → result ≡ has_right_message_authenticator client candidate.now.request.packet }
 {
-    let stands_once = candidate.noted.message_authenticators == 1;
+    let stands_once = candidate.summary.message_authenticators == 1;
     if !stands_once {
         return false;
     }
     match candidate.request.packet.first(MESSAGE_AUTHENTICATOR) {
         None => false,
-        Some(value) => same_octets(value, sum),
+        Some(value) => same_octets(value, mac),
     }
 }
 
-// Whether a Message-Authenticator must be there and isn't.
+// Whether a required Message-Authenticator is absent.
 fn lacks_message_authenticator(clients: &Clients, candidate: &Candidate) -> bool
     requires { candidate.now.request.client < length clients.now }
     ensures { result ≡ asked_of lacks_message_authenticator clients.now candidate.now }
@@ -261,19 +254,20 @@ fn lacks_message_authenticator(clients: &Clients, candidate: &Candidate) -> bool
     if has_message_authenticator(candidate) {
         return false;
     }
-    let Candidate { request, noted } = candidate;
+    let Candidate { request, summary } = candidate;
     match request.packet.code() {
         code::STATUS_SERVER => true,
         code::ACCESS_REQUEST => {
-            noted.has_eap_message || clients.require_message_authenticator(request.client)
+            summary.has_eap_message || clients.require_message_authenticator(request.client)
         }
         _ => false,
     }
 }
 
-// Whether an Accounting-Request doesn't say its status.
+// Whether an Accounting-Request has no Acct-Status-Type of 4 octets.
 fn lacks_status_type(candidate: &Candidate) -> bool
     ensures { result ≡ lacks_status_type candidate.now.request.packet }
 {
-    candidate.request.packet.code() == code::ACCOUNTING_REQUEST && !candidate.noted.has_status_type
+    candidate.request.packet.code() == code::ACCOUNTING_REQUEST
+        && !candidate.summary.has_status_type
 }

@@ -1,4 +1,4 @@
-//! Datagrams as they arrive, and requests as they are let in.
+//! Datagrams as they arrive, and requests as they are admitted.
 
 use rad_packet::Packet;
 
@@ -22,7 +22,7 @@ pub struct Arrival<'a> {
     pub octets: &'a [u8],
 }
 
-/// What `check8` lets in: the packet that an arrival holds, and whose it is.
+/// An admitted request: the packet that an arrival holds, and whose it is.
 #[derive(Drop)]
 pub struct Request<'a> {
     /// The client's place, counted from 0.

@@ -1,17 +1,27 @@
-//! Requests that a door took, whose content is still to be checked.
-ghost use Rattle.rad_auth.specs.Noted.{IsNoted};
+//! Requests whose Code their port accepts, and whose content is still to be checked.
+ghost use Rattle.std.specs.Prelude.{◌≡◌};
+ghost use Rattle.rad_auth.specs.Admission.{checks_message_authenticator};
+ghost use Rattle.rad_auth.specs.Summaries.{IsSummary};
 
 use crate::arrival::Request;
 use crate::discard::Discard;
-use crate::noted::Noted;
+use crate::summary::Summary;
+use rad_packet::code;
 
-/// A request that a door took, and what its attributes say.
+/// A request whose Code its port accepts, and what its attributes say.
 #[derive(Drop)]
 pub(crate) struct Candidate<'a> {
     pub request: Request<'a>,
-    pub noted: Noted,
-    ghost is_noted: { IsNoted request.packet.attributes noted },
+    pub summary: Summary,
+    ghost is_summary: { IsSummary request.packet.attributes summary },
 }
 
 /// A lane with its candidate, or the discard, or nothing.
 pub(crate) type Lane<'a> = Option<Result<Candidate<'a>, Discard>>;
+
+/// Whether the Message-Authenticator is checked in a packet of this Code.
+pub(crate) fn checks_message_authenticator(code: u8) -> bool
+    ensures { result ≡ checks_message_authenticator code }
+{
+    code == code::ACCESS_REQUEST || code == code::STATUS_SERVER
+}

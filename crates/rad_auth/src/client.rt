@@ -43,8 +43,9 @@ impl Model for Clients {
 }
 
 impl Clients {
-    ghost use Rattle.std.specs.Prelude.{◌≡◌, ◌<◌, ◌≤◌, ◌==◌, ◌↔◌, [], ◌∷◌, ◌++◌, length, OnOk, OnErr, IsErrOf, IsSome, IfSome};
-    ghost use Rattle.rad_auth.specs.Clients.{Client, IsSecret, clients_max, client_at, client_of, secret_at};
+    ghost use Rattle.std.specs.Prelude.{◌≡◌, ◌<◌, ◌≤◌, ◌==◌, ◌↔◌, [], length, OnOk, OnErr, IsErrOf, IsSome, IfSome};
+    ghost use Rattle.rad_auth.specs.Clients.{Client, IsSecret, clients_max, client_place, client_of, secret_at, with_client};
+    ghost use Rattle.rad_auth.specs.declared.client.ClientFault.TheVariants.{Doubled};
 
     /// An empty list of clients.
     pub fn new(alloc: Global) -> Clients
@@ -58,8 +59,8 @@ impl Clients {
 
     /// Adds a client after the others.
     ///
-    /// There are fewer than `CLIENTS_MAX` so far, and the secret has 1 to `SECRET_MAX` octets. `Doubled` is told where a
-    /// client has the address, and `NoMemory` only where none has; either changes nothing.
+    /// There are fewer than `CLIENTS_MAX` so far, and the secret has 1 to `SECRET_MAX` octets. Returns `Doubled` if and only if
+    /// the address is already listed, and `NoMemory` only if it isn't; either changes nothing.
     pub fn add(
         &mut self,
         address: u32,
@@ -68,9 +69,10 @@ impl Clients {
     ) -> Result<(), ClientFault>
         requires room { length self.old < clients_max }
         requires is_secret { IsSecret secret.now }
-        ensures ok { OnOk result (self.new ≡ self.old ++ record { address = address; secret = secret.now; require_message_authenticator = require_message_authenticator } ∷ []) }
+        ensures ok { OnOk result
+            (self.new ≡ with_client self.old address secret.now require_message_authenticator) }
         ensures err { OnErr result (self.new ≡ self.old) }
-        ensures doubled { IsErrOf result ClientFault.Doubled ↔ IsSome (client_at self.old address) }
+        ensures doubled { IsErrOf result Doubled ↔ IsSome (client_place self.old address) }
     {
         if self.find(address).is_some() {
             return Err(ClientFault::Doubled);
@@ -114,7 +116,7 @@ impl Clients {
 
     /// The place of the client with this address.
     pub fn find(&self, source: u32) -> Option<u32>
-        ensures value { result ≡ client_at self.now source }
+        ensures value { result ≡ client_place self.now source }
         ensures within { IfSome result (λ index. index < length self.now) }
     {
         let place = self.addresses.get_index_of(&source)?;

@@ -7,9 +7,9 @@ ghost use Rattle.rad_auth.specs.Clients.{secret_max};
 ghost use Rattle.rad_auth.specs.PasswordLanes.{block_before};
 ghost use Rattle.rad_auth.specs.Passwords.{IsRevealed, hidden_password, hidden_text, padded_password, password_max, password_right, value_fits, value_length};
 
+use crate::authenticators::nothing;
 use crate::same_octets::same_octets;
 use crate::secret::Secret;
-use crate::sums::nothing;
 use md5::{Digest, Md5};
 use rad_md5::{DIGEST_LEN, LANES, Pieces, digest8};
 use std::simd::u8x16;
@@ -29,9 +29,9 @@ pub fn value_fits(value: &[u8]) -> bool
     value.len() % BLOCK_LEN == 0 && BLOCK_LEN <= value.len() && value.len() <= PASSWORD_MAX
 }
 
-/// Hides a password, and answers how many octets its value has: a multiple of 16, and at least 16.
+/// Hides a password, and returns how many octets its value has: a multiple of 16, and at least 16.
 ///
-/// The password has at most `PASSWORD_MAX` octets, and may have none. The octets of `value` past the answered count stay.
+/// The password has at most `PASSWORD_MAX` octets, and may have none. The octets of `value` after the returned count are unchanged.
 /// Source: RFC 2865, section 5.2.
 pub fn hide(
     secret: &Secret,
@@ -58,7 +58,7 @@ fn value_length(len: usize) -> usize
     BLOCK_LEN * len.div_ceil(BLOCK_LEN).max(1)
 }
 
-// A password with zeros behind it.
+// A password padded with zeros.
 fn padded(password: &[u8]) -> [u8; PASSWORD_MAX]
     requires { length password.now ≤ password_max }
     ensures { result ≡ padded_password password_max password.now }
@@ -68,7 +68,7 @@ fn padded(password: &[u8]) -> [u8; PASSWORD_MAX]
     text
 }
 
-// Hides a text of whole blocks where it stands.
+// Hides a text of whole blocks in place.
 fn hide_text(secret: &[u8], request_authenticator: &[u8; 16], text: &mut [u8])
     requires { length text.old % 16 ≡ 0 }
     ensures { text.new ≡ hidden_text secret.now request_authenticator.now text.old }
@@ -82,7 +82,7 @@ fn hide_text(secret: &[u8], request_authenticator: &[u8; 16], text: &mut [u8])
     }
 }
 
-// The digest that hides a block: of the secret and what stands before the block.
+// The digest that hides a block: of the secret and what precedes the block.
 fn block_digest(secret: &[u8], before: &[u8; BLOCK_LEN]) -> [u8; DIGEST_LEN]
     ensures { result ≡ md5 (secret.now ++ before.now) }
 {
@@ -100,11 +100,11 @@ fn xor(block: &[u8], digest: &[u8; DIGEST_LEN]) -> [u8; BLOCK_LEN]
     (u8x16::from_slice(block) ^ u8x16::from_array(*digest)).to_array()
 }
 
-/// Opens a value: writes the text that is hidden as it, and answers the text's length, which is the value's.
+/// Opens a value: writes the text that is hidden as it, and returns the text's length, which is the value's.
 ///
-/// Where `hide` made the value under this secret and Authenticator, the text is the password with zeros behind it.
-/// `value_fits` must be true of the value. Two blocks and more are opened by one pass of digests. The octets of `text` past
-/// the answered count stay. Source: RFC 2865, section 5.2.
+/// If `hide` made the value under this secret and Authenticator, the text is the password padded with zeros.
+/// `value_fits` must be true of the value. Two blocks and more are opened by one pass of digests. The octets of `text`
+/// after the returned count are unchanged. Source: RFC 2865, section 5.2.
 pub fn reveal(
     secret: &Secret,
     request_authenticator: &[u8; 16],
@@ -153,7 +153,7 @@ fn block_digests(
     ])
 }
 
-// What is digested for a block past the first; nothing, where the value has no such block.
+// The message whose digest hides a block after the first; empty if the value has no such block.
 fn digested_text<'x>(secret: &'x [u8], value: &'x [u8], block: usize) -> Pieces<'x>
     requires secret { length secret.now ≤ secret_max }
     requires value { length value.now ≤ password_max }
@@ -168,9 +168,9 @@ fn digested_text<'x>(secret: &'x [u8], value: &'x [u8], block: usize) -> Pieces<
     }
 }
 
-/// Whether a password, with zeros behind it to the value's length, is the text that the value hides.
+/// Whether a password, padded with zeros to the value's length, is the text that the value hides.
 ///
-/// A password that is longer than the value is wrong; of another all octets are compared, whether the first differ or not.
+/// A password that is longer than the value is wrong; otherwise all octets are compared, whether the first differ or not.
 /// `value_fits` must be true of the value. Source: RFC 2865, section 5.2.
 pub fn password_right(
     secret: &Secret,

@@ -4,7 +4,7 @@ ghost use lib.Pointwise.{pointwise};
 
 /// Whether two slices have the same octets.
 ///
-/// Where they are equally long, all octets are looked at, so that the time doesn't tell where they differ. No contract
+/// If they are equally long, all octets are compared, so that the time doesn't depend on where they differ. No contract
 /// speaks of time.
 pub(crate) fn same_octets(octets: &[u8], others: &[u8]) -> bool
     ensures { result ≡ pointwise ◌==◌ octets.now others.now }

@@ -2,27 +2,20 @@
 ghost use Rattle.std.specs.Prelude.{◌≡◌, ◌↔◌, ◌+◌, ◌<◌, ◌≤◌, ◌^◌, ◌-◌, length, IsOk, IfSome, OnOk, OnErr};
 ghost use Rattle.rad_hmac.specs.Hmac.{hmac, keyed_sum};
 ghost use Rattle.rad_md5.specs.Pieces.{HasFreePiece, message};
-ghost use Rattle.rad_auth.specs.Noted.{with_sum};
-ghost use Rattle.rad_auth.specs.ReplyLanes.{HasReplyDigest, HasReplySum, IsReplyDigest, IsReplySum};
-ghost use Rattle.rad_auth.specs.Sums.{response_authenticator, sixteen_zeros};
-ghost use Rattle.rad_auth.specs.Sealing.{AreJobs, BeginsOtherwise, FitsPacket, IsJob, IsRequestCode, job_octets, lane_octets, request_octets, sealed};
+ghost use Rattle.rad_packet.specs.Bodies.{FitsPacket};
+ghost use Rattle.rad_auth.specs.Summaries.{with_hmac};
+ghost use Rattle.rad_auth.specs.ReplyLanes.{HasReplyDigest, HasReplyHmac, IsReplyDigest, IsReplyHmac};
+ghost use Rattle.rad_auth.specs.Authenticators.{response_authenticator, sixteen_zeros};
+ghost use Rattle.rad_auth.specs.Sealing.{AreJobs, BeginsOtherwise, IsJob, IsRequestCode, job_octets, lane_octets, request_octets, sealed};
 
-use crate::noted::Noted;
-use crate::reply_sums::{headers, reply_digests, reply_sums};
+use crate::authenticators::{SIXTEEN_ZEROS, body_digest, hmac_pieces, nothing};
+use crate::job::Job;
+use crate::reply_authenticators::{headers, reply_digests, reply_hmacs};
 use crate::secret::Secret;
-use crate::sums::{SIXTEEN_ZEROS, body_digest, nothing, summed_pieces};
+use crate::summary::Summary;
 use rad_hmac::{Key, hmac8};
 use rad_md5::{DIGEST_LEN, LANES, Pieces};
 use rad_packet::{Body, Frame, HEADER_SIZE, LENGTH_MAX, TooLong, code, write};
-
-/// A reply to be sealed: to the request with this Identifier and Authenticator, under the client's secret.
-#[derive(Clone, Copy)]
-pub struct Job<'a> {
-    pub body: &'a Body,
-    pub id: u8,
-    pub request_authenticator: [u8; 16],
-    pub secret: &'a Secret,
-}
 
 /// The Response Authenticator of a reply.
 ///
@@ -51,46 +44,46 @@ pub fn seal8(jobs: &[Option<Job>; 8], frames: &mut [Frame; 8])
 {
     let headers = headers(jobs);
     let no_key = Key::new(&[]);
-    let sums = reply_sums(&*jobs, &headers, &no_key);
-    let digests = reply_digests(jobs, &headers, &sums);
+    let macs = reply_hmacs(&*jobs, &headers, &no_key);
+    let digests = reply_digests(jobs, &headers, &macs);
     'lanes: for lane in 0..LANES {
-        seal_lane(&jobs[lane], &sums[lane], &digests[lane], &mut frames[lane]);
+        seal_lane(&jobs[lane], &macs[lane], &digests[lane], &mut frames[lane]);
     }
 }
 
 fn seal_lane(
     job: &Option<Job>,
-    sum: &[u8; DIGEST_LEN],
+    mac: &[u8; DIGEST_LEN],
     authenticator: &[u8; DIGEST_LEN],
     frame: &mut Frame,
 )
     requires job { IfSome job.now IsJob }
-    requires sum { IsReplySum job.now sum.now }
+    requires mac { IsReplyHmac job.now mac.now }
     requires authenticator { IsReplyDigest job.now authenticator.now }
     ensures { frame.new ≡ lane_octets job.now frame.old }
 {
     if let Some(job) = job {
-        seal(job, sum, authenticator, frame);
+        seal(job, mac, authenticator, frame);
     }
 }
 
-fn seal(job: &Job, sum: &[u8; DIGEST_LEN], authenticator: &[u8; DIGEST_LEN], frame: &mut Frame)
+fn seal(job: &Job, mac: &[u8; DIGEST_LEN], authenticator: &[u8; DIGEST_LEN], frame: &mut Frame)
     requires job { IsJob job.now }
-    requires sum { HasReplySum sum.now job.now }
+    requires mac { HasReplyHmac mac.now job.now }
     requires authenticator { HasReplyDigest authenticator.now job.now }
     ensures { frame.new ≡ job_octets job.now }
 {
     write(job.body, job.id, authenticator, frame).unwrap();
     if job.body.code() != code::ACCOUNTING_RESPONSE {
-        frame.overwrite(HEADER_SIZE + 2, sum);
+        frame.overwrite(HEADER_SIZE + 2, mac);
     }
 }
 
-/// Writes a request that says this body.
+/// Writes a request with this body.
 ///
-/// An Accounting-Request gets its Authenticator under the secret, and the one handed in isn't used. An Access-Request or a
-/// Status-Server has the one handed in, and its first Message-Authenticator of 16 octets, if it has one, becomes the sum.
-/// It is refused exactly where the packet would pass 4,096 octets, and then the frame is unchanged. Source: RFC 2866,
+/// An Accounting-Request gets its Authenticator under the secret, and the argument isn't used. An Access-Request or a
+/// Status-Server gets the argument, and its first Message-Authenticator of 16 octets, if it has one, is computed. Returns
+/// `TooLong` if and only if the packet would exceed 4,096 octets, and then the frame is unchanged. Source: RFC 2866,
 /// section 3; RFC 3579, section 3.2; RFC 5997, section 3.
 pub fn sign_request(
     body: &Body,
@@ -101,7 +94,8 @@ pub fn sign_request(
 ) -> Result<(), TooLong>
     requires code { IsRequestCode body.now.code }
     ensures fits { IsOk result ↔ FitsPacket body.now }
-    ensures signed { OnOk result (frame.new ≡ request_octets body.now id authenticator.now secret.now) }
+    ensures signed { OnOk result
+        (frame.new ≡ request_octets body.now id authenticator.now secret.now) }
     ensures unchanged { OnErr result (frame.new ≡ frame.old) }
 {
     if body.size() > LENGTH_MAX - HEADER_SIZE {
@@ -112,31 +106,31 @@ pub fn sign_request(
         return write(body, id, &authenticator, frame);
     }
     write(body, id, authenticator, frame)?;
-    if let Some(behind) = Noted::of(body.attributes()).behind_sum {
-        put_sum(frame, behind, secret);
+    if let Some(after) = Summary::of(body.attributes()).after_hmac {
+        put_hmac(frame, after, secret);
     }
     Ok(())
 }
 
-// Sums the packet in a frame under a secret, and writes the sum before the last so many octets.
-fn put_sum(frame: &mut Frame, behind: usize, secret: &Secret)
-    requires place { behind + 16 ≤ length frame.old }
-    ensures written { frame.new ≡ with_sum behind (hmac secret.now (with_sum behind sixteen_zeros frame.old)) frame.old }
-    ensures long { length (hmac secret.now (with_sum behind sixteen_zeros frame.old)) ≡ 16 }
+// Computes the HMAC of the packet in a frame, and writes it before the last so many octets.
+fn put_hmac(frame: &mut Frame, after: usize, secret: &Secret)
+    requires place { after + 16 ≤ length frame.old }
+    ensures written { frame.new ≡ with_hmac after (hmac secret.now (with_hmac after sixteen_zeros frame.old)) frame.old }
+    ensures long { length (hmac secret.now (with_hmac after sixteen_zeros frame.old)) ≡ 16 }
 {
     let octets = frame.octets();
-    let place = octets.len() - behind - DIGEST_LEN;
-    let sum = sum(secret.key(), summed_pieces(octets, behind));
-    frame.overwrite(place, &sum);
+    let place = octets.len() - after - DIGEST_LEN;
+    let mac = mac(secret.key(), hmac_pieces(octets, after));
+    frame.overwrite(place, &mac);
 }
 
-// One sum.
-fn sum(key: &Key, text: Pieces) -> [u8; DIGEST_LEN]
+// One HMAC.
+fn mac(key: &Key, text: Pieces) -> [u8; DIGEST_LEN]
     requires free { HasFreePiece text }
     requires short { length (message text) < 2 ^ 32 - 64 }
     ensures { result ≡ keyed_sum key.now (message text.entry) }
 {
-    let [sum, ..] = hmac8(&[
+    let [mac, ..] = hmac8(&[
         (key, text),
         (key, nothing()),
         (key, nothing()),
@@ -146,5 +140,5 @@ fn sum(key: &Key, text: Pieces) -> [u8; DIGEST_LEN]
         (key, nothing()),
         (key, nothing()),
     ]);
-    sum
+    mac
 }

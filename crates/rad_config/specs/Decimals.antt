@@ -1,15 +1,11 @@
 -- Decimal numbers and addresses as text spells them. A text is a list of octets, which are numbers below 256; an address has
 -- its most significant octet first.
-use Rattle.std.specs.Prelude.{ℕ, ◌+◌, ◌-◌, ◌*◌, ◌==◌, ◌&&◌, ◌||◌, nat_lt, nat_le, Bool, false, if◌then◌else◌, List, [], ◌∷◌, length, Option, Some, None, option_map, option_and_then}
+use Rattle.std.specs.Prelude.{ℕ, ◌+◌, ◌-◌, ◌*◌, ◌==◌, ◌&&◌, ◌||◌, nat_lt, nat_le, Bool, false, if◌then◌else◌, List, [], ◌∷◌, length, Option, Some, None, option_and_then}
+use Rattle.rad_config.specs.Splits.{split_once}
 
 infixl 10 ◌>>=◌
 abbrev pub ◌>>=◌ : {A B : Type 0} → Option A → (A → Option B) → Option B
 o >>= f = option_and_then f o
-
--- the text before the first separator, and the text after it
-abbrev pub parted : ℕ → List ℕ → Option (List ℕ × List ℕ)
-parted separator [] = None
-parted separator (octet ∷ text) = if octet == separator then Some ([], text) else option_map (λ parts. (octet ∷ parts.0, parts.1)) (parted separator text)
 
 -- the value of a decimal digit
 abbrev pub digit_of : ℕ → Option ℕ
@@ -39,9 +35,9 @@ address_part_of text = if has_leading_zero text then None else number_of 3 255 t
 -- four numbers joined by points
 unfoldable pub address_of : List ℕ → Option ℕ
 address_of text = do
-  first ← parted 46 text
-  second ← parted 46 first.1
-  third ← parted 46 second.1
+  first ← split_once 46 text
+  second ← split_once 46 first.1
+  third ← split_once 46 second.1
   a ← address_part_of first.0
   b ← address_part_of second.0
   c ← address_part_of third.0

@@ -5,4 +5,5 @@ pub mod Keys
 pub mod Ranges
 pub mod ReadEntries
 pub mod Spans
+pub mod Splits
 pub mod Views

@@ -61,9 +61,9 @@ impl Config {
     /// The configuration that a text says, or its first fault.
     ///
     /// The text is TOML; `docs/FORMATS.md` has the table of its keys. Checks are made in this order: `Syntax`; the keys at the
-    /// top, then `HoldBelowWindow`; the clients; the pools, then `PoolsOverlap`; the users. Of a list it is checked first that it
-    /// is an array (`BadValue`), then how long it is (`TooMany`), then each entry in order, key by key in the table's order.
-    /// `NoMemory` is told where an allocation fails, at whatever check that is.
+    /// top, then `HoldBelowWindow`; the clients; the pools, then `PoolsOverlap`; the users. A list must be an array (`BadValue`),
+    /// and not too long (`TooMany`); then each entry is checked in order, key by key in the table's order. If an allocation
+    /// fails, `NoMemory` is returned before any later check.
     #[tactic(auto, unfolding(crate::specs::Configurations::configuration_of, crate::specs::Configurations::separate_pools))]
     pub fn read(alloc: Global, text: &str) -> Result<Config, ConfigFault>
         ensures { Gives (λ config. config) result (configuration_of text.now) }
@@ -83,8 +83,8 @@ impl Config {
         })
     }
 
-    /// For how many seconds after it was answered a request's duplicates get the same reply: 1 to 3,600. So long after it was
-    /// made, a session that has ended keeps its address.
+    /// How long a repeated request gets the stored reply, in seconds: 1 to 3,600. An ended session keeps its address until this
+    /// long after it was made.
     pub fn window(&self) -> u32
         ensures value { result ≡ self.now.window }
         ensures configuration { IsConfiguration self.now }
@@ -92,8 +92,8 @@ impl Config {
         self.window
     }
 
-    /// For how many seconds an address is held for a session that hasn't begun, and a challenge can be answered: from `window`
-    /// to 86,400.
+    /// How long an address is held for a session that hasn't begun, and a challenge can be answered, in seconds: from `window` to
+    /// 86,400.
     pub fn hold(&self) -> u32
         ensures value { result ≡ self.now.hold }
         ensures configuration { IsConfiguration self.now }

@@ -11,10 +11,10 @@ pub enum ConfigFault {
     /// The text is no TOML document.
     #[error("config fault {number} {name}", number = self.label().0, name = self.label().1)]
     Syntax,
-    /// A key that has to be present is absent.
+    /// A required key is absent.
     #[error("config fault {number} {name} at {0}", number = self.label().0, name = self.label().1)]
     Missing(Spot),
-    /// A key holds what it may not hold.
+    /// The value of a key doesn't fit.
     #[error("config fault {number} {name} at {0}", number = self.label().0, name = self.label().1)]
     BadValue(Spot),
     /// `hold` is less than `window`.
@@ -49,7 +49,7 @@ impl ConfigFault {
     }
 }
 
-/// Where a fault stands: a part, an entry's index in it, and a key.
+/// Where a fault is: a part, an entry's index in it, and a key.
 ///
 /// The index counts from 1; it is 0 for `Part::Top` and for `Key::List`.
 #[derive(Clone, Copy, Debug, PartialEq, Eq)]

@@ -1,21 +1,8 @@
-//! Texts in parts, and the numbers and addresses that they spell.
-ghost use Rattle.std.specs.Prelude.{◌≡◌, ◌≤◌, ◌==◌, IfSome, length, position, option_map};
-ghost use Rattle.rad_config.specs.Decimals.{parted, digit_of, digits_from, number_of, address_part_of, address_of};
+//! The numbers and addresses that texts spell.
+ghost use Rattle.std.specs.Prelude.{◌≡◌, ◌≤◌, IfSome, length};
+ghost use Rattle.rad_config.specs.Decimals.{digit_of, digits_from, number_of, address_part_of, address_of};
 
-// Where the first separator stands.
-fn place(text: &[u8], separator: u8) -> Option<usize>
-    ensures { result ≡ position (λ octet. octet == separator) text.now }
-{
-    text.iter().position(|octet| *octet == separator)
-}
-
-/// The text before the first separator, and the text after it.
-pub fn parted(text: &[u8], separator: u8) -> Option<(&[u8], &[u8])>
-    ensures { option_map (λ parts. (parts.0.now, parts.1.now)) result ≡ parted separator text.now }
-{
-    let end = place(text, separator)?;
-    Some((&text[..end], &text[end + 1..]))
-}
+use crate::split::split_once;
 
 // The value of a decimal digit.
 fn digit(octet: u8) -> Option<u64>
@@ -68,9 +55,9 @@ fn address_part(text: &[u8]) -> Option<u8>
 pub fn address(text: &[u8]) -> Option<u32>
     ensures { result ≡ address_of text.now }
 {
-    let (first, rest) = parted(text, b'.')?;
-    let (second, rest) = parted(rest, b'.')?;
-    let (third, fourth) = parted(rest, b'.')?;
+    let (first, rest) = split_once(text, b'.')?;
+    let (second, rest) = split_once(rest, b'.')?;
+    let (third, fourth) = split_once(rest, b'.')?;
     let a = address_part(first)?;
     let b = address_part(second)?;
     let c = address_part(third)?;

@@ -1,4 +1,4 @@
-//! The tables of a text, and what stands at their keys.
+//! The tables of a text, and the values at their keys.
 
 use crate::config_fault::{ConfigFault, Key, Part, Spot};
 use crate::keys::{AddressRow, DefaultRow, FlagRow, NumberRow, TextRow};
@@ -19,7 +19,7 @@ impl<'a> Entry<'a> {
     ghost use Rattle.rad_config.specs.Ranges.{HasLength};
     ghost use Rattle.rad_config.specs.Views.{address_row, data_of, entry_data, flag_row, number_row, required_text_row, default_row, text_row, text_row_unless};
 
-    /// Where a fault at a key stands.
+    /// Where a fault at a key is.
     pub fn spot(&self, key: Key) -> Spot
         ensures { result ≡ spot (entry_data self.now) key }
     {
@@ -30,7 +30,7 @@ impl<'a> Entry<'a> {
         }
     }
 
-    /// What stands at a key.
+    /// The value at a key.
     pub fn get(&self, key: Key) -> Option<&'a Value>
         ensures { data_of result ≡ at_key (entry_data self.now) key }
     {
@@ -38,7 +38,7 @@ impl<'a> Entry<'a> {
         table.get(key.name())
     }
 
-    /// Whether anything stands at a key.
+    /// Whether there is a value at a key.
     pub fn has(&self, key: Key) -> bool
         ensures { result ≡ is_some (at_key (entry_data self.now) key) }
     {
@@ -87,7 +87,7 @@ impl<'a> Entry<'a> {
         }
     }
 
-    /// The address at a key that has to be present.
+    /// The address at a required key.
     #[tactic(auto, unfolding(crate::specs::Configurations::value))]
     pub fn address(&self, row: &AddressRow) -> Result<u32, ConfigFault>
         ensures read { Gives (λ address. address) result (value (entry_data self.now) (address_row row.now)) }
@@ -102,7 +102,7 @@ impl<'a> Entry<'a> {
         }
     }
 
-    /// The octets of the text at a key that has to be present.
+    /// The octets of the text at a required key.
     #[tactic(auto, unfolding(crate::specs::Configurations::value))]
     pub fn required_text(&self, row: &TextRow) -> Result<&'a [u8], ConfigFault>
         ensures read { Gives (λ text. text.now) result (value (entry_data self.now) (required_text_row row.now)) }
@@ -133,7 +133,7 @@ impl<'a> Entry<'a> {
         }
     }
 
-    /// The octets of the text at a key that may be absent unless it is needed.
+    /// The octets of the text at a key that is required if it is needed.
     #[tactic(auto, unfolding(crate::specs::Configurations::value))]
     pub fn text_unless(&self, needed: bool, row: &TextRow) -> Result<Option<&'a [u8]>, ConfigFault>
         ensures read { Gives (λ found. option_copied found) result (value (entry_data self.now) (text_row_unless needed row.now)) }
@@ -147,14 +147,14 @@ impl<'a> Entry<'a> {
         }
     }
 
-    // What is told of a key whose value doesn't fit.
+    // The fault of a key whose value doesn't fit.
     fn bad(&self, key: Key) -> ConfigFault
         ensures { result ≡ ConfigFault.BadValue (spot (entry_data self.now) key) }
     {
         ConfigFault::BadValue(self.spot(key))
     }
 
-    // What is told of a key that has to be present.
+    // The fault of a required key that is absent.
     fn missing(&self, key: Key) -> ConfigFault
         ensures { result ≡ ConfigFault.Missing (spot (entry_data self.now) key) }
     {

@@ -1,4 +1,4 @@
-//! The table of keys: what may stand at each, and the defaults. A user's pool is any pool's name, so it has no row here.
+//! The table of keys: which values fit each, and the defaults. A user's pool is any pool's name, so it has no row here.
 ghost use Rattle.std.specs.Prelude.{◌≡◌, ◌≤◌, ◌+◌, min, IfSome};
 ghost use Rattle.std.specs.Option.{option_copied};
 ghost use Rattle.toml.specs.View.{view};
@@ -20,14 +20,14 @@ pub struct NumberRow {
     pub most: u32,
 }
 
-/// A key that holds a number, and the number that an absent key stands for.
+/// A key that holds a number, and its default.
 #[derive(Clone, Copy)]
 pub struct DefaultRow {
     pub number: NumberRow,
     pub default: u32,
 }
 
-/// A key that holds a flag, and the flag that an absent key stands for.
+/// A key that holds a flag, and its default.
 #[derive(Clone, Copy)]
 pub struct FlagRow {
     pub key: Key,
@@ -132,7 +132,7 @@ pub const USER_NAME: TextRow = TextRow {
     zeros: true,
 };
 
-/// A User-Password is filled up with zeros, from which one at its end couldn't be told (RFC 2865, section 5.2).
+/// A User-Password is padded with zeros, from which a zero at its end couldn't be distinguished (RFC 2865, section 5.2).
 pub const PASSWORD: TextRow = TextRow {
     key: Key::Password,
     least: 1,

@@ -1,8 +1,8 @@
 //! The configuration of a server: what its text says, or the first fault of that text.
 //!
-//! `Config::read` reads a TOML text by a table of keys, each with a range and, where it has one, a default; a key that isn't in
-//! the table is ignored. Only reading, and copying a `Text`, takes memory. Users are found by name, and clients by address, through indexes, and no
-//! contract speaks of these.
+//! `Config::read` reads a TOML text by a table of keys, each with its range and its default, if it has one; a key that isn't in
+//! the table is ignored. Only reading, and copying a `Text`, takes memory. Users are found by name, and clients by address,
+//! through indexes; no contract speaks of these.
 //!
 //! Other crates rest on this: what was read is what `specs/Configurations.antt` says of the text, and it is in the ranges of
 //! `specs/Ranges.antt`.
@@ -20,6 +20,7 @@ mod read_pool;
 mod read_user;
 mod same;
 mod spans;
+pub mod split;
 mod text;
 mod user;
 

@@ -1,6 +1,6 @@
 //! Reading clients.
 ghost use Rattle.std.specs.Prelude.{◌≡◌, None, IfOk};
-ghost use Rattle.rad_auth.specs.Clients.{IsSecret, client_at};
+ghost use Rattle.rad_auth.specs.Clients.{IsSecret, client_place};
 ghost use Rattle.rad_config.specs.Configurations.{Gives, client_in};
 ghost use Rattle.rad_config.specs.ReadEntries.{client_of_entry};
 ghost use Rattle.rad_config.specs.Views.{entry_data};
@@ -22,7 +22,7 @@ pub struct ClientEntry<'a> {
 #[tactic(auto, unfolding(crate::specs::Configurations::client_in))]
 pub fn read_client<'a>(earlier: &Clients, entry: &Entry<'a>) -> Result<ClientEntry<'a>, ConfigFault>
     ensures read { Gives client_of_entry result (client_in earlier.now (entry_data entry.now)) }
-    ensures new { IfOk result (λ client. client_at earlier.now client.address ≡ None) }
+    ensures new { IfOk result (λ client. client_place earlier.now client.address ≡ None) }
     ensures secret { IfOk result (λ client. IsSecret client.secret.now) }
 {
     let address = entry.address(&CLIENT_ADDRESS)?;

@@ -88,7 +88,7 @@ impl Users {
         Some(place as u32)
     }
 
-    /// Adds a user, whose name is new, behind the others.
+    /// Adds a user, whose name is new, after the others.
     pub fn add(&mut self, user: User) -> Result<(), AllocError>
         requires room { length self.old < users_max }
         requires new { user_place self.old user.name ≡ None }

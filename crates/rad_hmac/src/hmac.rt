@@ -1,4 +1,4 @@
-//! Sums of messages under keys, eight at a time.
+//! HMACs of messages under keys, eight at a time.
 ghost use Rattle.std.specs.Prelude.{◌≡◌, ◌-◌, ◌^◌, ◌<◌, ◌++◌, length, map, replicate, All};
 ghost use Rattle.std.specs.Simd.Lanes.{zip2};
 ghost use Rattle.md5.specs.Md5.{md5};
@@ -45,7 +45,7 @@ fn pads8(messages: &[(&Key, Pieces); LANES], pad: u8) -> [[u8; BLOCK_LEN]; LANES
     ]
 }
 
-// The digest of each message behind its pad.
+// The digest of each pad followed by its message.
 #[inline(always)]
 fn inner8(
     pads: &[[u8; BLOCK_LEN]; LANES],
@@ -69,7 +69,7 @@ fn inner8(
     ])
 }
 
-// The digest of each inner digest behind its pad.
+// The digest of each pad followed by its inner digest.
 #[inline(always)]
 fn outer8(
     pads: &[[u8; BLOCK_LEN]; LANES],
@@ -91,7 +91,7 @@ fn outer8(
     ])
 }
 
-// An inner digest behind its pad.
+// A pad followed by its inner digest.
 #[inline(always)]
 fn behind_pad<'a>(pad: &'a [u8; BLOCK_LEN], digest: &'a [u8; DIGEST_LEN]) -> Pieces<'a>
     ensures { message result ≡ pad.now ++ digest.now }

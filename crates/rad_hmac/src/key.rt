@@ -7,7 +7,7 @@ use rad_md5::BLOCK_LEN;
 use std::marker::Model;
 use std::simd::u8x64;
 
-/// A key as HMAC takes it, with zeros behind it to 64 octets.
+/// A key as HMAC takes it, padded with zeros to 64 octets.
 #[derive(Drop)]
 pub struct Key {
     octets: [u8; BLOCK_LEN],
@@ -39,7 +39,7 @@ impl Key {
         }
     }
 
-    // The key, and zeros behind it.
+    // The key, padded with zeros.
     fn padded(key: &[u8]) -> Key
         requires { length key.now ≤ 64 }
         ensures { result ≡ key.now ++ replicate (64 - length key.now) 0 }

@@ -1,10 +1,10 @@
-//! HMAC-MD5, eight sums at a time (RFC 2104, section 2).
+//! HMAC-MD5, eight messages at a time (RFC 2104, section 2).
 //!
-//! A `Key` is made once of a secret, and kept; `hmac8` sums eight messages in pieces, each under its key, by two passes of
-//! `rad_md5::digest8`. It takes no memory and never joins a message.
+//! A `Key` is made once of a secret, and kept; `hmac8` computes the HMACs of eight messages in pieces, each under its key,
+//! in two passes of `rad_md5::digest8`. It takes no memory and never joins a message.
 //!
-//! Others rest on this: each lane of `hmac8` is the keyed sum of `specs/Hmac.antt`, over the meaning that the crate `md5`
-//! gives to a digest, and under `Key::new` it is the HMAC of the key that was given.
+//! Others rest on this: each lane of `hmac8` is the `keyed_sum` of `specs/Hmac.antt`, over the meaning that the crate `md5`
+//! gives to a digest, and under a key of `Key::new` it is the HMAC under the key that was given.
 #![tactic(auto)]
 
 mod hmac;

@@ -85,7 +85,7 @@ fn write(block: &mut [u8; BLOCK_LEN], at: usize, part: &[u8])
     requires { at + length part.now ≤ 64 }
     ensures { take (at + length part.now) block.new ≡ take at block.old ++ part.now }
 {
-    // Long parts are told first; a `match` would be tested from the short end.
+    // Long parts are tested first; a `match` would be tested from the short end.
     if part.len() >= 32 {
         write_ends::<32>(block, at, part);
     } else if part.len() >= 16 {
@@ -101,9 +101,9 @@ fn write(block: &mut [u8; BLOCK_LEN], at: usize, part: &[u8])
     }
 }
 
-// Puts what a slice holds behind its first `skip` octets into a block from `at` on, as far as there is room.
+// Puts what a slice holds after its first `skip` octets into a block from `at` on, as far as there is room.
 //
-// Answers where to go on, and how many octets of the next slices are still to be skipped.
+// Returns where to go on, and how many octets of the next slices are still to be skipped.
 #[inline(always)]
 fn put(block: &mut [u8; BLOCK_LEN], at: usize, skip: usize, slice: &[u8]) -> (usize, usize)
     requires { at ≤ 64 }
@@ -130,7 +130,7 @@ fn pad(block: &mut [u8; BLOCK_LEN], at: usize, n: usize, len: usize)
     requires short { len < 2 ^ 32 }
     ensures { block.new ≡ take at block.old ++ take (64 - at) (drop (n * 64 - len) (padding len)) }
 {
-    // The bit 1 stands in this block, or in the one before.
+    // The bit 1 is in this block, or in the one before.
     let start = (n * BLOCK_LEN).saturating_sub(len).min(1);
     write(block, at, &PADDING[start..start + BLOCK_LEN - at]);
     if at < LENGTH_AT {
@@ -162,7 +162,7 @@ pub(crate) fn block_count(pieces: &Pieces) -> usize
     (pieces.len() + 8) / BLOCK_LEN + 1
 }
 
-// Writes block n of a message and answers a mask of ones, or of zeros where there is no block n.
+// Writes block n of a message and returns a mask of ones, or of zeros if there is no block n.
 #[inline(always)]
 fn next_block(pieces: &Pieces, n: usize, block: &mut [u8; BLOCK_LEN]) -> u32
     ensures live { n < block_count (message pieces.now) → (result ≡ 2 ^ 32 - 1) × (block.new ≡ block_at (message pieces.now) n) }
@@ -176,7 +176,7 @@ fn next_block(pieces: &Pieces, n: usize, block: &mut [u8; BLOCK_LEN]) -> u32
     }
 }
 
-/// Writes block n of each message that has one, and answers which lanes are live.
+/// Writes block n of each message that has one, and returns which lanes are live.
 ///
 /// Lane j is that of the message at place j of `places`.
 pub(crate) fn next_blocks(

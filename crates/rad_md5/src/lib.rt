@@ -3,7 +3,7 @@
 //! A message is five slices, which are never joined: each lane lays out one block of its own message at a time, and the
 //! 64 steps run on eight lanes of `std::simd`. A lane whose message has ended is masked. Nothing takes memory.
 //!
-//! Others rest on this: `digest8` and `digest_each` answer the digest of each message, by the definition of the crate
+//! Others rest on this: `digest8` and `digest_each` compute the digest of each message, by the definition of the crate
 //! `md5`, whatever its length and pieces.
 #![tactic(auto)]
 

@@ -5,7 +5,7 @@ ghost use Rattle.md5.specs.Md5.{step_shifts};
 /// How many octets a block has.
 pub const BLOCK_LEN: usize = 64;
 
-/// Where the length of the message stands in its last block: behind all but 8 octets.
+/// Where the length of the message is in its last block: in the last 8 octets.
 pub(crate) const LENGTH_AT: usize = BLOCK_LEN - 8;
 
 /// The padding's first octets: a bit 1, then zeros, for a block and one octet more.

@@ -39,7 +39,7 @@ pub const MESSAGE_AUTHENTICATOR: u8 = 80;
 /// The most octets that a Value has.
 pub const VALUE_MAX: usize = 253;
 
-/// One attribute, borrowed from the octets that it stands in.
+/// One attribute, borrowed from the octets that hold it.
 #[derive(Clone, Copy, Debug, PartialEq, Eq)]
 pub struct Attribute<'a> {
     pub kind: u8,
@@ -100,7 +100,8 @@ impl<'a> Iterator for Attributes<'a> {
 // The first attribute, and the octets of the others.
 fn split_first(octets: &[u8]) -> Option<(Attribute<'_>, &[u8])>
     requires { AreAttributes octets.now (attributes_in octets.now) }
-    ensures { MatchOption result (attributes_in octets.now ≡ []) (λ parts. IsFirst octets.now (attribute_of parts.0) parts.1.now) }
+    ensures { MatchOption result (attributes_in octets.now ≡ [])
+        (λ parts. IsFirst octets.now (attribute_of parts.0) parts.1.now) }
 {
     let [kind, len, ..] = octets else {
         return None;

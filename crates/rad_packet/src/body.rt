@@ -8,7 +8,7 @@ use crate::attribute::Attributes;
 use std::alloc::{AllocError, Global};
 use std::marker::Model;
 
-/// A Code and attributes. Contracts see the attributes as a list; they are kept as they are spelled.
+/// A Code and attributes. Contracts see the attributes as a list; they are kept as octets.
 #[derive(Drop)]
 pub struct Body {
     code: u8,
@@ -40,7 +40,7 @@ impl Body {
 
     /// Appends an attribute.
     ///
-    /// The Value is at most `VALUE_MAX` octets. Without memory the body is unchanged. Source: RFC 2865, section 5.
+    /// The Value has at most `VALUE_MAX` octets. If memory is refused, the body is unchanged. Source: RFC 2865, section 5.
     pub fn push(&mut self, kind: u8, value: &[u8]) -> Result<(), AllocError>
         requires fits { length value.now ≤ value_max }
         ensures appended { OnOk result (self.new ≡ with_attribute kind value.now self.old) }
@@ -82,7 +82,7 @@ impl Body {
         Attributes::of(&self.octets)
     }
 
-    /// The attributes as they are spelled.
+    /// The octets of the attributes.
     pub fn attributes_octets(&self) -> &[u8]
         ensures value { result.now ≡ attributes_octets self.now.attributes }
         ensures each { AllByRecursion IsAttribute self.now.attributes }
@@ -98,10 +98,11 @@ impl Body {
     }
 }
 
-// Type, Length and Value behind the octets, which stay as they were where memory is refused.
+// Appends Type, Length and Value to the octets, which are unchanged if memory is refused.
 fn append_attribute(octets: &mut Vec<u8>, kind: u8, value: &[u8]) -> Result<(), AllocError>
     requires { length value.now ≤ value_max }
-    ensures appended { OnOk result (octets.new.items ≡ octets.old.items ++ attribute_octets (record { kind = kind; value = value.now })) }
+    ensures appended { OnOk result (octets.new.items
+        ≡ octets.old.items ++ attribute_octets (record { kind = kind; value = value.now })) }
     ensures unchanged { OnErr result (octets.new.items ≡ octets.old.items) }
 {
     let len = value.len() + 2;

@@ -1,8 +1,8 @@
 //! Frames: room for the octets of one packet, and the one place that spells a packet.
-ghost use Rattle.std.specs.Prelude.{◌≡◌, ℕ, List, [], ◌∷◌, ◌++◌, ◌+◌, ◌≤◌, ◌↔◌, length, take, drop, Ok, IsOk, IfOk, OnOk, OnErr};
-ghost use Rattle.std.specs.Int.{w16, to_be_bytes};
-ghost use Rattle.rad_packet.specs.Packets.{header_size, length_max, packet_length, packet_octets, packet_of};
-ghost use Rattle.rad_packet.specs.Bodies.{packet_of_body};
+ghost use Rattle.std.specs.Prelude.{◌≡◌, [], ◌++◌, ◌+◌, ◌≤◌, ◌↔◌, length, take, IsOk, IfOk, OnOk, OnErr};
+ghost use Rattle.rad_packet.specs.Packets.{length_max};
+ghost use Rattle.rad_packet.specs.Bodies.{AreReadAs, FitsPacket, body_octets};
+ghost use Rattle.rad_packet.specs.Frames.{overwritten};
 
 use crate::body::Body;
 use crate::packet::{HEADER_SIZE, LENGTH_MAX};
@@ -50,18 +50,18 @@ impl Frame {
         &self.room[..self.len]
     }
 
-    /// Writes octets over those that stand from a place on.
+    /// Overwrites the octets from a place on.
     pub fn overwrite(&mut self, place: usize, octets: &[u8])
         requires { place + length octets.now ≤ length self.old }
-        ensures { self.new ≡ take place self.old ++ octets.now ++ drop (place + length octets.now) self.old }
+        ensures { self.new ≡ overwritten place octets.now self.old }
     {
         put(&mut self.room, place, octets);
     }
 }
 
-/// Writes the packet that says this body into the frame.
+/// Writes the packet with this body into the frame.
 ///
-/// It is refused exactly where the packet would pass 4,096 octets, and then the frame is unchanged.
+/// Returns `TooLong` if and only if the packet would exceed 4,096 octets, and then the frame is unchanged.
 /// Source: RFC 2865, section 3.
 pub fn write(
     body: &Body,
@@ -69,9 +69,9 @@ pub fn write(
     authenticator: &[u8; 16],
     frame: &mut Frame,
 ) -> Result<(), TooLong>
-    ensures fits { IsOk result ↔ (packet_length (packet_of_body body.now identifier authenticator.now) ≤ length_max) }
-    ensures written { OnOk result (frame.new ≡ packet_octets (packet_of_body body.now identifier authenticator.now)) }
-    ensures read_again { OnOk result ((rest : List ℕ) → packet_of (frame.new ++ rest) ≡ Ok (packet_of_body body.now identifier authenticator.now)) }
+    ensures fits { IsOk result ↔ FitsPacket body.now }
+    ensures written { OnOk result (frame.new ≡ body_octets body.now identifier authenticator.now) }
+    ensures read_again { OnOk result (AreReadAs frame.new body.now identifier authenticator.now) }
     ensures unchanged { OnErr result (frame.new ≡ frame.old) }
 {
     if body.size() > LENGTH_MAX - HEADER_SIZE {
@@ -92,21 +92,22 @@ pub fn write(
 
 // The parts one after the other, from the first octet of the room on.
 fn spell(room: &mut [u8], header: &[u8], authenticator: &[u8], attributes: &[u8])
-    requires { length header.now + length authenticator.now + length attributes.now ≤ length room.old }
+    requires { length header.now + length authenticator.now + length attributes.now
+        ≤ length room.old }
     ensures { take (length header.now + length authenticator.now + length attributes.now) room.new
         ≡ header.now ++ authenticator.now ++ attributes.now }
 {
-    let behind_header = put(room, 0, header);
-    let behind_authenticator = put(room, behind_header, authenticator);
-    put(room, behind_authenticator, attributes);
+    let after_header = put(room, 0, header);
+    let after_authenticator = put(room, after_header, authenticator);
+    put(room, after_authenticator, attributes);
 }
 
-// Writes a part at a place, and answers the place behind it.
+// Writes a part at a place, and returns the place after it.
 fn put(room: &mut [u8], at: usize, part: &[u8]) -> usize
     requires { at + length part.now ≤ length room.old }
     ensures place { result ≡ at + length part.now }
     ensures front { take result room.new ≡ take at room.old ++ part.now }
-    ensures whole { room.new ≡ take at room.old ++ part.now ++ drop (at + length part.now) room.old }
+    ensures whole { room.new ≡ overwritten at part.now room.old }
 {
     let end = at + part.len();
     room[at..end].copy_from_slice(part);

@@ -1,11 +1,10 @@
 //! The octets of RADIUS packets (RFC 2865, sections 3 and 5).
 //!
 //! A `Packet` borrows a datagram and is exactly what the grammar of `specs/` says of its octets. A `Body` is a code and
-//! attributes, kept as they are spelled, and `write` puts the one spelling of a body, an Identifier and an Authenticator
-//! into a `Frame`. Attributes are read where they stand, and only `Body::push`, `Body::copy` and `Frame::new` take
-//! memory.
+//! attributes, kept as octets, and `write` puts the octets of a body, an Identifier and an Authenticator into a `Frame`.
+//! Attributes are read in place, and only `Body::push`, `Body::copy` and `Frame::new` take memory.
 //!
-//! Others rest on this: `Packet::read` answers the packet that a datagram holds or the first fault, and `write` gives
+//! Others rest on this: `Packet::read` returns the packet that a datagram holds, or the first fault, and `write` writes
 //! the packet's octets.
 #![tactic(auto)]
 

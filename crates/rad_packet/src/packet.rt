@@ -14,7 +14,7 @@ pub const HEADER_SIZE: usize = 20;
 /// The greatest Length of a packet.
 pub const LENGTH_MAX: usize = 4096;
 
-/// Why a datagram holds no packet. The first that applies is told.
+/// Why a datagram holds no packet. The first fault that applies is reported.
 #[derive(Clone, Copy, Debug, PartialEq, Eq, Error)]
 pub enum ReadFault {
     #[error("a datagram of fewer than 20 octets")]
@@ -57,15 +57,15 @@ impl<'a> Packet<'a> {
     ///
     /// Octets past the packet's Length are padding and are ignored. Source: RFC 2865, section 3.
     pub fn read(datagram: &'a [u8]) -> Result<Packet<'a>, ReadFault>
-        // What is read stands there, each octet of it.
+        // Every octet that is read is in the datagram.
         ensures read { IfOk result (IsPacket datagram.now) }
-        // What stands there is read.
+        // A packet that is in the datagram is read.
         ensures only { (p : Packet) → IsPacket datagram.now p → result ≡ Ok p }
         // Which fault it is.
         ensures refused { IfErr result (IsFault datagram.now) }
-        // The three before as one function, for those that compute with it.
+        // The three clauses before as one function, for callers that compute with it.
         ensures exact { result ≡ packet_of datagram.now }
-        // Without its padding it is the same packet.
+        // Without its padding the datagram holds the same packet.
         ensures unpadded { IfOk result (λ p. packet_of (packet_octets p) ≡ Ok p) }
     {
         held_by(datagram)
@@ -78,7 +78,7 @@ impl<'a> Packet<'a> {
         self.octets[0]
     }
 
-    /// The Identifier, by which a client tells its requests apart.
+    /// The Identifier, by which a client distinguishes its requests.
     pub fn identifier(&self) -> u8
         ensures { result ≡ self.now.identifier }
     {

@@ -4,7 +4,7 @@ use Rattle.std.specs.Prelude.{◌==◌, ◌&&◌, unwrap_or, MatchOption, option
 use Rattle.std.specs.Option.{option_or}
 use Rattle.std.proofs.lemmas.Bool.{eqb-true}
 use Rattle.std.proofs.lemmas.List.{append-nil}
-use Rattle.rad_config.specs.Decimals.{parted}
+use Rattle.rad_config.specs.Splits.{split_once}
 use lib.Pointwise.{pointwise}
 use Rattle.rad_replay.specs.Lines.{line_feed, carriage_return, onto_first, lines_of, without_return, is_divider, divided, text_of, IsFirstLine}
 
@@ -32,9 +32,9 @@ starts_step octet text false (Some parts) is h =
       shorter = omega (arith, h.shorter);
     }
 
-starts : (text : List ℕ) → Starts text (parted line_feed text)
+starts : (text : List ℕ) → Starts text (split_once line_feed text)
 starts [] = refl
-starts (octet ∷ text) = starts_step octet text (octet == line_feed) (parted line_feed text) refl (starts text)
+starts (octet ∷ text) = starts_step octet text (octet == line_feed) (split_once line_feed text) refl (starts text)
 
 -- a text with no line feed is its own first line
 only_line : (text : List ℕ) → (text ≢ []) → lines_of text ≡ whole text → IsFirstLine text text []
@@ -42,7 +42,7 @@ only_line [] some h = absurd (some refl)
 only_line (octet ∷ text) some h = record { lines = h; ends = inr refl; shorter = omega arith }
 
 -- the part before the first line feed, or else the whole text
-pub first_or_whole : {R : Type 0} (view : R → List ℕ × List ℕ) (found : Option R) (other : R) (text : List ℕ) → option_map view found ≡ parted line_feed text → (text ≢ []) → view other ≡ (text, [])
+pub first_or_whole : {R : Type 0} (view : R → List ℕ × List ℕ) (found : Option R) (other : R) (text : List ℕ) → option_map view found ≡ split_once line_feed text → (text ≢ []) → view other ≡ (text, [])
     → MatchOption (option_or found (Some other)) (text ≡ []) (λ r. IsFirstLine text (view r).0 (view r).1)
 first_or_whole view None other text e some is = rw is (only_line text some (subst (Starts text) (sym e) (starts text)))
 first_or_whole view (Some r) other text e some is = subst (Starts text) (sym e) (starts text)

@@ -74,7 +74,7 @@ ends_run text configuration lines old new (Ok done) input end = (configuration, 
 ends_run text configuration lines old new (Err run.Read) input end = absurd end
 ends_run text configuration lines old new (Err run.TooLong) input end = absurd end
 ends_run text configuration lines old new (Err run.NoDivider) input end = absurd end
-ends_run text configuration lines old new (Err (run.Config told)) input end = absurd end
+ends_run text configuration lines old new (Err (run.Config reported)) input end = absurd end
 ends_run text configuration lines old new (Err (run.BadLine number)) input end = (configuration, lines, input, end)
 ends_run text configuration lines old new (Err run.Write) input end = (configuration, lines, input, tt)
 ends_run text configuration lines old new (Err run.NoMemory) input end = end
@@ -84,9 +84,9 @@ pub for_input : (had : Option (List ℕ)) (text : List ℕ) (P : List ℕ → Ty
 for_input None text P same holds = tt
 for_input (Some all) text P same holds = subst P (sym same) holds
 
-pub ends_config : (text got before after : List ℕ) (told : ConfigFault) (wrote : Option (List ℕ)) → length text ≤ text_max → got ≡ text → Divides got before after
-    → (told ≡ fault.NoMemory) ⊎ (configuration_of_octets before ≡ Err told) → EndsRun text (Appends wrote wrote) (Err (run.Config told))
-ends_config text got before after told wrote short same d why = (
+pub ends_config : (text got before after : List ℕ) (reported : ConfigFault) (wrote : Option (List ℕ)) → length text ≤ text_max → got ≡ text → Divides got before after
+    → (reported ≡ fault.NoMemory) ⊎ (configuration_of_octets before ≡ Err reported) → EndsRun text (Appends wrote wrote) (Err (run.Config reported))
+ends_config text got before after reported wrote short same d why = (
   short,
   d.lines_before,
   lines_of after,

@@ -9,7 +9,7 @@ use Rattle.rad_packet.specs.Attributes.{Attribute, attribute_octets, attributes_
 use Rattle.rad_packet.specs.Packets.{Packet}
 use Rattle.rad_auth.specs.Admission.{proxy_states_max, proxy_states_size}
 use Rattle.rad_auth.specs.Sealing.{IsReply}
-use Rattle.rad_auth.specs.Sums.{sixteen_zeros}
+use Rattle.rad_auth.specs.Authenticators.{sixteen_zeros}
 use Rattle.rad_auth.specs.declared.arrival.Door.{Door}
 use Rattle.rad_auth.specs.declared.arrival.Door.TheVariants.{Auth, Acct}
 use Rattle.rad_replay.specs.Steps.{access_denied, accounting_response, reply_by_code, status_accept, with_proxy_states}

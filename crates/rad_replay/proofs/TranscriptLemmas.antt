@@ -7,7 +7,7 @@ use Rattle.rad_config.specs.Configurations.{Configuration}
 use Rattle.rad_replay.specs.declared.step.State.{State}
 use Rattle.rad_replay.specs.DatagramLines.{TimedDatagram, timed_datagram_of}
 use Rattle.rad_replay.specs.Steps.{opening}
-use Rattle.rad_replay.specs.Transcripts.{AnswersLines, datagrams_of, first_malformed, in_front, number_unless, is_among, line_of, replay, written}
+use Rattle.rad_replay.specs.Transcripts.{AnswersLines, datagrams_of, first_malformed, until_malformed, number_if_malformed, is_among, line_of, replay, written}
 
 -- ---- one more datagram
 
@@ -75,10 +75,10 @@ pub goes_on : (configuration : Configuration) (lines left : List (List ℕ)) (li
 goes_on configuration lines left line number old new text more timed so_far found is = by_memory is.0 is.1
   where
     all : datagrams_of lines ≡ (so_far.answered ++ timed ∷ []) ++ datagrams_of left
-    all = so_far.all ∙ ap (λ (o : Option TimedDatagram). so_far.answered ++ in_front o (datagrams_of left)) found ∙ sym (append_assoc so_far.answered (timed ∷ []) (datagrams_of left))
+    all = so_far.all ∙ ap (λ (o : Option TimedDatagram). so_far.answered ++ until_malformed o (datagrams_of left)) found ∙ sym (append_assoc so_far.answered (timed ∷ []) (datagrams_of left))
 
     first : first_malformed 1 lines ≡ first_malformed (number + 1 + 1) left
-    first = so_far.first ∙ ap (λ (o : Option TimedDatagram). number_unless (number + 1) o (first_malformed (number + 1 + 1) left)) found
+    first = so_far.first ∙ ap (λ (o : Option TimedDatagram). number_if_malformed (number + 1) o (first_malformed (number + 1 + 1) left)) found
 
     count : length (so_far.answered ++ timed ∷ []) ≡ number + 1
     count = length_push so_far.answered timed ∙ ap (λ (n : ℕ). n + 1) so_far.count
@@ -86,7 +86,7 @@ goes_on configuration lines left line number old new text more timed so_far foun
     place : 1 + length so_far.answered ≡ number + 1
     place = omega (arith, so_far.count)
 
-    -- a run that is told whether there was memory
+    -- a run, with or without memory for this datagram
     replayed : (without : List ℕ) (has_memory : Bool) → replay configuration without 1 opening so_far.answered ≡ (text, old) → not (is_among (number + 1) without) ≡ has_memory
         → line_of configuration has_memory (number + 1) old timed ≡ (more, new) → replay configuration without 1 opening (so_far.answered ++ timed ∷ []) ≡ (text ++ more, new)
     replayed without has_memory before memory e =
@@ -132,8 +132,8 @@ ends configuration lines left number state text before now so_far nothing wrote 
 pub ends_malformed : (configuration : Configuration) (lines left : List (List ℕ)) (line : List ℕ) (number : ℕ) (state : State) (text : List ℕ) (before now : Option (List ℕ)) → Progress configuration lines (line ∷ left) number state text
     → timed_datagram_of line ≡ None → Appends before now text → AnswersLines configuration lines (Appends before now) (Some (number + 1))
 ends_malformed configuration lines left line number state text before now so_far malformed wrote =
-    let all : datagrams_of lines ≡ so_far.answered = so_far.all ∙ ap (λ (o : Option TimedDatagram). so_far.answered ++ in_front o (datagrams_of left)) malformed ∙ append-nil so_far.answered in
-    let first : first_malformed 1 lines ≡ Some (number + 1) = so_far.first ∙ ap (λ (o : Option TimedDatagram). number_unless (number + 1) o (first_malformed (number + 1 + 1) left)) malformed in
+    let all : datagrams_of lines ≡ so_far.answered = so_far.all ∙ ap (λ (o : Option TimedDatagram). so_far.answered ++ until_malformed o (datagrams_of left)) malformed ∙ append-nil so_far.answered in
+    let first : first_malformed 1 lines ≡ Some (number + 1) = so_far.first ∙ ap (λ (o : Option TimedDatagram). number_if_malformed (number + 1) o (first_malformed (number + 1 + 1) left)) malformed in
     let text_is : written configuration so_far.without (datagrams_of lines) ≡ text = ap (written configuration so_far.without) all ∙ ap (λ (r : List ℕ × State). r.0) so_far.replayed in
     (so_far.without, first, subst (Appends before now) (sym text_is) wrote)
 

@@ -8,15 +8,20 @@ use Rattle.rad_packet.specs.Packets.{length_max}
 use Rattle.rad_auth.specs.declared.arrival.Door.{Door}
 use Rattle.rad_auth.specs.declared.arrival.Door.TheVariants.{Auth, Acct}
 use Rattle.rad_auth.specs.Datagrams.{Datagram}
-use Rattle.rad_config.specs.Decimals.{◌>>=◌, parted, number_of, address_of}
+use Rattle.rad_config.specs.Decimals.{◌>>=◌, number_of, address_of}
+use Rattle.rad_config.specs.Splits.{split_once}
 
 -- a datagram and when it came
 pub record TimedDatagram : Type 0 where
   pub moment : ℕ
   pub datagram : Datagram
 
+-- the greatest moment
+abbrev pub moment_max : ℕ
+moment_max = 2 ^ 62
+
 unfoldable pub moment_of : List ℕ → Option ℕ
-moment_of text = number_of 19 (2 ^ 62) text
+moment_of text = number_of 19 moment_max text
 
 unfoldable pub port_of : List ℕ → Option ℕ
 port_of text = number_of 5 65535 text
@@ -36,10 +41,10 @@ octets_of text =
 
 unfoldable pub timed_datagram_of : List ℕ → Option TimedDatagram
 timed_datagram_of line = do
-  moment ← parted 32 line
-  door ← parted 32 moment.1
-  source ← parted 32 door.1
-  address ← parted 58 source.0
+  moment ← split_once 32 line
+  door ← split_once 32 moment.1
+  source ← split_once 32 door.1
+  address ← split_once 58 source.0
   m ← moment_of moment.0
   d ← door_of door.0
   a ← address_of address.0

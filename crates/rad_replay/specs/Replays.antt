@@ -16,7 +16,7 @@ pub record Replay : Type 0 where
   pub state : State
   pub line : List ℕ
 
--- these octets stand first
+-- these octets are first
 abbrev pub IsFirstOf : List (List ℕ) → List ℕ → Type 0
 IsFirstOf frames octets = (others : List (List ℕ)) × (frames ≡ octets ∷ others)
 
@@ -42,7 +42,7 @@ EndsLines configuration lines Writes (Err run.NoMemory) = Writes []
 EndsLines configuration lines Writes (Err run.Read) = ⊥
 EndsLines configuration lines Writes (Err run.TooLong) = ⊥
 EndsLines configuration lines Writes (Err run.NoDivider) = ⊥
-EndsLines configuration lines Writes (Err (run.Config told)) = ⊥
+EndsLines configuration lines Writes (Err (run.Config reported)) = ⊥
 
 -- the faults that reading may end with
 abbrev pub IsReadFault : RunFault → Type 0
@@ -50,6 +50,6 @@ IsReadFault run.Read = Unit {0}
 IsReadFault run.TooLong = Unit {0}
 IsReadFault run.NoMemory = Unit {0}
 IsReadFault run.NoDivider = ⊥
-IsReadFault (run.Config told) = ⊥
+IsReadFault (run.Config reported) = ⊥
 IsReadFault (run.BadLine number) = ⊥
 IsReadFault run.Write = ⊥

@@ -1,13 +1,13 @@
--- The step of the server: from a configuration, a state and an admitted request, with its moment in milliseconds and its draw of 16 octets, to the
--- answer and the next state. For now nothing is remembered: a Status-Server is answered by a Code of its door (RFC 5997,
--- section 2), each Access-Request is rejected (RFC 2865, section 4.3), and each Accounting-Request is answered (RFC 2866,
--- section 4.2).
+-- The step of the server: from a configuration, a state and an admitted request, with its moment in milliseconds and its
+-- draw of 16 octets, to the answer and the next state. For now nothing is remembered: a Status-Server is answered by a
+-- Code of its port (RFC 5997, section 2), each Access-Request is rejected (RFC 2865, section 4.3), and each
+-- Accounting-Request is answered (RFC 2866, section 4.2).
 use Rattle.std.specs.Prelude.{ℕ, ◌==◌, if◌then◌else◌, List, [], ◌∷◌, ◌++◌, codes}
 use Rattle.rad_packet.specs.Attributes.{of_kind}
 use Rattle.rad_packet.specs.Bodies.{Body, with_attribute}
 use Rattle.rad_packet.specs.Packets.{Packet}
 use Rattle.rad_auth.specs.Sealing.{IsReply}
-use Rattle.rad_auth.specs.Sums.{sixteen_zeros}
+use Rattle.rad_auth.specs.Authenticators.{sixteen_zeros}
 use Rattle.rad_auth.specs.declared.arrival.Door.{Door}
 use Rattle.rad_auth.specs.declared.arrival.Door.TheVariants.{Auth, Acct}
 use Rattle.rad_auth.specs.declared.arrival.Request.{Request}
@@ -39,15 +39,15 @@ status_accept = access_reply 2
 abbrev pub access_denied : Body
 access_denied = with_attribute 18 (codes "access denied") (access_reply 3)
 
--- The reply to a Code that the door takes: the authentication door a Status-Server, 12, and an Access-Request, and the
--- accounting door a Status-Server and an Accounting-Request.
+-- The reply to a Code that the port accepts: the authentication port a Status-Server, 12, and an Access-Request, and the
+-- accounting port a Status-Server and an Accounting-Request.
 abbrev pub reply_by_code : Door → ℕ → Body
 reply_by_code Auth code = if code == 12 then status_accept else access_denied
 reply_by_code Acct code = accounting_response
 
 -- ---- the step
 
--- the body with a packet's Proxy-State attributes, Type 33, behind its own, in their order (RFC 2865, section 5.33)
+-- the body with a packet's Proxy-State attributes, Type 33, after its own, in their order (RFC 2865, section 5.33)
 abbrev pub with_proxy_states : Packet → Body → Body
 with_proxy_states p body = record body { attributes = body.attributes ++ of_kind 33 p.attributes }
 

@@ -1,12 +1,13 @@
 -- What a replay writes for the transcript that it reads: a line for each datagram, in order. A text is a list of octets,
 -- which are numbers below 256, and datagrams are numbered from 1.
-use Rattle.std.specs.Prelude.{◌≡◌, ◌⊎◌, ℕ, ◌+◌, ◌<◌, ◌≤◌, ◌==◌, Bool, true, false, not, List, [], ◌∷◌, ◌++◌, length, replicate, codes, decimal, Option, Some, None, Result, Ok, Err}
+use Rattle.std.specs.Prelude.{◌≡◌, ◌⊎◌, ℕ, ◌+◌, ◌<◌, ◌≤◌, ◌==◌, Bool, true, false, not, List, [], ◌∷◌, ◌++◌, length, replicate, codes, decimal, Option, Some, None, IfSome, Result, Ok, Err}
 use Rattle.std.specs.List.{list_any}
 use Rattle.std.specs.Int.{w64, to_be_bytes}
 use Rattle.std.specs.Io.KnownBytes.{Consumes}
 use Rattle.hex.specs.Hex.{encode_lower}
 use Rattle.rad_auth.specs.Admission.{admission}
-use Rattle.rad_auth.specs.Clients.{secret_at}
+use Rattle.rad_packet.specs.Bodies.{Body}
+use Rattle.rad_auth.specs.Clients.{Client, secret_at}
 use Rattle.rad_auth.specs.Discards.{discard_number, discard_name}
 use Rattle.rad_auth.specs.Sealing.{reply_octets}
 use Rattle.rad_auth.specs.declared.arrival.Request.{Request}
@@ -45,17 +46,21 @@ nomemory_line number = line number (codes "nomemory")
 abbrev pub draw_of : ℕ → List ℕ
 draw_of number = replicate 8 0 ++ to_be_bytes w64 number
 
--- the line of an answer, which is sealed under the client's secret
+-- the octets of a reply to a request, sealed under its client's secret
+abbrev pub sealed_reply : List Client → Request → Body → List ℕ
+sealed_reply clients request body =
+    reply_octets body request.packet.identifier request.packet.authenticator (secret_at clients request.client)
+
+-- the line of an answer
 abbrev pub answer_line : Configuration → ℕ → Request → Answer → List ℕ
-answer_line configuration number request (Send body) =
-    reply_line number (reply_octets body request.packet.identifier request.packet.authenticator (secret_at configuration.clients request.client))
+answer_line configuration number request (Send body) = reply_line number (sealed_reply configuration.clients request body)
 answer_line configuration number request Busy = busy_line number
 
 -- the line of a request that the step answers, and the state after it
 abbrev pub answered : Configuration → ℕ → Request → Answer × State → List ℕ × State
 answered configuration number request (answer, state) = (answer_line configuration number request answer, state)
 
--- the line of what was let in or discarded, and the state after it; where memory is wanting no step is made
+-- the line of a request that was admitted, or of a discard, and the state after it; if memory is refused no step is made
 abbrev pub line_of_verdict : Configuration → Bool → ℕ → State → ℕ → Result Request Discard → List ℕ × State
 line_of_verdict configuration has_memory number state moment (Err discard) = (drop_line number discard, state)
 line_of_verdict configuration true number state moment (Ok request) = answered configuration number request (step configuration state request moment (draw_of number))
@@ -70,8 +75,8 @@ line_of configuration has_memory number state timed = line_of_verdict configurat
 abbrev pub is_among : ℕ → List ℕ → Bool
 is_among number numbers = list_any (λ n. n == number) numbers
 
--- The lines for datagrams, of which the first has this number, and the state after them. Memory is wanting for the
--- datagrams with these numbers.
+-- The lines for datagrams, of which the first has this number, and the state after them. Memory is refused to
+-- the datagrams with these numbers.
 unfoldable pub replay : Configuration → List ℕ → ℕ → State → List TimedDatagram → List ℕ × State
 replay configuration without_memory number state [] = ([], state)
 replay configuration without_memory number state (timed ∷ others) =
@@ -85,28 +90,33 @@ written configuration without_memory datagrams = (replay configuration without_m
 
 -- ---- a whole run
 
--- a datagram and those after it; none of them where its line is malformed
-abbrev pub in_front : Option TimedDatagram → List TimedDatagram → List TimedDatagram
-in_front None others = []
-in_front (Some timed) others = timed ∷ others
+-- a datagram and those after it; none of them if its line is malformed
+abbrev pub until_malformed : Option TimedDatagram → List TimedDatagram → List TimedDatagram
+until_malformed None others = []
+until_malformed (Some timed) others = timed ∷ others
 
 -- the datagrams of the lines before the first malformed one
 abbrev pub datagrams_of : List (List ℕ) → List TimedDatagram
 datagrams_of [] = []
-datagrams_of (text ∷ lines) = in_front (timed_datagram_of text) (datagrams_of lines)
+datagrams_of (text ∷ lines) = until_malformed (timed_datagram_of text) (datagrams_of lines)
 
-abbrev pub number_unless : ℕ → Option TimedDatagram → Option ℕ → Option ℕ
-number_unless number None later = Some number
-number_unless number (Some timed) later = later
+-- a line's number if it is malformed, and otherwise the later one
+abbrev pub number_if_malformed : ℕ → Option TimedDatagram → Option ℕ → Option ℕ
+number_if_malformed number None later = Some number
+number_if_malformed number (Some timed) later = later
 
 -- the number of the first malformed line, where the first line has this number
 abbrev pub first_malformed : ℕ → List (List ℕ) → Option ℕ
 first_malformed number [] = None
-first_malformed number (text ∷ lines) = number_unless number (timed_datagram_of text) (first_malformed (number + 1) lines)
+first_malformed number (text ∷ lines) = number_if_malformed number (timed_datagram_of text) (first_malformed (number + 1) lines)
 
 -- the most octets of a transcript
 abbrev pub text_max : ℕ
 text_max = 16777216
+
+-- a reader whose octets are known has given all of them
+abbrev pub IsAllRead : Option (List ℕ) → Option (List ℕ) → Type 0
+IsAllRead old new = IfSome old (λ text. new ≡ Some [])
 
 -- a reader gave at most so many octets
 abbrev pub GivesAtMost : ℕ → Option (List ℕ) → Option (List ℕ) → Type 0
@@ -119,7 +129,7 @@ pub record IsInput (text : List ℕ) (configuration : Configuration) (lines : Li
       × (configuration_of_octets (text_of before) ≡ Ok configuration) × (lines ≡ datagram_lines after)
 
 -- The datagrams of the lines before the first malformed one, if there is one, have each got their line, and nothing else was
--- written. It is told which line is malformed.
+-- written. The number of the malformed line is reported.
 abbrev pub AnswersLines : Configuration → List (List ℕ) → (List ℕ → Type 0) → Option ℕ → Type 0
 AnswersLines configuration lines Writes malformed =
     (without_memory : List ℕ) × (first_malformed 1 lines ≡ malformed) × Writes (written configuration without_memory (datagrams_of lines))
@@ -128,16 +138,16 @@ AnswersLines configuration lines Writes malformed =
 abbrev pub OfInput : List ℕ → (Configuration → List (List ℕ) → Type 0) → Type 0
 OfInput text Holds = (configuration : Configuration) × (lines : List (List ℕ)) × IsInput text configuration lines × Holds configuration lines
 
--- What a run ends with, for an input and what was written. TooLong, NoDivider and Config are told in this order, and they,
--- Read and NoMemory before any line is answered. Of what went out before a Write fault nothing is said.
+-- What a run ends with, for an input and what was written. TooLong, NoDivider and Config are reported in this order, and they,
+-- Read and NoMemory before any line is answered. Nothing is said of what went out before a Write fault.
 abbrev pub EndsRun : List ℕ → (List ℕ → Type 0) → Result Unit RunFault → Type 0
 EndsRun text Writes (Ok done) = OfInput text (λ configuration lines. AnswersLines configuration lines Writes None)
 EndsRun text Writes (Err run.Read) = Writes []
 EndsRun text Writes (Err run.TooLong) = (text_max < length text) × Writes []
 EndsRun text Writes (Err run.NoDivider) = (length text ≤ text_max) × (divided (lines_of text) ≡ None) × Writes []
-EndsRun text Writes (Err (run.Config told)) =
+EndsRun text Writes (Err (run.Config reported)) =
     (length text ≤ text_max) × (before : List (List ℕ)) × (after : List (List ℕ)) × (divided (lines_of text) ≡ Some (before, after))
-    × ((told ≡ fault.NoMemory) ⊎ (configuration_of_octets (text_of before) ≡ Err told)) × Writes []
+    × ((reported ≡ fault.NoMemory) ⊎ (configuration_of_octets (text_of before) ≡ Err reported)) × Writes []
 EndsRun text Writes (Err (run.BadLine number)) = OfInput text (λ configuration lines. AnswersLines configuration lines Writes (Some number))
 EndsRun text Writes (Err run.Write) = OfInput text (λ configuration lines. Unit {0})
 EndsRun text Writes (Err run.NoMemory) = Writes []

@@ -1,14 +1,14 @@
 //! The answering of one datagram after the other, with the server's state carried along.
-ghost use Rattle.std.specs.Prelude.{◌≡◌, ◌≤◌, ◌<◌, ◌^◌, length, IfOk};
+ghost use Rattle.std.specs.Prelude.{◌≡◌, ◌≤◌, IfOk};
 ghost use Rattle.rad_auth.specs.Admission.{HoldsAdmitted, IsAdmitted, IsAnswerable, admission};
-ghost use Rattle.rad_auth.specs.Clients.{secret_at};
 ghost use Rattle.rad_auth.specs.Datagrams.{datagram_of};
-ghost use Rattle.rad_auth.specs.Sealing.{IsReply, reply_octets};
+ghost use Rattle.rad_auth.specs.Sealing.{IsReply};
+ghost use Rattle.rad_replay.specs.DatagramLines.{moment_max};
 ghost use Rattle.rad_replay.specs.Steps.{opening};
 ghost use Rattle.rad_replay.specs.Replays.{IsFirstOf, IsLineOf, IsLineOfRequest, timed_of};
-ghost use Rattle.rad_replay.specs.Transcripts.{draw_of};
+ghost use Rattle.rad_replay.specs.Transcripts.{draw_of, sealed_reply};
 
-use crate::line::Line;
+use crate::output_line::OutputLine;
 use crate::step::{Answer, State};
 use rad_auth::{Arrival, Clients, Discard, Job, Request, admitted_is_answerable, check8, seal8};
 use rad_config::Config;
@@ -22,7 +22,7 @@ use std::marker::Model;
 pub struct Replay<'a> {
     config: &'a Config,
     state: State,
-    line: Line,
+    line: OutputLine,
     frames: [Frame; 8],
 }
 
@@ -40,7 +40,7 @@ impl<'a> Replay<'a> {
         ensures configuration { IfOk result (λ replay. replay.configuration ≡ config.now) }
         ensures state { IfOk result (λ replay. replay.state ≡ opening) }
     {
-        let line = Line::new(alloc)?;
+        let line = OutputLine::new(alloc)?;
         let frames = [
             Frame::new(alloc)?,
             Frame::new(alloc)?,
@@ -68,7 +68,7 @@ impl<'a> Replay<'a> {
 
     /// Makes the line for a datagram, and goes on to the next state.
     pub fn answer(&mut self, alloc: Global, number: u64, moment: u64, arrival: Arrival)
-        requires { moment ≤ 2 ^ 62 }
+        requires { moment ≤ moment_max }
         ensures line { IsLineOf number (timed_of moment arrival.entry) self.old self.new }
         ensures configuration { self.new.configuration ≡ self.old.configuration }
     {
@@ -79,7 +79,7 @@ impl<'a> Replay<'a> {
     }
 
     fn answer_request(&mut self, alloc: Global, number: u64, moment: u64, request: &Request)
-        requires moment { moment ≤ 2 ^ 62 }
+        requires moment { moment ≤ moment_max }
         requires admitted { IsAdmitted self.old.configuration.clients request.now }
         ensures line { IsLineOfRequest number moment request.now self.old self.new }
         ensures configuration { self.new.configuration ≡ self.old.configuration }
@@ -106,7 +106,7 @@ impl<'a> Replay<'a> {
 fn seal<'x>(clients: &'x Clients, request: &Request, body: &'x Body, frames: &mut [Frame; 8])
     requires reply { IsReply body.now }
     requires admitted { IsAdmitted clients.now request.now }
-    ensures { IsFirstOf frames.new (reply_octets body.now request.now.packet.identifier request.now.packet.authenticator (secret_at clients.now request.now.client)) }
+    ensures { IsFirstOf frames.new (sealed_reply clients.now request.now body.now) }
 {
     admitted_is_answerable(clients, request);
     let job = Job {

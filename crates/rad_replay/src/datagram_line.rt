@@ -1,12 +1,16 @@
 //! A datagram line of a transcript: `MOMENT DOOR ADDRESS:PORT OCTETS`.
-ghost use Rattle.std.specs.Prelude.{◌≡◌, ◌≤◌, ◌^◌, length, take, None, MatchOption, IfSome};
+ghost use Rattle.std.specs.Prelude.{◌≡◌, ◌≤◌, length, take, IfSome, option_map};
 ghost use Rattle.rad_packet.specs.Packets.{length_max};
-ghost use Rattle.rad_replay.specs.DatagramLines.{moment_of, port_of, door_of, octets_of, timed_datagram_of};
+ghost use Rattle.rad_replay.specs.DatagramLines.{moment_of, moment_max, port_of, door_of, octets_of, timed_datagram_of};
 ghost use Rattle.rad_replay.specs.ReadLines.{timed_datagram};
 
 use rad_auth::Door;
-use rad_config::decimal::{address, number, parted};
+use rad_config::decimal::{address, number};
+use rad_config::split::split_once;
 use rad_packet::LENGTH_MAX;
+
+/// The greatest moment, in milliseconds: it and a span add up within 64 bits.
+pub const MOMENT_MAX: u64 = 1 << 62;
 
 /// A datagram and when it came.
 #[derive(Clone, Copy, Debug, PartialEq, Eq)]
@@ -25,12 +29,12 @@ pub struct DatagramLine {
 #[tactic(auto, unfolding(crate::specs::DatagramLines::moment_of))]
 fn moment(text: &[u8]) -> Option<u64>
     ensures value { result ≡ moment_of text.now }
-    ensures bound { IfSome result (λ moment. moment ≤ 2 ^ 62) }
+    ensures bound { IfSome result (λ moment. moment ≤ moment_max) }
 {
-    number(text, 19, 1 << 62)
+    number(text, 19, MOMENT_MAX)
 }
 
-// The port that up to five decimal digits spell.
+// The source port that up to five decimal digits spell.
 #[tactic(auto, unfolding(crate::specs::DatagramLines::port_of))]
 fn port(text: &[u8]) -> Option<u16>
     ensures { result ≡ port_of text.now }
@@ -38,7 +42,7 @@ fn port(text: &[u8]) -> Option<u16>
     Some(number(text, 5, 65535)? as u16)
 }
 
-// The door that a word names.
+// The port that a word names.
 #[tactic(auto, unfolding(crate::specs::DatagramLines::door_of))]
 fn door(text: &[u8]) -> Option<Door>
     ensures { result ≡ door_of text.now }
@@ -56,7 +60,7 @@ fn door(text: &[u8]) -> Option<Door>
 #[tactic(auto, unfolding(crate::specs::DatagramLines::octets_of))]
 fn decode_octets(text: &[u8], octets: &mut [u8]) -> Option<usize>
     requires { length octets.old ≡ length_max }
-    ensures octets { MatchOption result (octets_of text.now ≡ None) (λ len. octets_of text.now ≡ Some (take len octets.new)) }
+    ensures octets { octets_of text.now ≡ option_map (λ len. take len octets.new) result }
     ensures len { IfSome result (λ len. len ≤ length_max) }
 {
     if text == b"-".as_slice() {
@@ -74,14 +78,14 @@ fn decode_octets(text: &[u8], octets: &mut [u8]) -> Option<usize>
 #[tactic(auto, unfolding(crate::specs::DatagramLines::timed_datagram_of))]
 pub fn read_datagram_line(line: &[u8], octets: &mut [u8]) -> Option<DatagramLine>
     requires { length octets.old ≡ length_max }
-    ensures datagram { MatchOption result (timed_datagram_of line.now ≡ None) (λ found. timed_datagram_of line.now ≡ Some (timed_datagram found octets.new)) }
+    ensures datagram { timed_datagram_of line.now ≡ option_map (timed_datagram octets.new) result }
     ensures len { IfSome result (λ found. found.len ≤ length_max) }
-    ensures moment { IfSome result (λ found. found.moment ≤ 2 ^ 62) }
+    ensures moment { IfSome result (λ found. found.moment ≤ moment_max) }
 {
-    let (moment_text, rest) = parted(line, b' ')?;
-    let (door_text, rest) = parted(rest, b' ')?;
-    let (source_text, octets_text) = parted(rest, b' ')?;
-    let (address_text, port_text) = parted(source_text, b':')?;
+    let (moment_text, rest) = split_once(line, b' ')?;
+    let (door_text, rest) = split_once(rest, b' ')?;
+    let (source_text, octets_text) = split_once(rest, b' ')?;
+    let (address_text, port_text) = split_once(source_text, b':')?;
     let moment = moment(moment_text)?;
     let door = door(door_text)?;
     let source = address(address_text)?;

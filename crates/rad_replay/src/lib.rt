@@ -9,9 +9,9 @@
 mod answering;
 mod configuration;
 mod datagram_line;
-mod line;
 mod lines;
 mod make;
+mod output_line;
 mod replay;
 mod run_fault;
 mod step;

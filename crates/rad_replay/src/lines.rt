@@ -3,17 +3,18 @@ ghost use Rattle.std.specs.Prelude.{◌≡◌, ℕ, List, [], None, MatchOption}
 ghost use Rattle.std.specs.Iterator.{YieldsFirstRef, item_count};
 ghost use Rattle.rad_replay.specs.Lines.{IsFirstLine, Divides, lines_of, without_return, is_divider, divided, is_skipped, datagram_lines};
 
-use rad_config::decimal::parted;
+use rad_config::split::split_once;
 use std::marker::Model;
 
 // The first line of a text, without its line feed, and the text after it.
 fn next_line(text: &[u8]) -> Option<(&[u8], &[u8])>
-    ensures { MatchOption result (text.now ≡ []) (λ parts. IsFirstLine text.now parts.0.now parts.1.now) }
+    ensures { MatchOption result (text.now ≡ [])
+        (λ parts. IsFirstLine text.now parts.0.now parts.1.now) }
 {
     if text.is_empty() {
         return None;
     }
-    parted(text, b'\n').or(Some((text, &[])))
+    split_once(text, b'\n').or(Some((text, &[])))
 }
 
 // A line without the carriage return at its end.
@@ -39,7 +40,8 @@ fn is_skipped(line: &[u8]) -> bool
 
 /// The text before the first divider line, and the text after that line.
 pub fn divide(text: &[u8]) -> Option<(&[u8], &[u8])>
-    ensures { MatchOption result (divided (lines_of text.now) ≡ None) (λ parts. Divides text.now parts.0.now parts.1.now) }
+    ensures { MatchOption result (divided (lines_of text.now) ≡ None)
+        (λ parts. Divides text.now parts.0.now parts.1.now) }
 {
     let mut rest = text;
     while let Some((line, after)) = next_line(rest) {

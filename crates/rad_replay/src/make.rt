@@ -107,8 +107,8 @@ pub struct Make<'a> {
 impl<'a> Make<'a> {
     /// The signed request.
     ///
-    /// A secret that doesn't fit is told first, then `random`, `user`, `password` and `extra`. `random` and `password` have to
-    /// fit where the kind doesn't use them too.
+    /// A `secret` that doesn't fit is reported first, then `random`, `user`, `password` and `extra`. `random` and `password` must
+    /// fit even if the kind doesn't use them.
     pub fn request(&self, alloc: Global) -> Result<Frame, MakeFault> {
         let secret = secret_of(self.secret)?;
         let random = random_of(self.random)?;
@@ -235,7 +235,7 @@ fn push_extra(alloc: Global, text: &str, body: &mut Body) -> Result<(), MakeFaul
     Ok(())
 }
 
-// The octets behind a packet's header, as if they were its attributes.
+// A packet whose attributes are these octets.
 fn packet_of(alloc: Global, octets: &[u8]) -> Result<Vec<u8>, MakeFault> {
     if octets.len() > LENGTH_MAX - HEADER_SIZE {
         return Err(MakeFault::TooLong);

@@ -3,7 +3,7 @@ ghost use Rattle.std.specs.Prelude.{◌≡◌, ◌+◌, ◌≤◌, ◌<◌, ◌+
 ghost use Rattle.std.specs.Io.KnownBytes.{Appends, Consumes, IsAtEnd, Keeps};
 ghost use Rattle.rad_replay.specs.Lines.{datagram_lines, lines_of};
 ghost use Rattle.rad_replay.specs.Replays.{EndsLines, IsReadFault};
-ghost use Rattle.rad_replay.specs.Transcripts.{EndsRun, GivesAtMost, text_max};
+ghost use Rattle.rad_replay.specs.Transcripts.{EndsRun, GivesAtMost, IsAllRead, text_max};
 ghost use Rattle.rad_replay.specs.declared.run_fault.RunFault.TheVariants.{TooLong, NoMemory, Read as ReadFailed, Write as WriteFailed};
 
 use crate::answering::Replay;
@@ -25,15 +25,16 @@ const CHUNK: usize = 8192;
 
 /// Reads a transcript, and writes a line for each datagram.
 ///
-/// `TooLong`, `NoDivider` and `Config` are told in this order; at these, at `Read` and at `NoMemory` nothing was written.
-/// Before `BadLine` each datagram line before the malformed one got its line. Of what went out before `Write` nothing is said.
+/// `TooLong`, `NoDivider` and `Config` are reported in this order; with these, `Read` and `NoMemory` nothing was written.
+/// With `BadLine` the lines of the datagrams before the malformed line were written. With `Write` part of the output was.
 pub fn run_replay<R: Read, W: Write>(
     alloc: Global,
     reader: &mut R,
     writer: &mut W,
 ) -> Result<(), RunFault>
-    ensures ends { IfSome (R.remaining reader.old) (λ text. EndsRun text (Appends (W.contents writer.old) (W.contents writer.new)) result) }
-    ensures all_read { OnOk result (IfSome (R.remaining reader.old) (λ _. R.remaining reader.new ≡ Some [])) }
+    ensures ends { IfSome (R.remaining reader.old) (λ text.
+        EndsRun text (Appends (W.contents writer.old) (W.contents writer.new)) result) }
+    ensures all_read { OnOk result (IsAllRead (R.remaining reader.old) (R.remaining reader.new)) }
     ensures bounded { GivesAtMost (text_max + 1) (R.remaining reader.old) (R.remaining reader.new) }
 {
     let text = read_text(alloc, reader)?;
@@ -49,10 +50,12 @@ pub fn run_replay<R: Read, W: Write>(
 
 // Reads all that there is, one octet more than allowed at most.
 fn read_text<R: Read>(alloc: Global, reader: &mut R) -> Result<Vec<u8>, RunFault>
-    ensures read { IfOk result (λ text. Consumes (R.remaining reader.old) (R.remaining reader.new) text.items) }
+    ensures read { IfOk result (λ text.
+        Consumes (R.remaining reader.old) (R.remaining reader.new) text.items) }
     ensures end { OnOk result (IsAtEnd (R.remaining reader.new)) }
     ensures short { IfOk result (λ text. length text.items ≤ TEXT_MAX) }
-    ensures too_long { IfErr result (λ fault. fault ≡ TooLong → IfSome (R.remaining reader.old) (λ text. TEXT_MAX < length text)) }
+    ensures too_long { IfErr result (λ fault. fault ≡ TooLong →
+        IfSome (R.remaining reader.old) (λ text. TEXT_MAX < length text)) }
     ensures faults { IfErr result IsReadFault }
     ensures bounded { GivesAtMost (text_max + 1) (R.remaining reader.old) (R.remaining reader.new) }
 {
@@ -69,11 +72,12 @@ fn read_text<R: Read>(alloc: Global, reader: &mut R) -> Result<Vec<u8>, RunFault
     Err(RunFault::TooLong)
 }
 
-// One read, whose first error is told.
+// One read, whose first error is reported.
 fn read_some<R: Read>(reader: &mut R, room: &mut [u8]) -> Result<usize, RunFault>
     requires { 0 < length room.old }
     ensures bound { IfOk result (λ count. count ≤ length room.new) }
-    ensures read { IfOk result (λ count. Consumes (R.remaining reader.old) (R.remaining reader.new) (take count room.new)) }
+    ensures read { IfOk result (λ count.
+        Consumes (R.remaining reader.old) (R.remaining reader.new) (take count room.new)) }
     ensures end { IfOk result (λ count. count ≡ 0 → IsAtEnd (R.remaining reader.new)) }
     ensures fault { IfErr result (λ fault. fault ≡ ReadFailed) }
     ensures kept { OnErr result (Keeps (R.remaining reader.old) (R.remaining reader.new)) }
@@ -130,7 +134,8 @@ fn answer_lines<W: Write>(
 }
 
 fn write_line<W: Write>(writer: &mut W, line: &[u8]) -> Result<(), RunFault>
-    ensures written { OnOk result (Appends (W.contents writer.old) (W.contents writer.new) line.now) }
+    ensures written { OnOk result
+        (Appends (W.contents writer.old) (W.contents writer.new) line.now) }
     ensures fault { IfErr result (λ fault. fault ≡ WriteFailed) }
 {
     match writer.write_all(line) {

@@ -3,8 +3,8 @@
 use rad_config::ConfigFault;
 use thiserror::Error;
 
-/// Why a command ended early. A replay tells the first four in this order, before any datagram is answered; `make` has `Write`
-/// and `NoMemory` alone.
+/// Why a command ended early. A replay reports the first four in this order, before any datagram is answered; `make` reports
+/// only `Write` and `NoMemory`.
 #[derive(Clone, Copy, Debug, PartialEq, Eq, Error)]
 pub enum RunFault {
     /// The reader failed. Nothing was written.

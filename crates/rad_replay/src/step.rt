@@ -1,9 +1,10 @@
 //! The step of the server. For now it remembers nothing: it answers each Status-Server and each Accounting-Request, and
 //! rejects each Access-Request.
-ghost use Rattle.std.specs.Prelude.{◌≡◌, ◌≤◌, ◌^◌, IfOk, OnErr, OnOk};
+ghost use Rattle.std.specs.Prelude.{◌≡◌, ◌≤◌, IfOk, OnErr, OnOk};
 ghost use Rattle.rad_packet.specs.Bodies.{Body};
 ghost use Rattle.rad_auth.specs.Admission.{IsAdmitted, proxy_states_max, proxy_states_size};
 ghost use Rattle.rad_auth.specs.Sealing.{IsReply};
+ghost use Rattle.rad_replay.specs.DatagramLines.{moment_max};
 ghost use Rattle.rad_replay.specs.Steps.{access_denied, access_reply, opening, reply, reply_by_code, step, with_proxy_states, IsSealable};
 
 use rad_auth::{Door, Request, admitted_is_answerable};
@@ -36,7 +37,7 @@ impl State {
 
     /// Answers a request that was admitted with the clients of this configuration.
     ///
-    /// The moment is in milliseconds, at most 2^62. Without memory the state is unchanged.
+    /// The moment is in milliseconds, at most `MOMENT_MAX`. If memory is refused, the state is unchanged.
     pub fn step(
         &mut self,
         alloc: Global,
@@ -45,7 +46,7 @@ impl State {
         moment: u64,
         draw: &[u8; 16],
     ) -> Result<Answer, AllocError>
-        requires moment { moment ≤ 2 ^ 62 }
+        requires moment { moment ≤ moment_max }
         requires admitted { IsAdmitted config.now.clients request.now }
         ensures answered { IfOk result (λ answer.
             step config.now self.old request.now moment draw.now ≡ (answer, self.new)) }
@@ -57,7 +58,7 @@ impl State {
     }
 }
 
-// What is replied to a request.
+// The reply to a request.
 #[tactic(auto, using(crate::proofs::StepLemmas::reply_is_reply))]
 fn reply(alloc: Global, request: &Request) -> Result<Body, AllocError>
     requires { proxy_states_size request.now.packet ≤ proxy_states_max }
@@ -69,7 +70,7 @@ fn reply(alloc: Global, request: &Request) -> Result<Body, AllocError>
     Ok(body)
 }
 
-// What is replied to a Code that the door takes, but for the Proxy-States.
+// The reply to a Code that the port accepts, without the Proxy-States.
 fn reply_by_code(alloc: Global, door: Door, code: u8) -> Result<Body, AllocError>
     ensures { IfOk result (λ body. body ≡ reply_by_code door code) }
 {

@@ -74,7 +74,7 @@ impl From<RunFault> for Fault {
     }
 }
 
-/// Does what the words after the program's name say, and answers the exit status.
+/// Does what the words after the program's name ask for, and returns the exit status.
 pub fn run<R: Env + Input + Print + Eprint + AllocGlobal>(rt: &R) -> ExitCode {
     match try_run(rt) {
         Ok(()) => ExitCode::SUCCESS,
@@ -82,7 +82,7 @@ pub fn run<R: Env + Input + Print + Eprint + AllocGlobal>(rt: &R) -> ExitCode {
     }
 }
 
-/// Prints a fault on standard error, and answers the exit status.
+/// Prints a fault on standard error, and returns the exit status.
 pub fn report<R: Eprint>(rt: &R, fault: Fault) -> ExitCode {
     match fault {
         Fault::CommandLine(error) => {
@@ -134,7 +134,7 @@ fn print_request<R: Print + AllocGlobal>(rt: &R, make: Make) -> Result<(), Fault
     }
 }
 
-// An option of `make` that doesn't fit, told as clap tells those that it finds.
+// An option of `make` that doesn't fit, reported as clap reports those that it finds.
 fn unfit(alloc: Global, fault: MakeFault) -> Result<clap::Error, AllocError> {
     let text = fault.to_string(alloc)?;
     let mut command = make_command(alloc)?.bin_name("radpool make")?;
@@ -147,7 +147,7 @@ fn task_of<'a, S: AsStr>(alloc: Global, words: &'a [S]) -> Result<Task<'a>, clap
     let matches = program.try_get_matches_from_mut(words)?;
     match task_in(&matches) {
         Some(task) => Ok(task),
-        // Not met: clap asks for a command, and gives each option that is required or has a default its value.
+        // Not reached: clap requires a command, and gives each option that is required or has a default its value.
         None => Err(program.error(ErrorKind::MissingSubcommand, "a command would fit")?),
     }
 }

@@ -32,7 +32,7 @@ const MISSING: ConfigFault = ConfigFault::Missing(Spot {
     key: Key::Password,
 });
 
-/// Gives octets, and knows whether it told their end.
+/// Gives octets, and knows whether it reported their end.
 #[derive(Drop)]
 struct Octets<'a> {
     rest: &'a [u8],
@@ -81,8 +81,8 @@ impl Write for Page {
     }
 }
 
-/// Either each datagram has its line, and a request may have `nomemory`; or nothing is written, and it is told that memory was
-/// refused.
+/// Either each datagram has its line, and a request may have `nomemory`; or nothing is written, and refused memory is
+/// reported.
 fn judge_answers(alloc: Global) -> &'static str {
     let mut page = Page::new();
     let ended = run_replay(alloc, &mut TRANSCRIPT.as_bytes(), &mut page);
@@ -96,8 +96,8 @@ fn judge_answers(alloc: Global) -> &'static str {
     }
 }
 
-/// The configuration's fault is told, or that its reading was refused memory; and that the replay was, only while it still read
-/// its input.
+/// The configuration's fault is reported, or that reading it was refused memory; that the replay was refused memory is
+/// reported only while it still reads its input.
 fn judge_fault(alloc: Global) -> &'static str {
     let mut octets = Octets {
         rest: FAULTY.as_bytes(),

@@ -104,7 +104,7 @@ pub(crate) fn request(alloc: Global, kind: Kind, place: u8) -> Result<Body, Allo
     }
 }
 
-// The body with more attributes, behind the others.
+// The body with more attributes, after the others.
 fn with(body: Body, attributes: &[(u8, &[u8])]) -> Result<Body, AllocError>
     requires { All (λ attribute. length attribute.1.now ≤ 253) attributes.now }
     ensures { IfOk result (λ more. more.code ≡ body.code) }

@@ -101,8 +101,8 @@ fn four_clients(alloc: Global) -> Result<Clients, AllocError>
     with_client(clients, FIRST_CLIENT + 3, b"b6Tf1wJo4MiQ0rSk7VzC")
 }
 
-// Whose request stands at a place.
-fn client_at(place: usize) -> u32
+// Whose request is at a place.
+fn client_place(place: usize) -> u32
     ensures { result < 4 }
 {
     (place % 4) as u32
@@ -114,7 +114,7 @@ impl Lot {
         let mut exchanges = Vec::new(alloc);
         let mut frame = Frame::new(alloc)?;
         for place in 0..SIZE as u8 {
-            let secret = clients.secret(client_at(place as usize));
+            let secret = clients.secret(client_place(place as usize));
             exchanges.push(Exchange::new(alloc, kind, place, secret, &mut frame)?)?;
         }
         Ok(Lot {
@@ -132,9 +132,9 @@ impl Lot {
         }
     }
 
-    /// The secret of the client whose request stands at a place.
+    /// The secret of the client whose request is at a place.
     pub fn secret(&self, place: usize) -> &[u8] {
-        match self.clients.find(FIRST_CLIENT + client_at(place)) {
+        match self.clients.find(FIRST_CLIENT + client_place(place)) {
             Some(client) => self.clients.secret(client).octets(),
             None => &[],
         }
@@ -159,7 +159,7 @@ impl Lot {
 
     fn arrival(&self, place: usize) -> Option<Arrival<'_>> {
         Some(Arrival {
-            source: FIRST_CLIENT + client_at(place),
+            source: FIRST_CLIENT + client_place(place),
             port: 1024,
             door: self.door,
             octets: self.datagram(place),
@@ -189,10 +189,15 @@ impl Lot {
         ensures { IfSome result IsJob }
     {
         let exchange = self.exchanges.get(place)?;
-        self.reply(place, client_at(place), exchange.id, exchange.authenticator)
+        self.reply(
+            place,
+            client_place(place),
+            exchange.id,
+            exchange.authenticator,
+        )
     }
 
-    /// The replies to those of a group that were let in.
+    /// The replies to those of a group that were admitted.
     pub fn jobs_for(&self, verdicts: &Verdicts, group: usize) -> [Option<Job<'_>>; 8]
         requires { group < 8 }
         ensures { AreJobs result }

@@ -5,17 +5,17 @@ use Rattle.rad_auth.specs.Datagrams.{datagram_of}
 use Rattle.rad_auth.proofs.LaneLemmas.{eight_lanes}
 use Rattle.rad_auth.proofs.admit.check8.Goals as goal
 
-pub judge-requires-2-clause-sum : goal.judge-requires-2-clause-sum
-judge-requires-2-clause-sum c = c.message_authenticators-sums.ensures 1 (omega arith)
+pub judge-requires-2-clause-mac : goal.judge-requires-2-clause-mac
+judge-requires-2-clause-mac c = c.message_authenticators-macs.ensures 1 (omega arith)
 
-pub judge-requires-3-clause-sum : goal.judge-requires-3-clause-sum
-judge-requires-3-clause-sum c = c.message_authenticators-sums.ensures 2 (omega arith)
+pub judge-requires-3-clause-mac : goal.judge-requires-3-clause-mac
+judge-requires-3-clause-mac c = c.message_authenticators-macs.ensures 2 (omega arith)
 
-pub judge-requires-4-clause-sum : goal.judge-requires-4-clause-sum
-judge-requires-4-clause-sum c = c.message_authenticators-sums.ensures 3 (omega arith)
+pub judge-requires-4-clause-mac : goal.judge-requires-4-clause-mac
+judge-requires-4-clause-mac c = c.message_authenticators-macs.ensures 3 (omega arith)
 
-pub judge-requires-6-clause-sum : goal.judge-requires-6-clause-sum
-judge-requires-6-clause-sum c = c.message_authenticators-sums.ensures 5 (omega arith)
+pub judge-requires-6-clause-mac : goal.judge-requires-6-clause-mac
+judge-requires-6-clause-mac c = c.message_authenticators-macs.ensures 5 (omega arith)
 
 pub returns-clause-verdicts : goal.returns-clause-verdicts
 returns-clause-verdicts c =

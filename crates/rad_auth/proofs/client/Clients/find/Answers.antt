@@ -1,10 +1,10 @@
-use Rattle.rad_auth.proofs.ClientRowsLemmas.{client_at-addresses}
+use Rattle.rad_auth.proofs.ClientRowsLemmas.{client_place-addresses}
 use Rattle.rad_auth.proofs.client.Clients.find.Goals as goal
 
 pub returns-in_err-place-clause-value : goal.returns-in_err-place-clause-value
 returns-in_err-place-clause-value c =
-    rw (← c.self.view_is, ← client_at-addresses c.self.inside.addresses.keys c.self.inside.rows.items c.args.source c.self.invariant.0, ← c.get_index_of.ensures.index, c.in_err-place.was) c.from_residual.ensures
+    rw (← c.self.view_is, ← client_place-addresses c.self.inside.addresses.keys c.self.inside.rows.items c.args.source c.self.invariant.0, ← c.get_index_of.ensures.index, c.in_err-place.was) c.from_residual.ensures
 
 pub returns-clause-value : goal.returns-clause-value
 returns-clause-value c =
-    rw (← c.self.view_is, ← client_at-addresses c.self.inside.addresses.keys c.self.inside.rows.items c.args.source c.self.invariant.0) c.in_ok-place.ensures.index
+    rw (← c.self.view_is, ← client_place-addresses c.self.inside.addresses.keys c.self.inside.rows.items c.args.source c.self.invariant.0) c.in_ok-place.ensures.index

@@ -1,0 +1,26 @@
+-- What one walk over a packet's attributes finds for the checks.
+use Rattle.std.specs.Prelude.{◌≡◌, ℕ, ◌+◌, ◌-◌, ◌==◌, ◌&&◌, if◌then◌else◌, List, [], ◌∷◌, ◌++◌, length, take, drop, Option, Some, None}
+use Rattle.rad_packet.specs.Attributes.{Attribute, count, has, has_len, of_kind, size}
+use Rattle.rad_auth.specs.declared.summary.Summary.{Summary}
+use Rattle.rad_auth.specs.Authenticators.{holds_hmac}
+
+-- how many octets follow the first attribute that holds an HMAC, if one does
+abbrev pub after_hmac : List Attribute → Option ℕ
+after_hmac [] = None
+after_hmac (a ∷ list) = if holds_hmac a then Some (size list) else after_hmac list
+
+-- octets with these in place of the HMAC before the last so many
+abbrev pub with_hmac : ℕ → List ℕ → List ℕ → List ℕ
+with_hmac after value octets = take (length octets - (after + 16)) octets ++ value ++ drop (length octets - after) octets
+
+pub record IsSummary (list : List Attribute) (summary : Summary) : Type 0 where
+  pub message_authenticators : summary.message_authenticators ≡ count 80 list
+  pub after_hmac : summary.after_hmac ≡ after_hmac list
+  pub has_eap_message : summary.has_eap_message ≡ has 79 list
+  pub has_status_type : summary.has_status_type ≡ has_len 40 4 list
+  pub proxy_states : summary.proxy_states ≡ size (of_kind 33 list)
+
+-- what is known of that after one more attribute, which so many octets follow
+abbrev pub first_after : ℕ → List ℕ → ℕ → Option ℕ → Option ℕ
+first_after kind value after (Some n) = Some n
+first_after kind value after None = if (kind == 80) && (length value == 16) then Some after else None

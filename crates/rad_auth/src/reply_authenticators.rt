@@ -1,0 +1,194 @@
+//! The HMACs and digests of eight replies, computed side by side.
+ghost use Rattle.std.specs.Prelude.{◌≡◌, ℕ, ◌+◌, ◌<◌, ◌^◌, ◌-◌, List, [], length, map, slice_index_or, None, IfSome};
+ghost use Rattle.rad_hmac.specs.Hmac.{hmac, keyed_sum};
+ghost use Rattle.rad_md5.specs.Pieces.{HasFreePiece, message};
+ghost use Rattle.rad_auth.specs.ReplyLanes.{HasDigestedText, HasReplyHmac, HasReplyHmacText, IsReplyDigest, IsReplyHmac, has_hmac, header_octets, lane_header};
+ghost use Rattle.rad_packet.specs.Bodies.{FitsPacket};
+ghost use Rattle.rad_auth.specs.Sealing.{AreJobs, IsJob};
+
+use crate::authenticators::{SIXTEEN_ZEROS, nothing};
+use crate::job::Job;
+use rad_hmac::{Key, hmac8};
+use rad_md5::{DIGEST_LEN, LANES, Pieces, digest8};
+use rad_packet::attribute::MESSAGE_AUTHENTICATOR;
+use rad_packet::{HEADER_SIZE, code};
+
+// The octets of a Message-Authenticator attribute.
+const HMAC_SIZE: usize = 2 + DIGEST_LEN;
+
+// Its Type and Length.
+const HMAC_FRONT: [u8; 2] = [MESSAGE_AUTHENTICATOR, HMAC_SIZE as u8];
+
+/// The headers of replies, with the Request Authenticator in the Authenticator field.
+pub(crate) fn headers(jobs: &[Option<Job>; LANES]) -> [[u8; HEADER_SIZE]; LANES]
+    requires { AreJobs jobs.now }
+    ensures { result ≡ map lane_header jobs.now }
+{
+    let [a, b, c, d, e, f, g, h] = jobs;
+    [
+        lane_header(a),
+        lane_header(b),
+        lane_header(c),
+        lane_header(d),
+        lane_header(e),
+        lane_header(f),
+        lane_header(g),
+        lane_header(h),
+    ]
+}
+
+fn lane_header(job: &Option<Job>) -> [u8; HEADER_SIZE]
+    requires { IfSome job.now IsJob }
+    ensures { result ≡ lane_header job.now }
+{
+    match job {
+        None => [0; HEADER_SIZE],
+        Some(job) => header(job),
+    }
+}
+
+fn header(job: &Job) -> [u8; HEADER_SIZE]
+    requires { FitsPacket job.now.body.now }
+    ensures { result ≡ header_octets job.now }
+{
+    let [high, low] = ((HEADER_SIZE + job.body.size()) as u16).to_be_bytes();
+    let mut header = [0; HEADER_SIZE];
+    header[..4].copy_from_slice(&[job.body.code(), job.id, high, low]);
+    header[4..].copy_from_slice(&job.request_authenticator);
+    header
+}
+
+/// The Message-Authenticators of replies, in one pass of HMACs, or in none.
+pub(crate) fn reply_hmacs<'x>(
+    jobs: &'x [Option<Job<'x>>; LANES],
+    headers: &'x [[u8; HEADER_SIZE]; LANES],
+    no_key: &'x Key,
+) -> [[u8; DIGEST_LEN]; LANES]
+    requires jobs { AreJobs jobs.now }
+    requires headers { headers.now ≡ map lane_header jobs.now }
+    ensures { (j : ℕ) → j < 8 → IsReplyHmac (slice_index_or jobs.now j None) (slice_index_or result j []) }
+{
+    if !jobs.iter().any(has_hmac) {
+        return [SIXTEEN_ZEROS; LANES];
+    }
+    let [a, b, c, d, e, f, g, h] = jobs;
+    hmac8(&[
+        (key(a, no_key), hmac_text(a, &headers[0])),
+        (key(b, no_key), hmac_text(b, &headers[1])),
+        (key(c, no_key), hmac_text(c, &headers[2])),
+        (key(d, no_key), hmac_text(d, &headers[3])),
+        (key(e, no_key), hmac_text(e, &headers[4])),
+        (key(f, no_key), hmac_text(f, &headers[5])),
+        (key(g, no_key), hmac_text(g, &headers[6])),
+        (key(h, no_key), hmac_text(h, &headers[7])),
+    ])
+}
+
+// Whether a reply has a Message-Authenticator.
+fn has_hmac(job: &Option<Job>) -> bool
+    ensures { result ≡ has_hmac job.now }
+{
+    match job {
+        None => false,
+        Some(job) => job.body.code() != code::ACCOUNTING_RESPONSE,
+    }
+}
+
+// The key for a lane.
+fn key<'x>(job: &'x Option<Job<'x>>, no_key: &'x Key) -> &'x Key
+    ensures { IfSome job.now (λ job. (text : List ℕ) → keyed_sum result.now text ≡ hmac job.secret.now text) }
+{
+    match job {
+        None => no_key,
+        Some(job) => job.secret.key(),
+    }
+}
+
+// The message of a lane's HMAC.
+fn hmac_text<'x>(job: &'x Option<Job<'x>>, header: &'x [u8; HEADER_SIZE]) -> Pieces<'x>
+    requires job { IfSome job.now IsJob }
+    requires header { header.now ≡ lane_header job.now }
+    ensures text { IfSome job.now (HasReplyHmacText (message result)) }
+    ensures free { HasFreePiece result }
+    ensures short { length (message result) < 2 ^ 32 - 64 }
+{
+    match job {
+        None => nothing(),
+        Some(job) => hmac_reply(job, header),
+    }
+}
+
+// A reply with zeros in its Message-Authenticator, if it has one.
+fn hmac_reply<'x>(job: &'x Job<'x>, header: &'x [u8; HEADER_SIZE]) -> Pieces<'x>
+    requires job { IsJob job.now }
+    requires header { header.now ≡ header_octets job.now }
+    ensures text { HasReplyHmacText (message result) job.now }
+    ensures free { HasFreePiece result }
+    ensures short { length (message result) < 2 ^ 32 - 64 }
+{
+    if job.body.code() == code::ACCOUNTING_RESPONSE {
+        return nothing();
+    }
+    let others = &job.body.attributes_octets()[HMAC_SIZE..];
+    Pieces::of([header, &HMAC_FRONT, &SIXTEEN_ZEROS, others, &[]])
+}
+
+/// The Response Authenticators of replies, in one pass.
+pub(crate) fn reply_digests(
+    jobs: &[Option<Job>; LANES],
+    headers: &[[u8; HEADER_SIZE]; LANES],
+    macs: &[[u8; DIGEST_LEN]; LANES],
+) -> [[u8; DIGEST_LEN]; LANES]
+    requires jobs { AreJobs jobs.now }
+    requires headers { headers.now ≡ map lane_header jobs.now }
+    requires macs { (j : ℕ) → j < 8 → IsReplyHmac (slice_index_or jobs.now j None) (slice_index_or macs.now j []) }
+    ensures { (j : ℕ) → j < 8 → IsReplyDigest (slice_index_or jobs.now j None) (slice_index_or result j []) }
+{
+    let [a, b, c, d, e, f, g, h] = jobs;
+    digest8(&[
+        digested_text(a, &headers[0], &macs[0]),
+        digested_text(b, &headers[1], &macs[1]),
+        digested_text(c, &headers[2], &macs[2]),
+        digested_text(d, &headers[3], &macs[3]),
+        digested_text(e, &headers[4], &macs[4]),
+        digested_text(f, &headers[5], &macs[5]),
+        digested_text(g, &headers[6], &macs[6]),
+        digested_text(h, &headers[7], &macs[7]),
+    ])
+}
+
+// The message of a lane's digest.
+fn digested_text<'x>(
+    job: &'x Option<Job<'x>>,
+    header: &'x [u8; HEADER_SIZE],
+    mac: &'x [u8; DIGEST_LEN],
+) -> Pieces<'x>
+    requires job { IfSome job.now IsJob }
+    requires header { header.now ≡ lane_header job.now }
+    requires mac { IsReplyHmac job.now mac.now }
+    ensures { IfSome job.now (HasDigestedText (message result)) }
+{
+    match job {
+        None => nothing(),
+        Some(job) => digested_reply(job, header, mac),
+    }
+}
+
+// A reply with its Message-Authenticator, if it has one, and then the secret.
+fn digested_reply<'x>(
+    job: &'x Job<'x>,
+    header: &'x [u8; HEADER_SIZE],
+    mac: &'x [u8; DIGEST_LEN],
+) -> Pieces<'x>
+    requires job { IsJob job.now }
+    requires header { header.now ≡ header_octets job.now }
+    requires mac { HasReplyHmac mac.now job.now }
+    ensures { HasDigestedText (message result) job.now }
+{
+    let attributes = job.body.attributes_octets();
+    let secret = job.secret.octets();
+    if job.body.code() == code::ACCOUNTING_RESPONSE {
+        return Pieces::of([header, attributes, secret, &[], &[]]);
+    }
+    Pieces::of([header, &HMAC_FRONT, mac, &attributes[HMAC_SIZE..], secret])
+}

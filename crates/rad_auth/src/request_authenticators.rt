@@ -1,0 +1,140 @@
+//! The Authenticators and Message-Authenticators that eight requests must have, computed side by side.
+ghost use Rattle.std.specs.Prelude.{◌≡◌, ℕ, ◌<◌, ◌^◌, ◌-◌, ◌==◌, ◌&&◌, [], length, All, None, slice_index_or};
+ghost use Rattle.rad_md5.specs.Pieces.{HasFreePiece, message};
+ghost use Rattle.rad_auth.specs.Admission.{checks_message_authenticator};
+ghost use Rattle.rad_auth.specs.RequestLanes.{HasAccountingText, HasKeyOf, HasHmacText, IsAccountingAuthenticator, IsCandidate, IsMessageAuthenticator, OfCandidate, is_accounting, will_be_signed};
+
+use crate::authenticators::{accounting_pieces, hmac_pieces, nothing};
+use crate::candidate::{Candidate, Lane, checks_message_authenticator};
+use crate::client::Clients;
+use rad_hmac::{Key, hmac8};
+use rad_md5::{DIGEST_LEN, LANES, Pieces, digest8};
+use rad_packet::code;
+
+/// The Request Authenticators that the lanes' Accounting-Requests must have, in one pass of digests, or in none.
+pub(crate) fn accounting_authenticators(
+    clients: &Clients,
+    lanes: &[Lane; LANES],
+) -> [[u8; DIGEST_LEN]; LANES]
+    requires { All (OfCandidate (IsCandidate clients.now)) lanes.now }
+    ensures { (j : ℕ) → j < 8 → OfCandidate (IsAccountingAuthenticator clients.now (slice_index_or result j [])) (slice_index_or lanes.now j None) }
+{
+    if !lanes.iter().any(is_accounting) {
+        return [[0; DIGEST_LEN]; LANES];
+    }
+    let [a, b, c, d, e, f, g, h] = lanes;
+    digest8(&[
+        accounting_text(clients, a),
+        accounting_text(clients, b),
+        accounting_text(clients, c),
+        accounting_text(clients, d),
+        accounting_text(clients, e),
+        accounting_text(clients, f),
+        accounting_text(clients, g),
+        accounting_text(clients, h),
+    ])
+}
+
+fn is_accounting(lane: &Lane) -> bool
+    ensures { result ≡ is_accounting lane.now }
+{
+    match lane {
+        Some(Ok(candidate)) => candidate.request.packet.code() == code::ACCOUNTING_REQUEST,
+        _ => false,
+    }
+}
+
+// The message of a lane's digest.
+fn accounting_text<'x>(clients: &'x Clients, lane: &Lane<'x>) -> Pieces<'x>
+    requires { OfCandidate (IsCandidate clients.now) lane.now }
+    ensures { OfCandidate (HasAccountingText clients.now (message result)) lane.now }
+{
+    match lane {
+        Some(Ok(candidate)) => accounting_packet(clients, candidate),
+        _ => nothing(),
+    }
+}
+
+// A packet with zeros in its Authenticator, and then the secret.
+fn accounting_packet<'x>(clients: &'x Clients, candidate: &Candidate<'x>) -> Pieces<'x>
+    requires { IsCandidate clients.now candidate.now }
+    ensures { HasAccountingText clients.now (message result) candidate.now }
+{
+    let request = &candidate.request;
+    accounting_pieces(
+        request.packet.octets(),
+        clients.secret(request.client).octets(),
+    )
+}
+
+/// The Message-Authenticators that the lanes' requests must have, in one pass of HMACs, or in none.
+pub(crate) fn message_authenticators(
+    clients: &Clients,
+    lanes: &[Lane; LANES],
+) -> [[u8; DIGEST_LEN]; LANES]
+    requires { All (OfCandidate (IsCandidate clients.now)) lanes.now }
+    ensures { (j : ℕ) → j < 8 → OfCandidate (IsMessageAuthenticator clients.now (slice_index_or result j [])) (slice_index_or lanes.now j None) }
+{
+    if !lanes.iter().any(will_be_signed) {
+        return [[0; DIGEST_LEN]; LANES];
+    }
+    let no_key = Key::new(&[]);
+    let [a, b, c, d, e, f, g, h] = lanes;
+    hmac8(&[
+        (key(clients, &no_key, a), hmac_text(a)),
+        (key(clients, &no_key, b), hmac_text(b)),
+        (key(clients, &no_key, c), hmac_text(c)),
+        (key(clients, &no_key, d), hmac_text(d)),
+        (key(clients, &no_key, e), hmac_text(e)),
+        (key(clients, &no_key, f), hmac_text(f)),
+        (key(clients, &no_key, g), hmac_text(g)),
+        (key(clients, &no_key, h), hmac_text(h)),
+    ])
+}
+
+fn will_be_signed(lane: &Lane) -> bool
+    ensures { result ≡ will_be_signed lane.now }
+{
+    match lane {
+        Some(Ok(candidate)) => {
+            checks_message_authenticator(candidate.request.packet.code())
+                && candidate.summary.after_hmac.is_some()
+        }
+        _ => false,
+    }
+}
+
+// The key for a lane.
+fn key<'x>(clients: &'x Clients, no_key: &'x Key, lane: &Lane) -> &'x Key
+    requires { OfCandidate (IsCandidate clients.now) lane.now }
+    ensures { OfCandidate (HasKeyOf clients.now result.now) lane.now }
+{
+    match lane {
+        Some(Ok(candidate)) => clients.secret(candidate.request.client).key(),
+        _ => no_key,
+    }
+}
+
+// The message of a lane's HMAC.
+fn hmac_text<'x>(lane: &Lane<'x>) -> Pieces<'x>
+    ensures text { OfCandidate (HasHmacText (message result)) lane.now }
+    ensures free { HasFreePiece result }
+    ensures short { length (message result) < 2 ^ 32 - 64 }
+{
+    match lane {
+        Some(Ok(candidate)) => hmac_packet(candidate),
+        _ => nothing(),
+    }
+}
+
+// A packet with zeros in its Message-Authenticator, if it has one.
+fn hmac_packet<'x>(candidate: &Candidate<'x>) -> Pieces<'x>
+    ensures text { HasHmacText (message result) candidate.now }
+    ensures free { HasFreePiece result }
+    ensures short { length (message result) < 2 ^ 32 - 64 }
+{
+    match candidate.summary.after_hmac {
+        Some(after) => hmac_pieces(candidate.request.packet.octets(), after),
+        None => nothing(),
+    }
+}
