@@ -30,9 +30,9 @@ const ZEROS: [u8; 16] = [0; 16];
 const AUTHENTICATOR_AT: usize = 4;
 
 // Where the HMAC is in a packet that has one: in its first attribute.
-const SUM_AT: usize = HEADER_SIZE + 2;
+const HMAC_AT: usize = HEADER_SIZE + 2;
 
-const SUM_END: usize = SUM_AT + 16;
+const HMAC_END: usize = HMAC_AT + 16;
 
 fn check_in_lanes(alloc: Global, kind: u32, rounds: u32) -> Result<usize, AllocError> {
     let lot = Lot::new(alloc, Kind::of(kind))?;
@@ -141,16 +141,16 @@ fn is_right(datagram: &[u8], secret: &[u8]) -> bool {
         return false;
     };
     let octets = packet.octets();
-    if octets.len() < SUM_END {
+    if octets.len() < HMAC_END {
         return false;
     }
     if packet.code() == code::ACCOUNTING_REQUEST {
         let (front, rest) = (&octets[..AUTHENTICATOR_AT], &octets[HEADER_SIZE..]);
         packet.authenticator() == plain::digest(&[front, &ZEROS, rest, secret])
     } else {
-        let (front, rest) = (&octets[..SUM_AT], &octets[SUM_END..]);
-        let sum = plain::sum(secret, &[front, &ZEROS, rest]);
-        sum.as_slice() == &octets[SUM_AT..SUM_END]
+        let (front, rest) = (&octets[..HMAC_AT], &octets[HMAC_END..]);
+        let mac = plain::hmac(secret, &[front, &ZEROS, rest]);
+        mac.as_slice() == &octets[HMAC_AT..HMAC_END]
     }
 }
 
@@ -188,9 +188,9 @@ fn seal(job: &Option<Job>, frame: &mut Frame) -> bool {
         return false;
     }
     let secret = job.secret.octets();
-    if job.body.code() != code::ACCOUNTING_RESPONSE && frame.octets().len() >= SUM_END {
-        let sum = plain::sum(secret, &[frame.octets()]);
-        frame.overwrite(SUM_AT, &sum);
+    if job.body.code() != code::ACCOUNTING_RESPONSE && frame.octets().len() >= HMAC_END {
+        let mac = plain::hmac(secret, &[frame.octets()]);
+        frame.overwrite(HMAC_AT, &mac);
     }
     if frame.octets().len() >= HEADER_SIZE {
         let digest = plain::digest(&[frame.octets(), secret]);

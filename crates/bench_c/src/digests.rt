@@ -182,7 +182,7 @@ pub extern "C" fn kit_hmac(slots: &[u8], lengths: &[u32], rounds: u32, out: &mut
     for _ in 0..rounds {
         for i in 0..lengths.len() {
             lay_out(
-                &[plain::sum(SECRET, &[message(slots, lengths, i)])],
+                &[plain::hmac(SECRET, &[message(slots, lengths, i)])],
                 &mut out[DIGEST_LEN * i..],
             );
         }

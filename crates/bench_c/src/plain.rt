@@ -16,14 +16,14 @@ pub(crate) fn digest(message: &[&[u8]]) -> [u8; 16] {
 }
 
 /// The HMAC of a message in pieces under a secret (RFC 2104, section 2).
-pub(crate) fn sum(secret: &[u8], message: &[&[u8]]) -> [u8; 16] {
+pub(crate) fn hmac(secret: &[u8], message: &[&[u8]]) -> [u8; 16] {
     if secret.len() > BLOCK_LEN {
-        return sum_under(&Md5::digest(secret), message);
+        return hmac_under(&Md5::digest(secret), message);
     }
-    sum_under(secret, message)
+    hmac_under(secret, message)
 }
 
-fn sum_under(key: &[u8], message: &[&[u8]]) -> [u8; 16]
+fn hmac_under(key: &[u8], message: &[&[u8]]) -> [u8; 16]
     requires { length key.now ≤ 64 }
 {
     let mut inner_pad = [0x36; BLOCK_LEN];

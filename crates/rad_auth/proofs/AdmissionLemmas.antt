@@ -6,7 +6,7 @@ use Rattle.std.proofs.lemmas.List.Quantifiers.{position-Some}
 use Rattle.rad_packet.specs.Attributes.{has_len}
 use Rattle.rad_packet.specs.Ladders.{◌>>=◌, refuse_if}
 use Rattle.rad_packet.specs.Packets.{Packet, packet_of}
-use Rattle.rad_auth.specs.Admission.{IsAdmitted, IsAnswerable, admission, content_checks, has_bad_authenticator, has_bad_message_authenticator, is_taken, lacks_message_authenticator, lacks_status_type, own_datagram, packet_or_discard, proxy_states_max, proxy_states_size, request_in, request_of}
+use Rattle.rad_auth.specs.Admission.{IsAdmitted, IsAnswerable, admission, content_checks, has_bad_authenticator, has_bad_message_authenticator, is_code_accepted, lacks_message_authenticator, lacks_status_type, own_datagram, packet_or_discard, proxy_states_max, proxy_states_size, request_in, request_of}
 use Rattle.rad_auth.specs.Clients.{Client, client_place, client_of}
 use Rattle.rad_auth.specs.Datagrams.{Datagram}
 use Rattle.rad_auth.specs.declared.arrival.Request.{Request}
@@ -27,21 +27,21 @@ admitted_again clients request checked held content = rw (held, content) refl
 -- ---- what an admitted request has
 
 in_place : (o : Option ℕ) (read : Result Packet Discard) (datagram : Datagram) (request : Request)
-    → (ok_or o UnknownClient >>= λ place. (read >>= λ p. (refuse_if (not (is_taken datagram.door p.code)) WrongCode >>= λ taken. Ok (request_of datagram place p)))) ≡ Ok request
-    → (o ≡ Some request.client) × IsTrue (is_taken request.door request.packet.code)
+    → (ok_or o UnknownClient >>= λ place. (read >>= λ p. (refuse_if (not (is_code_accepted datagram.door p.code)) WrongCode >>= λ taken. Ok (request_of datagram place p)))) ≡ Ok request
+    → (o ≡ Some request.client) × IsTrue (is_code_accepted request.door request.packet.code)
 in_place None read datagram request e = absurd (cc)
 in_place (Some place) (Err discard) datagram request e = absurd (cc)
-in_place (Some place) (Ok p) datagram request e = at (is_taken datagram.door p.code) refl e
+in_place (Some place) (Ok p) datagram request e = at (is_code_accepted datagram.door p.code) refl e
   where
-    at : (b : Bool) → is_taken datagram.door p.code ≡ b → (refuse_if (not b) WrongCode >>= λ taken. Ok (request_of datagram place p)) ≡ Ok request
-        → (Some place ≡ Some request.client) × IsTrue (is_taken request.door request.packet.code)
+    at : (b : Bool) → is_code_accepted datagram.door p.code ≡ b → (refuse_if (not b) WrongCode >>= λ taken. Ok (request_of datagram place p)) ≡ Ok request
+        → (Some place ≡ Some request.client) × IsTrue (is_code_accepted request.door request.packet.code)
     at false taken e = absurd (cc)
     at true taken e =
         let same : request_of datagram place p ≡ request = cc in
-        (ap (λ (r : Request). Some r.client) same, subst (λ (r : Request). IsTrue (is_taken r.door r.packet.code)) same taken)
+        (ap (λ (r : Request). Some r.client) same, subst (λ (r : Request). IsTrue (is_code_accepted r.door r.packet.code)) same taken)
 
 held_in_place : (clients : List Client) (datagram : Datagram) (request : Request) → request_in clients datagram ≡ Ok request
-    → (client_place clients datagram.source ≡ Some request.client) × IsTrue (is_taken request.door request.packet.code)
+    → (client_place clients datagram.source ≡ Some request.client) × IsTrue (is_code_accepted request.door request.packet.code)
 unfolding request_in
 held_in_place clients datagram request e = in_place (client_place clients datagram.source) (packet_or_discard (packet_of datagram.octets)) datagram request e
 

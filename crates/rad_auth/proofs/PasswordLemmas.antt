@@ -51,8 +51,8 @@ length-opened secret before zero value h = refl
 length-opened secret before (suc n) value h =
     let head : List ℕ = xor (take 16 value) (md5 (secret ++ before)) in
     let rest = length-opened secret (take 16 value) n (drop 16 value) (omega (arith, length-drop 16 value)) in
-    let mac = length-append head (opened secret (take 16 value) n (drop 16 value)) in
-    omega (arith, mac, rest, block_length value (secret ++ before) (omega arith))
+    let total = length-append head (opened secret (take 16 value) n (drop 16 value)) in
+    omega (arith, total, rest, block_length value (secret ++ before) (omega arith))
 
 -- what is opened is hidden as the value
 hides-opened : (secret before : List ℕ) (n : ℕ) (value : List ℕ) → length value ≡ n * 16 → hidden secret before n (opened secret before n value) ≡ value

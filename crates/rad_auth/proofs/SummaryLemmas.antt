@@ -11,12 +11,12 @@ use Rattle.rad_auth.proofs.AttributeLemmas.{count-cons}
 use Rattle.rad_auth.specs.Summaries.{after_hmac, first_after}
 use Rattle.rad_auth.specs.Authenticators.{holds_hmac}
 
-pub any-step : {A : Type 0} (p : A → Bool) (told : Bool) (x : A) (xs : List A) → ((told || p x) || list_any p xs) ≡ (told || list_any p (x ∷ xs))
+pub any-step : {A : Type 0} (p : A → Bool) (so_far : Bool) (x : A) (xs : List A) → ((so_far || p x) || list_any p xs) ≡ (so_far || list_any p (x ∷ xs))
 any-step p true x xs = refl
 any-step p false x xs = refl
 
-pub after_hmac-step : (told : Option ℕ) (a : Attribute) (list : List Attribute)
-    → option_or (first_after a.kind a.value (size list) told) (after_hmac list) ≡ option_or told (after_hmac (a ∷ list))
+pub after_hmac-step : (so_far : Option ℕ) (a : Attribute) (list : List Attribute)
+    → option_or (first_after a.kind a.value (size list) so_far) (after_hmac list) ≡ option_or so_far (after_hmac (a ∷ list))
 after_hmac-step (Some n) a list = refl
 after_hmac-step None a list =
     elim (holds_hmac a) as (λ b. option_or (cond b (Some (size list)) None) (after_hmac list) ≡ cond b (Some (size list)) (after_hmac list)) [ true ↦ refl | false ↦ refl ]

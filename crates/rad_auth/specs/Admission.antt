@@ -21,9 +21,9 @@ use Rattle.rad_auth.specs.Authenticators.{accounting_authenticator, message_auth
 
 -- Whether a port accepts a Code: Access-Request 1 and Status-Server 12, or Accounting-Request 4 and Status-Server 12
 -- (RFC 5997, section 3).
-abbrev pub is_taken : Door → ℕ → Bool
-is_taken Auth code = (code == 1) || (code == 12)
-is_taken Acct code = (code == 4) || (code == 12)
+abbrev pub is_code_accepted : Door → ℕ → Bool
+is_code_accepted Auth code = (code == 1) || (code == 12)
+is_code_accepted Acct code = (code == 4) || (code == 12)
 
 -- whether a Code is one whose Message-Authenticator is looked at: Access-Request and Status-Server
 abbrev pub checks_message_authenticator : ℕ → Bool
@@ -89,12 +89,12 @@ request_of datagram place p = record {
   packet = p;
 }
 
--- the request that a datagram holds, whose content is still to be checked: from a client, and of a Code that the port accepts
+-- the request that a datagram holds, whose content is still to be checked: from a client, and of a Code that the server's port accepts
 unfoldable pub request_in : List Client → Datagram → Result Request Discard
 request_in clients datagram = do
   place ← ok_or (client_place clients datagram.source) UnknownClient
   p ← packet_or_discard (packet_of datagram.octets)
-  taken ← refuse_if (not (is_taken datagram.door p.code)) WrongCode
+  taken ← refuse_if (not (is_code_accepted datagram.door p.code)) WrongCode
   Ok (request_of datagram place p)
 
 -- the checks of the content of a packet from a client
@@ -136,10 +136,10 @@ IsAdmitted clients request = admission clients (own_datagram request) ≡ Ok req
 abbrev pub HoldsAdmitted : List Client → Option (Result Request Discard) → Type 0
 HoldsAdmitted clients lane = IfSome lane (λ verdict. IfOk verdict (IsAdmitted clients))
 
--- what those who answer a request use of it: its client is one of the list, its port accepts its Code, an Accounting-Request
+-- what those who answer a request use of it: its client is one of the list, the server's port accepts its Code, an Accounting-Request
 -- says its status, and its Proxy-State attributes have at most so many octets in total
 pub record IsAnswerable (clients : List Client) (request : Request) : Type 0 where
   pub client : request.client < length clients
-  pub taken : IsTrue (is_taken request.door request.packet.code)
+  pub taken : IsTrue (is_code_accepted request.door request.packet.code)
   pub status : request.packet.code ≡ 4 → IsTrue (has_len 40 4 request.packet.attributes)
   pub proxy_states : proxy_states_size request.packet ≤ proxy_states_max

@@ -16,11 +16,11 @@ sixteen_zeros = replicate 16 0
 abbrev pub accounting_authenticator : Packet → List ℕ → List ℕ
 accounting_authenticator p secret = md5 (packet_octets (record p { authenticator = sixteen_zeros }) ++ secret)
 
--- an attribute that holds an HMAC: a Message-Authenticator, Type 80, with a Value of 16 octets
+-- an attribute that can hold an HMAC: a Message-Authenticator, Type 80, with a Value of 16 octets
 abbrev pub holds_hmac : Attribute → Bool
 holds_hmac a = is_of_len 80 16 a
 
--- the attributes with this Value in the first of them that holds an HMAC, if one does
+-- the attributes with this Value in the first of them that can hold an HMAC, if there is one
 abbrev pub with_message_authenticator : List ℕ → List Attribute → List Attribute
 with_message_authenticator value [] = []
 with_message_authenticator value (a ∷ list) =
@@ -31,7 +31,7 @@ with_message_authenticator value (a ∷ list) =
 abbrev pub message_authenticator : Packet → List ℕ → List ℕ
 message_authenticator p secret = hmac secret (packet_octets (record p { attributes = with_message_authenticator sixteen_zeros p.attributes }))
 
--- the body with its Message-Authenticator, if an attribute holds one, over the packet with this Identifier and Authenticator
+-- the body with its Message-Authenticator, if an attribute can hold one, over the packet with this Identifier and Authenticator
 abbrev pub signed_body : Body → ℕ → List ℕ → List ℕ → Body
 signed_body body identifier authenticator secret = record body {
   attributes = with_message_authenticator (message_authenticator (packet_of_body body identifier authenticator) secret) body.attributes;

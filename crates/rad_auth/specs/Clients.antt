@@ -28,7 +28,7 @@ secret_max = 128
 abbrev pub IsSecret : List ℕ → Type 0
 IsSecret secret = (1 ≤ length secret) × (length secret ≤ secret_max)
 
--- the place of the client with this address, counted from 0
+-- the place of the client with this address, counted from 0, if there is one
 abbrev pub client_place : List Client → ℕ → Option ℕ
 client_place clients source = position (λ client. client.address == source) clients
 

@@ -17,7 +17,7 @@ abbrev pub lane_header : Option Job → List ℕ
 lane_header None = replicate 20 0
 lane_header (Some job) = header_octets job
 
--- the reply as its HMAC is computed
+-- the reply before it is sealed, with the Request Authenticator as its Authenticator
 abbrev pub unsealed : Job → Packet
 unsealed job = packet_of_body job.body.now job.id job.request_authenticator
 

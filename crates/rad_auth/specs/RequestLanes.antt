@@ -59,10 +59,10 @@ is_accounting (Some (Err discard)) = false
 is_accounting (Some (Ok candidate)) = candidate.request.packet.code == 4
 
 -- whether a lane has an HMAC that is checked
-abbrev pub will_be_signed : Option (Result Candidate Discard) → Bool
-will_be_signed None = false
-will_be_signed (Some (Err discard)) = false
-will_be_signed (Some (Ok candidate)) = checks_message_authenticator candidate.request.packet.code && is_some candidate.summary.after_hmac
+abbrev pub has_hmac_to_check : Option (Result Candidate Discard) → Bool
+has_hmac_to_check None = false
+has_hmac_to_check (Some (Err discard)) = false
+has_hmac_to_check (Some (Ok candidate)) = checks_message_authenticator candidate.request.packet.code && is_some candidate.summary.after_hmac
 
 -- a text whose digest is the Authenticator that an Accounting-Request must have
 abbrev pub HasAccountingText : List Client → List ℕ → Candidate → Type 0
@@ -74,6 +74,6 @@ abbrev pub HasHmacText : List ℕ → Candidate → Type 0
 HasHmacText text candidate = IfSome candidate.summary.after_hmac (λ after.
     (secret : List ℕ) → hmac secret text ≡ message_authenticator candidate.request.packet secret)
 
--- a key under which an HMAC is that of the secret of the candidate's client
+-- a key whose HMACs are those under the secret of the candidate's client
 abbrev pub HasKeyOf : List Client → List ℕ → Candidate → Type 0
 HasKeyOf clients key candidate = (text : List ℕ) → keyed_sum key text ≡ hmac (secret_at clients candidate.request.client) text

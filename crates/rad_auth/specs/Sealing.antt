@@ -1,13 +1,13 @@
 -- The octets of a reply (RFC 2865, section 3; RFC 3579, section 3.2) and of a request (RFC 2866, section 3) under a secret.
-use Rattle.std.specs.Prelude.{◌≡◌, ◌≢◌, ◌⊎◌, ℕ, ◌+◌, ◌≤◌, ◌==◌, if◌then◌else◌, List, [], ◌∷◌, Option, Some, None, IfSome, All, length}
+use Rattle.std.specs.Prelude.{◌≡◌, ◌≢◌, ◌⊎◌, ℕ, ◌==◌, if◌then◌else◌, List, [], ◌∷◌, Option, Some, None, IfSome, All, length}
 use Rattle.std.specs.Simd.Lanes.{zip2}
-use Rattle.rad_packet.specs.Attributes.{Attribute, count, size}
+use Rattle.rad_packet.specs.Attributes.{Attribute, count}
 use Rattle.rad_packet.specs.Bodies.{Body, FitsPacket, packet_of_body}
-use Rattle.rad_packet.specs.Packets.{header_size, length_max, packet_octets}
+use Rattle.rad_packet.specs.Packets.{packet_octets}
 use Rattle.rad_auth.specs.declared.job.Job.{Job}
 use Rattle.rad_auth.specs.Authenticators.{accounting_authenticator, response_authenticator, signed_body}
 
--- the first attribute is no Message-Authenticator
+-- the first attribute, if there is one, is no Message-Authenticator
 abbrev pub BeginsOtherwise : List Attribute → Type 0
 BeginsOtherwise [] = Unit {0}
 BeginsOtherwise (a ∷ list) = a.kind ≢ 80

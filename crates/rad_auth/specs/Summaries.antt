@@ -4,15 +4,16 @@ use Rattle.rad_packet.specs.Attributes.{Attribute, count, has, has_len, of_kind,
 use Rattle.rad_auth.specs.declared.summary.Summary.{Summary}
 use Rattle.rad_auth.specs.Authenticators.{holds_hmac}
 
--- how many octets follow the first attribute that holds an HMAC, if one does
+-- how many octets follow the first attribute that can hold an HMAC, if there is one
 abbrev pub after_hmac : List Attribute → Option ℕ
 after_hmac [] = None
 after_hmac (a ∷ list) = if holds_hmac a then Some (size list) else after_hmac list
 
--- octets with these in place of the HMAC before the last so many
+-- octets with a Value in place of the 16 octets before the last so many
 abbrev pub with_hmac : ℕ → List ℕ → List ℕ → List ℕ
 with_hmac after value octets = take (length octets - (after + 16)) octets ++ value ++ drop (length octets - after) octets
 
+-- what the summary of a packet's attributes says of them
 pub record IsSummary (list : List Attribute) (summary : Summary) : Type 0 where
   pub message_authenticators : summary.message_authenticators ≡ count 80 list
   pub after_hmac : summary.after_hmac ≡ after_hmac list
@@ -20,7 +21,7 @@ pub record IsSummary (list : List Attribute) (summary : Summary) : Type 0 where
   pub has_status_type : summary.has_status_type ≡ has_len 40 4 list
   pub proxy_states : summary.proxy_states ≡ size (of_kind 33 list)
 
--- what is known of that after one more attribute, which so many octets follow
+-- how many octets follow the first attribute that can hold an HMAC, after one more attribute, which so many octets follow
 abbrev pub first_after : ℕ → List ℕ → ℕ → Option ℕ → Option ℕ
 first_after kind value after (Some n) = Some n
 first_after kind value after None = if (kind == 80) && (length value == 16) then Some after else None

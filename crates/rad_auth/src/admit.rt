@@ -1,7 +1,7 @@
 //! Admission: which datagrams are requests of a client, and why the others are discarded.
 ghost use Rattle.std.specs.Prelude.{◌≡◌, ◌<◌, length, map, All, IfOk, Ok};
 ghost use Rattle.rad_packet.specs.Attributes.{has};
-ghost use Rattle.rad_auth.specs.Admission.{HoldsAdmitted, IsAdmitted, IsAnswerable, admission, content_checks, has_bad_authenticator, has_bad_message_authenticator, has_right_message_authenticator, is_taken, lane_admission, lacks_message_authenticator, lacks_status_type, own_datagram, request_in};
+ghost use Rattle.rad_auth.specs.Admission.{HoldsAdmitted, IsAdmitted, IsAnswerable, admission, content_checks, has_bad_authenticator, has_bad_message_authenticator, has_right_message_authenticator, is_code_accepted, lane_admission, lacks_message_authenticator, lacks_status_type, own_datagram, request_in};
 ghost use Rattle.rad_auth.specs.Clients.{Client};
 ghost use Rattle.rad_auth.specs.Datagrams.{datagram_of};
 ghost use Rattle.rad_auth.specs.RequestLanes.{IsAccountingAuthenticator, IsCandidate, IsMessageAuthenticator, IsHmacUnder, OfCandidate, asked_of, verdict_on, verdict_on_lane};
@@ -94,7 +94,7 @@ fn read_request<'a>(clients: &Clients, arrival: &Arrival<'a>) -> Result<Request<
         return Err(Discard::UnknownClient);
     };
     let packet = Packet::read(arrival.octets)?;
-    if !is_taken(arrival.door, packet.code()) {
+    if !is_code_accepted(arrival.door, packet.code()) {
         return Err(Discard::WrongCode);
     }
     Ok(Request {
@@ -107,8 +107,8 @@ fn read_request<'a>(clients: &Clients, arrival: &Arrival<'a>) -> Result<Request<
 }
 
 // Whether a port accepts a Code.
-fn is_taken(door: Door, code: u8) -> bool
-    ensures { result ≡ is_taken door code }
+fn is_code_accepted(door: Door, code: u8) -> bool
+    ensures { result ≡ is_code_accepted door code }
 {
     match door {
         Door::Auth => code == code::ACCESS_REQUEST || code == code::STATUS_SERVER,
@@ -236,8 +236,8 @@ fn has_right_message_authenticator(candidate: &Candidate, mac: &[u8; DIGEST_LEN]
     ensures { (client : Client) → IsHmacUnder client.secret mac.now candidate.now
         → result ≡ has_right_message_authenticator client candidate.now.request.packet }
 {
-    let stands_once = candidate.summary.message_authenticators == 1;
-    if !stands_once {
+    let occurs_once = candidate.summary.message_authenticators == 1;
+    if !occurs_once {
         return false;
     }
     match candidate.request.packet.first(MESSAGE_AUTHENTICATOR) {

@@ -1,4 +1,4 @@
-//! Requests whose Code their port accepts, and whose content is still to be checked.
+//! Requests whose Code the server's port accepts, and whose content is still to be checked.
 ghost use Rattle.std.specs.Prelude.{◌≡◌};
 ghost use Rattle.rad_auth.specs.Admission.{checks_message_authenticator};
 ghost use Rattle.rad_auth.specs.Summaries.{IsSummary};
@@ -8,7 +8,7 @@ use crate::discard::Discard;
 use crate::summary::Summary;
 use rad_packet::code;
 
-/// A request whose Code its port accepts, and what its attributes say.
+/// A request whose Code the server's port accepts, and what its attributes say.
 #[derive(Drop)]
 pub(crate) struct Candidate<'a> {
     pub request: Request<'a>,

@@ -106,7 +106,7 @@ impl Clients {
         self.rows.is_empty()
     }
 
-    /// Whether the other list has the same clients in the same order: addresses, secrets, and whether requests need a
+    /// Whether the other list has the same clients in the same order: addresses, secrets, and whether Access-Requests need a
     /// Message-Authenticator.
     pub fn same(&self, other: &Clients) -> bool
         ensures { IsTrue result ↔ (self.now ≡ other.now) }
@@ -131,7 +131,7 @@ impl Clients {
         &self.rows[index as usize].secret
     }
 
-    /// Whether requests of the client at this place need a Message-Authenticator.
+    /// Whether Access-Requests of the client at this place need a Message-Authenticator.
     pub fn require_message_authenticator(&self, index: u32) -> bool
         requires { index < length self.now }
         ensures { result ≡ (client_of self.now index).require_message_authenticator }

@@ -2,7 +2,7 @@
 ghost use Rattle.std.specs.Prelude.{◌≡◌, ℕ, ◌<◌, ◌^◌, ◌-◌, ◌==◌, ◌&&◌, [], length, All, None, slice_index_or};
 ghost use Rattle.rad_md5.specs.Pieces.{HasFreePiece, message};
 ghost use Rattle.rad_auth.specs.Admission.{checks_message_authenticator};
-ghost use Rattle.rad_auth.specs.RequestLanes.{HasAccountingText, HasKeyOf, HasHmacText, IsAccountingAuthenticator, IsCandidate, IsMessageAuthenticator, OfCandidate, is_accounting, will_be_signed};
+ghost use Rattle.rad_auth.specs.RequestLanes.{HasAccountingText, HasKeyOf, HasHmacText, IsAccountingAuthenticator, IsCandidate, IsMessageAuthenticator, OfCandidate, is_accounting, has_hmac_to_check};
 
 use crate::authenticators::{accounting_pieces, hmac_pieces, nothing};
 use crate::candidate::{Candidate, Lane, checks_message_authenticator};
@@ -75,7 +75,7 @@ pub(crate) fn message_authenticators(
     requires { All (OfCandidate (IsCandidate clients.now)) lanes.now }
     ensures { (j : ℕ) → j < 8 → OfCandidate (IsMessageAuthenticator clients.now (slice_index_or result j [])) (slice_index_or lanes.now j None) }
 {
-    if !lanes.iter().any(will_be_signed) {
+    if !lanes.iter().any(has_hmac_to_check) {
         return [[0; DIGEST_LEN]; LANES];
     }
     let no_key = Key::new(&[]);
@@ -92,8 +92,8 @@ pub(crate) fn message_authenticators(
     ])
 }
 
-fn will_be_signed(lane: &Lane) -> bool
-    ensures { result ≡ will_be_signed lane.now }
+fn has_hmac_to_check(lane: &Lane) -> bool
+    ensures { result ≡ has_hmac_to_check lane.now }
 {
     match lane {
         Some(Ok(candidate)) => {

@@ -74,7 +74,7 @@ entry_of part index d = do
   members ← ok_or (as_table d) (BadValue (record { part = part; index = index; key = keys.Entry }))
   Ok (record { part = part; index = index; members = members })
 
--- The entries from this index on, behind the earlier ones: the first fault is that of the first entry that has one.
+-- The entries from this index on, after the earlier ones: the first fault is that of the first entry that has one.
 unfoldable pub entries_from : {A : Type 0} → Part → (List A → EntryData → Result A ConfigFault) → ℕ → List A → Items → Result (List A) ConfigFault
 entries_from part read index earlier no_items = Ok earlier
 entries_from part read index earlier (item d ds) = do

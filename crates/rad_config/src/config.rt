@@ -92,8 +92,8 @@ impl Config {
         self.window
     }
 
-    /// How long an address is held for a session that hasn't begun, and a challenge can be answered, in seconds: from `window` to
-    /// 86,400.
+    /// How long an address is held for a session that hasn't reported its start, and a challenge can be answered, in seconds:
+    /// from `window` to 86,400.
     pub fn hold(&self) -> u32
         ensures value { result ≡ self.now.hold }
         ensures configuration { IsConfiguration self.now }

@@ -5,6 +5,6 @@
 pub struct Spans {
     /// How long a repeated request gets the stored reply. An ended session keeps its address until this long after it was made.
     pub window: u64,
-    /// How long an address is held for a session that hasn't begun, and a challenge can be answered.
+    /// How long an address is held for a session that hasn't reported its start, and a challenge can be answered.
     pub hold: u64,
 }

@@ -20,11 +20,11 @@ packet_of_body body identifier authenticator = record {
   attributes = body.attributes;
 }
 
--- the packet of a body is not too long
+-- the packet of a body has at most `length_max` octets
 abbrev pub FitsPacket : Body → Type 0
 FitsPacket body = header_size + size body.attributes ≤ length_max
 
--- the octets of the packet of a body
+-- the octets of a body's packet
 abbrev pub body_octets : Body → ℕ → List ℕ → List ℕ
 body_octets body identifier authenticator = packet_octets (packet_of_body body identifier authenticator)
 

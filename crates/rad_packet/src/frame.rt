@@ -50,7 +50,7 @@ impl Frame {
         &self.room[..self.len]
     }
 
-    /// Overwrites the octets from a place on.
+    /// Writes these octets over as many of the frame's, from a place on.
     pub fn overwrite(&mut self, place: usize, octets: &[u8])
         requires { place + length octets.now ≤ length self.old }
         ensures { self.new ≡ overwritten place octets.now self.old }

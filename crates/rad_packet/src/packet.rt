@@ -57,9 +57,9 @@ impl<'a> Packet<'a> {
     ///
     /// Octets past the packet's Length are padding and are ignored. Source: RFC 2865, section 3.
     pub fn read(datagram: &'a [u8]) -> Result<Packet<'a>, ReadFault>
-        // Every octet that is read is in the datagram.
+        // The datagram begins with the octets of the packet that is read.
         ensures read { IfOk result (IsPacket datagram.now) }
-        // A packet that is in the datagram is read.
+        // A packet with whose octets the datagram begins is read.
         ensures only { (p : Packet) → IsPacket datagram.now p → result ≡ Ok p }
         // Which fault it is.
         ensures refused { IfErr result (IsFault datagram.now) }

@@ -42,7 +42,7 @@ fn port(text: &[u8]) -> Option<u16>
     Some(number(text, 5, 65535)? as u16)
 }
 
-// The port that a word names.
+// The server's port that a word names.
 #[tactic(auto, unfolding(crate::specs::DatagramLines::door_of))]
 fn door(text: &[u8]) -> Option<Door>
     ensures { result ≡ door_of text.now }

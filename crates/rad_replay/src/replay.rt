@@ -26,7 +26,8 @@ const CHUNK: usize = 8192;
 /// Reads a transcript, and writes a line for each datagram.
 ///
 /// `TooLong`, `NoDivider` and `Config` are reported in this order; with these, `Read` and `NoMemory` nothing was written.
-/// With `BadLine` the lines of the datagrams before the malformed line were written. With `Write` part of the output was.
+/// With `BadLine` the lines of the datagrams before the malformed line were written. No clause says what was written before
+/// `Write`.
 pub fn run_replay<R: Read, W: Write>(
     alloc: Global,
     reader: &mut R,

@@ -19,7 +19,7 @@ pub enum RunFault {
     /// The configuration has a fault. Nothing was written.
     #[error(transparent)]
     Config(ConfigFault),
-    /// The datagram line with this number, counted from 1, is malformed. The lines before it were answered.
+    /// The datagram line with this number, counted from 1, is malformed. The lines of the datagrams before it were written.
     #[error("datagram {0} is malformed")]
     BadLine(u64),
     /// The writer failed.

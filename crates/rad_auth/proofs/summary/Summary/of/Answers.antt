@@ -24,9 +24,9 @@ loop-attribute-preserved c =
       message_authenticators = omega (arith, c.add.ensures.message_authenticators, known.message_authenticators, ap (count 80) e, count-cons 80 a others);
       after_hmac = ap (λ o. option_or o (after_hmac others)) (c.add.ensures.after_hmac ∙ ap (λ octets. first_after a.kind a.value (length octets) was.after_hmac) c.octets.ensures)
           ∙ after_hmac-step was.after_hmac a others ∙ ap (λ list. option_or was.after_hmac (after_hmac list)) (sym e) ∙ known.after_hmac;
-      has_eap_message = ap (λ told. told || list_any (is_of 79) others) c.add.ensures.has_eap_message
+      has_eap_message = ap (λ so_far. so_far || list_any (is_of 79) others) c.add.ensures.has_eap_message
           ∙ any-step (is_of 79) was.has_eap_message a others ∙ ap (λ list. was.has_eap_message || list_any (is_of 79) list) (sym e) ∙ known.has_eap_message;
-      has_status_type = ap (λ told. told || list_any (is_of_len 40 4) others) c.add.ensures.has_status_type
+      has_status_type = ap (λ so_far. so_far || list_any (is_of_len 40 4) others) c.add.ensures.has_status_type
           ∙ any-step (is_of_len 40 4) was.has_status_type a others
           ∙ ap (λ list. was.has_status_type || list_any (is_of_len 40 4) list) (sym e) ∙ known.has_status_type;
       proxy_states = omega (arith, c.add.ensures.proxy_states, known.proxy_states, ap (λ list. size (of_kind 33 list)) e, size-of_kind-cons 33 a others);
