@@ -1,8 +1,8 @@
 -- Eight lanes of replies on their way to their frames: the header, the HMAC and the digest of each.
-use Rattle.std.specs.Prelude.{◌≡◌, ℕ, ◌+◌, ◌==◌, not, Bool, false, List, ◌∷◌, ◌++◌, replicate, Option, Some, None, IfSome, IsTrue}
+use Rattle.std.specs.Prelude.{◌≡◌, ℕ, ◌+◌, ◌<◌, ◌==◌, not, Bool, false, List, [], ◌∷◌, ◌++◌, replicate, slice_index_or, Option, Some, None, IfSome, IsTrue}
 use Rattle.std.specs.Int.{w16, to_be_bytes}
 use Rattle.md5.specs.Md5.{md5}
-use Rattle.rad_hmac.specs.Hmac.{hmac}
+use Rattle.rad_hmac.specs.Hmac.{hmac, keyed_sum}
 use Rattle.rad_packet.specs.Attributes.{size}
 use Rattle.rad_packet.specs.Bodies.{packet_of_body}
 use Rattle.rad_packet.specs.Packets.{Packet, header_size}
@@ -41,6 +41,17 @@ IsReplyHmac lane mac = IfSome lane (HasReplyHmac mac)
 
 abbrev pub IsReplyDigest : Option Job → List ℕ → Type 0
 IsReplyDigest lane digest = IfSome lane (HasReplyDigest digest)
+
+-- the same of eight lanes
+abbrev pub AreReplyHmacs : List (Option Job) → List (List ℕ) → Type 0
+AreReplyHmacs jobs macs = (j : ℕ) → j < 8 → IsReplyHmac (slice_index_or jobs j None) (slice_index_or macs j [])
+
+abbrev pub AreReplyDigests : List (Option Job) → List (List ℕ) → Type 0
+AreReplyDigests jobs digests = (j : ℕ) → j < 8 → IsReplyDigest (slice_index_or jobs j None) (slice_index_or digests j [])
+
+-- a key whose HMACs are those under the secret of a reply
+abbrev pub IsKeyOf : List ℕ → Job → Type 0
+IsKeyOf key job = (text : List ℕ) → keyed_sum key text ≡ hmac job.secret.now text
 
 -- a text whose HMAC is the reply's Message-Authenticator, if it has one
 abbrev pub HasReplyHmacText : List ℕ → Job → Type 0

@@ -2,7 +2,7 @@
 ghost use Rattle.std.specs.Prelude.{◌≡◌, ℕ, ◌+◌, ◌<◌, ◌^◌, ◌-◌, List, [], length, map, slice_index_or, None, IfSome};
 ghost use Rattle.rad_hmac.specs.Hmac.{hmac, keyed_sum};
 ghost use Rattle.rad_md5.specs.Pieces.{HasFreePiece, message};
-ghost use Rattle.rad_auth.specs.ReplyLanes.{HasDigestedText, HasReplyHmac, HasReplyHmacText, IsReplyDigest, IsReplyHmac, has_hmac, header_octets, lane_header};
+ghost use Rattle.rad_auth.specs.ReplyLanes.{AreReplyDigests, AreReplyHmacs, IsKeyOf, HasDigestedText, HasReplyHmac, HasReplyHmacText, IsReplyDigest, IsReplyHmac, has_hmac, header_octets, lane_header};
 ghost use Rattle.rad_packet.specs.Bodies.{FitsPacket};
 ghost use Rattle.rad_auth.specs.Sealing.{AreJobs, IsJob};
 
@@ -66,7 +66,7 @@ pub(crate) fn reply_hmacs<'x>(
 ) -> [[u8; DIGEST_LEN]; LANES]
     requires jobs { AreJobs jobs.now }
     requires headers { headers.now ≡ map lane_header jobs.now }
-    ensures { (j : ℕ) → j < 8 → IsReplyHmac (slice_index_or jobs.now j None) (slice_index_or result j []) }
+    ensures { AreReplyHmacs jobs.now result }
 {
     if !jobs.iter().any(has_hmac) {
         return [SIXTEEN_ZEROS; LANES];
@@ -96,7 +96,7 @@ fn has_hmac(job: &Option<Job>) -> bool
 
 // The key for a lane.
 fn key<'x>(job: &'x Option<Job<'x>>, no_key: &'x Key) -> &'x Key
-    ensures { IfSome job.now (λ job. (text : List ℕ) → keyed_sum result.now text ≡ hmac job.secret.now text) }
+    ensures { IfSome job.now (IsKeyOf result.now) }
 {
     match job {
         None => no_key,
@@ -141,8 +141,8 @@ pub(crate) fn reply_digests(
 ) -> [[u8; DIGEST_LEN]; LANES]
     requires jobs { AreJobs jobs.now }
     requires headers { headers.now ≡ map lane_header jobs.now }
-    requires macs { (j : ℕ) → j < 8 → IsReplyHmac (slice_index_or jobs.now j None) (slice_index_or macs.now j []) }
-    ensures { (j : ℕ) → j < 8 → IsReplyDigest (slice_index_or jobs.now j None) (slice_index_or result j []) }
+    requires macs { AreReplyHmacs jobs.now macs.now }
+    ensures { AreReplyDigests jobs.now result }
 {
     let [a, b, c, d, e, f, g, h] = jobs;
     digest8(&[

@@ -2,7 +2,7 @@
 ghost use Rattle.std.specs.Prelude.{◌≡◌, ◌+◌, ◌==◌, ◌&&◌, ◌||◌, ◌<◌, ◌≤◌, ◌^◌, if◌then◌else◌, length};
 ghost use Rattle.std.specs.List.{AllByRecursion};
 ghost use Rattle.rad_packet.specs.Attributes.{IsAttribute, size};
-ghost use Rattle.rad_auth.specs.Summaries.{IsSummary, first_after};
+ghost use Rattle.rad_auth.specs.Summaries.{IsSummary, HasNextHmac};
 
 use rad_packet::attribute::{ACCT_STATUS_TYPE, EAP_MESSAGE, MESSAGE_AUTHENTICATOR, PROXY_STATE};
 use rad_packet::{Attribute, Attributes};
@@ -48,7 +48,7 @@ impl Summary {
         requires short { self.old.proxy_states < 2 ^ 32 }
         requires value { length attribute.now.value.now ≤ 253 }
         ensures message_authenticators { self.new.message_authenticators ≡ self.old.message_authenticators + (if attribute.now.kind == 80 then 1 else 0) }
-        ensures after_hmac { self.new.after_hmac ≡ first_after attribute.now.kind attribute.now.value.now after self.old.after_hmac }
+        ensures after_hmac { HasNextHmac attribute.now.kind attribute.now.value.now after self.old self.new }
         ensures has_eap_message { self.new.has_eap_message ≡ (self.old.has_eap_message || attribute.now.kind == 79) }
         ensures has_status_type { self.new.has_status_type ≡ (self.old.has_status_type || (attribute.now.kind == 40 && length attribute.now.value.now == 4)) }
         ensures proxy_states { self.new.proxy_states ≡ self.old.proxy_states + (if attribute.now.kind == 33 then length attribute.now.value.now + 2 else 0) }
