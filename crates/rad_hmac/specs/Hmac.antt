@@ -4,7 +4,7 @@ use Rattle.std.specs.Prelude.{ℕ, ◌-◌, nat_lt, if◌then◌else◌, List, �
 use Rattle.std.specs.Borrow.{Bor}
 use Rattle.std.specs.Simd.Lanes.{zip2}
 use Rattle.md5.specs.Md5.{md5}
-use Rattle.rad_md5.specs.Pieces.{message}
+use Rattle.rad_md5.specs.Pieces.{message, message_limit}
 
 -- the octet 0x36, 64 times
 abbrev pub ipad : List ℕ
@@ -33,6 +33,10 @@ keyed_sum key text = md5 (xor key opad ++ md5 (xor key ipad ++ text))
 -- HMAC of a text under a key
 abbrev pub hmac : List ℕ → List ℕ → List ℕ
 hmac key text = keyed_sum (padded_key key) text
+
+-- a text has fewer octets than this: a pad of 64 octets comes before it, and the two are one message
+abbrev pub text_limit : ℕ
+text_limit = message_limit - 64
 
 -- a key of 64 octets, and a message in pieces
 abbrev pub Keyed : Type 0

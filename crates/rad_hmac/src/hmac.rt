@@ -1,9 +1,9 @@
 //! HMACs of messages under keys, eight at a time.
-ghost use Rattle.std.specs.Prelude.{◌≡◌, ◌-◌, ◌^◌, ◌<◌, ◌++◌, length, map, replicate, All};
+ghost use Rattle.std.specs.Prelude.{◌≡◌, ◌<◌, ◌++◌, length, map, replicate, All};
 ghost use Rattle.std.specs.Simd.Lanes.{zip2};
 ghost use Rattle.md5.specs.Md5.{md5};
 ghost use Rattle.rad_md5.specs.Pieces.{HasFreePiece, message};
-ghost use Rattle.rad_hmac.specs.Hmac.{xor, sum_of, keyed_message};
+ghost use Rattle.rad_hmac.specs.Hmac.{keyed_message, sum_of, text_limit, xor};
 
 use crate::key::Key;
 use rad_md5::{BLOCK_LEN, DIGEST_LEN, LANES, Pieces, digest8};
@@ -20,7 +20,7 @@ const OPAD: u8 = 0x5C;
 /// Source: RFC 2104, section 2.
 pub fn hmac8(messages: &[(&Key, Pieces); LANES]) -> [[u8; DIGEST_LEN]; LANES]
     requires free { All (λ keyed. HasFreePiece keyed.1) messages.now }
-    requires short { All (λ keyed. length (keyed_message keyed) < 2 ^ 32 - 64) messages.now }
+    requires short { All (λ keyed. length (keyed_message keyed) < text_limit) messages.now }
     ensures { result ≡ map sum_of messages.now }
 {
     let inner = inner8(&pads8(messages, IPAD), messages);
@@ -52,7 +52,7 @@ fn inner8(
     messages: &[(&Key, Pieces); LANES],
 ) -> [[u8; DIGEST_LEN]; LANES]
     requires free { All (λ keyed. HasFreePiece keyed.1) messages.now }
-    requires short { All (λ keyed. length (keyed_message keyed) < 2 ^ 32 - 64) messages.now }
+    requires short { All (λ keyed. length (keyed_message keyed) < text_limit) messages.now }
     ensures { result ≡ zip2 (λ pad keyed. md5 (pad ++ keyed_message keyed)) pads.now messages.now }
 {
     let [pa, pb, pc, pd, pe, pf, pg, ph] = pads;

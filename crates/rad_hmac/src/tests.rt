@@ -1,7 +1,7 @@
 //! The HMACs of RFC 2202, section 2, and HMACs and digests by Python's hmac and hashlib.
-ghost use Rattle.std.specs.Prelude.{◌≡◌, ◌-◌, ◌<◌, ◌^◌, ◌≤◌, length};
+ghost use Rattle.std.specs.Prelude.{◌≡◌, ◌<◌, ◌≤◌, length};
 ghost use Rattle.rad_md5.specs.Pieces.{HasFreePiece, message};
-ghost use Rattle.rad_hmac.specs.Hmac.{hmac};
+ghost use Rattle.rad_hmac.specs.Hmac.{hmac, text_limit};
 
 use crate::{Key, hmac8};
 use md5::{Digest, Md5};
@@ -15,7 +15,7 @@ fn holds(rt: &impl Abort, it: bool, what: &str, name: &str) {
 
 // A message in three slices of which one is empty.
 fn pieces(octets: &[u8]) -> Pieces<'_>
-    requires { length octets.now < 2 ^ 32 - 64 }
+    requires { length octets.now < text_limit }
     ensures free { HasFreePiece result }
     ensures message { message result ≡ octets.now }
 {
@@ -25,7 +25,7 @@ fn pieces(octets: &[u8]) -> Pieces<'_>
 
 // The HMAC of one message, in the third lane; the others have empty messages.
 fn hmac_of(key: &[u8], message: &[u8]) -> [u8; 16]
-    requires { length message.now < 2 ^ 32 - 64 }
+    requires { length message.now < text_limit }
     ensures { result ≡ hmac key.now message.now }
 {
     let key = Key::new(key);

@@ -1,5 +1,5 @@
 -- Messages in pieces. An octet is a number below 256, a message is a list of octets, and its pieces are lists of octets.
-use Rattle.std.specs.Prelude.{◌≡◌, ℕ, List, [], map, slice_index_or}
+use Rattle.std.specs.Prelude.{◌≡◌, ℕ, ◌^◌, List, [], map, slice_index_or}
 use Rattle.std.specs.Borrow.{Bor}
 use Rattle.std.specs.List.{concat}
 use Rattle.md5.specs.Md5.{md5}
@@ -11,6 +11,10 @@ pieces_of slices = map (λ slice. slice.now) slices
 -- the message: its pieces one after the other
 abbrev pub message : List (List ℕ) → List ℕ
 message pieces = concat pieces
+
+-- a message has fewer octets than this: chosen, so that no length, in octets or in bits, overflows
+abbrev pub message_limit : ℕ
+message_limit = 2 ^ 32
 
 -- the fifth piece is empty, so there is room for one more
 abbrev pub HasFreePiece : List (List ℕ) → Type 0

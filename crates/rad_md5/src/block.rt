@@ -3,7 +3,7 @@ ghost use Rattle.std.specs.Prelude.{◌≡◌, ℕ, ◌+◌, ◌-◌, ◌*◌, �
 ghost use Rattle.md5.specs.Md5.{block_words, padding, word_at};
 ghost use Rattle.rad_md5.specs.Blocks.{block_at, block_count};
 ghost use Rattle.rad_md5.specs.Lanes.{ArePlaces, HasEnded, IsLive, lane_message, words_of};
-ghost use Rattle.rad_md5.specs.Pieces.{message};
+ghost use Rattle.rad_md5.specs.Pieces.{message, message_limit};
 
 use crate::lanes::LANES;
 use crate::pieces::Pieces;
@@ -127,7 +127,7 @@ fn pad(block: &mut [u8; BLOCK_LEN], at: usize, n: usize, len: usize)
     requires begun { n * 64 ≤ len → n * 64 + at ≡ len }
     requires over { len < n * 64 → at ≡ 0 }
     requires last { n < (len + length (padding len)) / 64 }
-    requires short { len < 2 ^ 32 }
+    requires short { len < message_limit }
     ensures { block.new ≡ take at block.old ++ take (64 - at) (drop (n * 64 - len) (padding len)) }
 {
     // The bit 1 is in this block, or in the one before.

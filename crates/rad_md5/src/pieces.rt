@@ -1,6 +1,6 @@
 //! Messages in pieces.
-ghost use Rattle.std.specs.Prelude.{◌≡◌, ◌+◌, ◌<◌, ◌^◌, ◌∷◌, ◌++◌, length, take};
-ghost use Rattle.rad_md5.specs.Pieces.{HasFreePiece, message, pieces_of};
+ghost use Rattle.std.specs.Prelude.{◌≡◌, ◌+◌, ◌<◌, ◌∷◌, ◌++◌, length, take};
+ghost use Rattle.rad_md5.specs.Pieces.{HasFreePiece, message, message_limit, pieces_of};
 
 use std::marker::Model;
 
@@ -11,20 +11,20 @@ pub struct Pieces<'a> {
 }
 
 impl<'a> Model for Pieces<'a> {
-    ghost use Rattle.std.specs.Prelude.{ℕ, List, length, ◌<◌, ◌^◌};
-    ghost use Rattle.rad_md5.specs.Pieces.{message, pieces_of};
+    ghost use Rattle.std.specs.Prelude.{ℕ, List, length, ◌<◌};
+    ghost use Rattle.rad_md5.specs.Pieces.{message, message_limit, pieces_of};
 
     ghost Value = { List (List ℕ) };
 
     ghost view = { λ p. pieces_of p.slices };
 
-    ghost invariant = { λ p. length (message (pieces_of p.slices)) < 2 ^ 32 };
+    ghost invariant = { λ p. length (message (pieces_of p.slices)) < message_limit };
 }
 
 impl<'a> Pieces<'a> {
     /// The message of these slices, one after the other.
     pub fn of(slices: [&'a [u8]; 5]) -> Pieces<'a>
-        requires { length (message (pieces_of slices)) < 2 ^ 32 }
+        requires { length (message (pieces_of slices)) < message_limit }
         ensures { result ≡ pieces_of slices.entry }
     {
         Pieces { slices }
@@ -35,7 +35,7 @@ impl<'a> Pieces<'a> {
     /// Its fifth slice must be empty, to make room for them.
     pub fn behind(&self, front: &'a [u8]) -> Pieces<'a>
         requires free { HasFreePiece self.now }
-        requires short { length front.now + length (message self.now) < 2 ^ 32 }
+        requires short { length front.now + length (message self.now) < message_limit }
         ensures pieces { result ≡ front.now ∷ take 4 self.now }
         ensures message { message result ≡ front.now ++ message self.now }
     {
@@ -48,7 +48,7 @@ impl<'a> Pieces<'a> {
     /// How many octets the message has.
     pub(crate) fn len(&self) -> usize
         ensures value { result ≡ length (message self.now) }
-        ensures bound { result < 2 ^ 32 }
+        ensures bound { result < message_limit }
     {
         let [a, b, c, d, e] = &self.slices;
         a.len() + b.len() + c.len() + d.len() + e.len()

@@ -1,5 +1,6 @@
 //! The digests of RFC 1321, appendix A.5, and digests by the kit's own crate, one message at a time.
-ghost use Rattle.std.specs.Prelude.{◌<◌, ◌^◌, ◌≤◌, length};
+ghost use Rattle.std.specs.Prelude.{◌<◌, ◌≤◌, length};
+ghost use Rattle.rad_md5.specs.Pieces.{message_limit};
 
 use md5::{Digest, Md5};
 use rad_md5::{DIGEST_LEN, Pieces, digest_each, digest8};
@@ -24,7 +25,7 @@ fn is_digest(
 
 // A message in slices of these lengths, as far as its octets reach. The fifth slice has the rest.
 fn cut(octets: &[u8], lens: [usize; 4]) -> Pieces<'_>
-    requires { length octets.now < 2 ^ 32 }
+    requires { length octets.now < message_limit }
 {
     let [a, b, c, d] = lens;
     let (a, rest) = octets.split_at(a.min(octets.len()));
@@ -36,14 +37,14 @@ fn cut(octets: &[u8], lens: [usize; 4]) -> Pieces<'_>
 
 // A message in one slice.
 fn whole(octets: &[u8]) -> Pieces<'_>
-    requires { length octets.now < 2 ^ 32 }
+    requires { length octets.now < message_limit }
 {
     cut(octets, [0; 4])
 }
 
 // The digest of one message, in the third lane. The other lanes digest no octets.
 fn digest(octets: &[u8]) -> [u8; DIGEST_LEN]
-    requires { length octets.now < 2 ^ 32 }
+    requires { length octets.now < message_limit }
 {
     let digests = digest8(&[
         whole(&[]),
@@ -160,7 +161,7 @@ const LENS: [u16; 8] = [0, 3, 55, 56, 64, 80, 119, 4096];
 
 // The first octets, or all of them where there are fewer.
 fn front(octets: &[u8], len: u16) -> &[u8]
-    ensures { length result.now < 2 ^ 32 }
+    ensures { length result.now < message_limit }
 {
     &octets[..octets.len().min(len as usize)]
 }
@@ -227,7 +228,7 @@ const LENGTHS: [(&str, u8, u8); 2] = [("rising", 1, 0), ("in no order", 53, 61)]
 
 // The octets of message i.
 fn octets_of(i: u8, factor: u8, first: u8) -> &'static [u8]
-    ensures { length result.now < 2 ^ 32 }
+    ensures { length result.now < message_limit }
 {
     front(
         &[0x61; 131],
