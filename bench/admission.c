@@ -1,4 +1,4 @@
-// Nanoseconds a datagram: rad_auth's check8 and seal8 beside the digests and sums alone of the same datagrams and
+// Nanoseconds a datagram: rad_auth's check8 and seal8 beside the digests and HMACs alone of the same datagrams and
 // replies, made one after the other by the toolchain's md5.
 #include "bench.h"
 #include <stdbool.h>

@@ -1,4 +1,4 @@
-// Nanoseconds a digest and a sum: rad_md5 and rad_hmac beside the toolchain's md5 and OpenSSL, over the same messages.
+// Nanoseconds a digest and an HMAC: rad_md5 and rad_hmac beside the toolchain's md5 and OpenSSL, on the same messages.
 #define OPENSSL_SUPPRESS_DEPRECATED
 #include "bench.h"
 #include <openssl/md5.h>
@@ -22,7 +22,7 @@ static void openssl_md5(const uint8_t *slots, size_t slots_len, const uint32_t *
         for (size_t i = 0; i < lengths_len; i++) MD5(slots + SLOT * i, lengths[i], out + DIGEST * i);
 }
 
-static void digest_behind(const uint8_t *front, const uint8_t *octets, size_t len, uint8_t *digest) {
+static void digest_after(const uint8_t *front, const uint8_t *octets, size_t len, uint8_t *digest) {
     MD5_CTX context;
     MD5_Init(&context);
     MD5_Update(&context, front, BLOCK);
@@ -43,8 +43,8 @@ static void openssl_hmac(const uint8_t *slots, size_t slots_len, const uint32_t 
     }
     for (uint32_t round = 0; round < rounds; round++)
         for (size_t i = 0; i < lengths_len; i++) {
-            digest_behind(inner_pad, slots + SLOT * i, lengths[i], inner);
-            digest_behind(outer_pad, inner, DIGEST, out + DIGEST * i);
+            digest_after(inner_pad, slots + SLOT * i, lengths[i], inner);
+            digest_after(outer_pad, inner, DIGEST, out + DIGEST * i);
         }
 }
 

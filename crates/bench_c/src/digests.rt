@@ -63,7 +63,7 @@ fn eight<'a>(slots: &'a [u8], lengths: &[u32], i: usize) -> [Pieces<'a>; LANES]
 }
 
 // The HMACs of eight messages from the i-th on.
-fn sum_eight(key: &Key, slots: &[u8], lengths: &[u32], i: usize) -> [[u8; DIGEST_LEN]; LANES]
+fn hmac_eight(key: &Key, slots: &[u8], lengths: &[u32], i: usize) -> [[u8; DIGEST_LEN]; LANES]
     requires places { i + 8 ≤ length lengths.now }
     requires slots { 256 * length lengths.now ≤ length slots.now }
 {
@@ -150,7 +150,7 @@ pub extern "C" fn radpool_hmac8(slots: &[u8], lengths: &[u32], rounds: u32, out:
         for group in 0..lengths.len() / LANES {
             let i = LANES * group;
             lay_out(
-                &sum_eight(&key, slots, lengths, i),
+                &hmac_eight(&key, slots, lengths, i),
                 &mut out[DIGEST_LEN * i..],
             );
         }

@@ -1,7 +1,7 @@
 -- Eight lanes, one by one and as a list.
 use Rattle.std.proofs.Common.{◌≡◌, ℕ, zero, suc, ◌<◌, List, [], ◌∷◌, length, get_or, Option, Some, None, Result, Ok, Err, refl, sym, subst, ◌∙◌, arith}
 use Rattle.std.specs.Prelude.{map, All, IfSome}
-use Rattle.rad_hmac.specs.Hmac.{hmac, keyed_sum}
+use Rattle.rad_hmac.specs.Hmac.{hmac, mac_under}
 use Rattle.rad_auth.specs.Clients.{Client, secret_at}
 use Rattle.rad_auth.specs.RequestLanes.{HasKeyOf, HasHmacText, IsMessageAuthenticator, OfCandidate}
 use Rattle.rad_auth.specs.ReplyLanes.{IsReplyHmac}
@@ -47,7 +47,7 @@ below_eight P p0 p1 p2 p3 p4 p5 p6 p7 (suc (suc (suc (suc (suc (suc (suc (suc n)
 
 -- the HMAC of a lane's text under its key
 lane_hmac : (clients : List Client) (key text mac : List ℕ) (lane : Option (Result Candidate Discard))
-    → OfCandidate (HasKeyOf clients key) lane → OfCandidate (HasHmacText text) lane → mac ≡ keyed_sum key text
+    → OfCandidate (HasKeyOf clients key) lane → OfCandidate (HasHmacText text) lane → mac ≡ mac_under key text
     → OfCandidate (IsMessageAuthenticator clients mac) lane
 lane_hmac clients key text mac None keyed signed e = tt
 lane_hmac clients key text mac (Some (Err discard)) keyed signed e = tt
@@ -60,21 +60,21 @@ lane_hmac clients key text mac (Some (Ok candidate)) keyed signed e = λ taken. 
 
 pub lane_hmac_at : (clients : List Client) (lanes : List (Option (Result Candidate Discard))) (j : ℕ) (lane : Option (Result Candidate Discard)) (key text mac : List ℕ)
     → length lanes ≡ 8 → j < 8 → lane ≡ get_or lanes j lane
-    → OfCandidate (HasKeyOf clients key) (get_or lanes j lane) → OfCandidate (HasHmacText text) (get_or lanes j lane) → mac ≡ keyed_sum key text
+    → OfCandidate (HasKeyOf clients key) (get_or lanes j lane) → OfCandidate (HasHmacText text) (get_or lanes j lane) → mac ≡ mac_under key text
     → OfCandidate (IsMessageAuthenticator clients mac) (get_or lanes j None)
 lane_hmac_at clients lanes j lane key text mac long lt is keyed signed e =
     subst (OfCandidate (IsMessageAuthenticator clients mac)) (sym is ∙ get_or_read_under lanes j 8 lane None is lt (sym long)) (lane_hmac clients key text mac (get_or lanes j lane) keyed signed e)
 
 -- the HMAC of a reply's text under its key
 reply_hmac : (key text mac : List ℕ) (lane : Option Job)
-    → IfSome lane (λ job. (text : List ℕ) → keyed_sum key text ≡ hmac job.secret.now text) → IfSome lane (reply.HasReplyHmacText text) → mac ≡ keyed_sum key text
+    → IfSome lane (λ job. (text : List ℕ) → mac_under key text ≡ hmac job.secret.now text) → IfSome lane (reply.HasReplyHmacText text) → mac ≡ mac_under key text
     → IsReplyHmac lane mac
 reply_hmac key text mac None keyed signed e = tt
 reply_hmac key text mac (Some job) keyed signed e = λ has. e ∙ keyed text ∙ signed has
 
 pub reply_hmac_at : (jobs : List (Option Job)) (j : ℕ) (lane : Option Job) (key text mac : List ℕ)
     → length jobs ≡ 8 → j < 8 → lane ≡ get_or jobs j lane
-    → IfSome (get_or jobs j lane) (λ job. (text : List ℕ) → keyed_sum key text ≡ hmac job.secret.now text) → IfSome (get_or jobs j lane) (reply.HasReplyHmacText text) → mac ≡ keyed_sum key text
+    → IfSome (get_or jobs j lane) (λ job. (text : List ℕ) → mac_under key text ≡ hmac job.secret.now text) → IfSome (get_or jobs j lane) (reply.HasReplyHmacText text) → mac ≡ mac_under key text
     → IsReplyHmac (get_or jobs j None) mac
 reply_hmac_at jobs j lane key text mac long lt is keyed signed e =
     subst (λ job. IsReplyHmac job mac) (sym is ∙ get_or_read_under jobs j 8 lane None is lt (sym long)) (reply_hmac key text mac (get_or jobs j lane) keyed signed e)

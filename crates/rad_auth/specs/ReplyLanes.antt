@@ -2,7 +2,7 @@
 use Rattle.std.specs.Prelude.{◌≡◌, ℕ, ◌+◌, ◌<◌, ◌==◌, not, Bool, false, List, [], ◌∷◌, ◌++◌, replicate, slice_index_or, Option, Some, None, IfSome, IsTrue}
 use Rattle.std.specs.Int.{w16, to_be_bytes}
 use Rattle.md5.specs.Md5.{md5}
-use Rattle.rad_hmac.specs.Hmac.{hmac, keyed_sum}
+use Rattle.rad_hmac.specs.Hmac.{hmac, mac_under}
 use Rattle.rad_packet.specs.Attributes.{size}
 use Rattle.rad_packet.specs.Bodies.{packet_of_body}
 use Rattle.rad_packet.specs.Packets.{Packet, header_size}
@@ -51,7 +51,7 @@ AreReplyDigests jobs digests = (j : ℕ) → j < 8 → IsReplyDigest (slice_inde
 
 -- a key whose HMACs are those under the secret of a reply
 abbrev pub IsKeyOf : List ℕ → Job → Type 0
-IsKeyOf key job = (text : List ℕ) → keyed_sum key text ≡ hmac job.secret.now text
+IsKeyOf key job = (text : List ℕ) → mac_under key text ≡ hmac job.secret.now text
 
 -- a text whose HMAC is the reply's Message-Authenticator, if it has one
 abbrev pub HasReplyHmacText : List ℕ → Job → Type 0

@@ -2,7 +2,7 @@
 -- made for it.
 use Rattle.std.specs.Prelude.{◌≡◌, ℕ, ◌<◌, ◌==◌, ◌&&◌, Bool, false, is_some, List, length, Option, Some, None, Result, Ok, Err, option_map, IfOk, IfSome, IsTrue}
 use Rattle.md5.specs.Md5.{md5}
-use Rattle.rad_hmac.specs.Hmac.{hmac, keyed_sum}
+use Rattle.rad_hmac.specs.Hmac.{hmac, mac_under}
 use Rattle.rad_packet.specs.Ladders.{◌>>=◌}
 use Rattle.rad_packet.specs.Packets.{Packet}
 use Rattle.rad_auth.specs.Admission.{content_checks, checks_message_authenticator, own_datagram, request_in}
@@ -76,4 +76,4 @@ HasHmacText text candidate = IfSome candidate.summary.after_hmac (λ after.
 
 -- a key whose HMACs are those under the secret of the candidate's client
 abbrev pub HasKeyOf : List Client → List ℕ → Candidate → Type 0
-HasKeyOf clients key candidate = (text : List ℕ) → keyed_sum key text ≡ hmac (secret_at clients candidate.request.client) text
+HasKeyOf clients key candidate = (text : List ℕ) → mac_under key text ≡ hmac (secret_at clients candidate.request.client) text

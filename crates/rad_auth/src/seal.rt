@@ -1,6 +1,6 @@
 //! Sealing: the octets of replies, and of requests, under a secret.
 ghost use Rattle.std.specs.Prelude.{◌≡◌, ◌↔◌, ◌+◌, ◌<◌, ◌≤◌, ◌^◌, ◌-◌, length, IsOk, IfSome, OnOk, OnErr};
-ghost use Rattle.rad_hmac.specs.Hmac.{hmac, keyed_sum};
+ghost use Rattle.rad_hmac.specs.Hmac.{hmac, mac_under};
 ghost use Rattle.rad_md5.specs.Pieces.{HasFreePiece, message};
 ghost use Rattle.rad_packet.specs.Bodies.{FitsPacket};
 ghost use Rattle.rad_auth.specs.Summaries.{hmac_before, with_hmac};
@@ -128,7 +128,7 @@ fn put_hmac(frame: &mut Frame, after: usize, secret: &Secret)
 fn mac(key: &Key, text: Pieces) -> [u8; DIGEST_LEN]
     requires free { HasFreePiece text }
     requires short { length (message text) < 2 ^ 32 - 64 }
-    ensures { result ≡ keyed_sum key.now (message text.entry) }
+    ensures { result ≡ mac_under key.now (message text.entry) }
 {
     let [mac, ..] = hmac8(&[
         (key, text),

@@ -29,7 +29,7 @@ impl Model for Secret {
 
 impl Secret {
     ghost use Rattle.std.specs.Prelude.{◌≡◌, ℕ, List};
-    ghost use Rattle.rad_hmac.specs.Hmac.{hmac, keyed_sum};
+    ghost use Rattle.rad_hmac.specs.Hmac.{hmac, mac_under};
     ghost use Rattle.rad_auth.specs.Clients.{IsSecret};
 
     /// The secret of these octets, of which there are 1 to `SECRET_MAX`.
@@ -56,7 +56,7 @@ impl Secret {
 
     /// The HMAC key.
     pub(crate) fn key(&self) -> &Key
-        ensures { (text : List ℕ) → keyed_sum result.now text ≡ hmac self.now text }
+        ensures { (text : List ℕ) → mac_under result.now text ≡ hmac self.now text }
     {
         &self.key
     }

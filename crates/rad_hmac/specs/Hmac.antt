@@ -1,5 +1,5 @@
 -- HMAC with MD5 as H (RFC 2104, section 2), whose blocks have 64 octets. An octet is a number below 256; keys, pads,
--- texts and sums are lists of octets, in the order in which they are sent.
+-- texts and HMACs are lists of octets, in the order in which they are sent.
 use Rattle.std.specs.Prelude.{ℕ, ◌-◌, nat_lt, if◌then◌else◌, List, ◌++◌, length, replicate, bit_xor}
 use Rattle.std.specs.Borrow.{Bor}
 use Rattle.std.specs.Simd.Lanes.{zip2}
@@ -27,12 +27,12 @@ unfoldable pub padded_key : List ℕ → List ℕ
 padded_key key = actual_key key ++ replicate (64 - length (actual_key key)) 0
 
 -- H(K XOR opad, H(K XOR ipad, text)), where K has 64 octets
-unfoldable pub keyed_sum : List ℕ → List ℕ → List ℕ
-keyed_sum key text = md5 (xor key opad ++ md5 (xor key ipad ++ text))
+unfoldable pub mac_under : List ℕ → List ℕ → List ℕ
+mac_under key text = md5 (xor key opad ++ md5 (xor key ipad ++ text))
 
 -- HMAC of a text under a key
 abbrev pub hmac : List ℕ → List ℕ → List ℕ
-hmac key text = keyed_sum (padded_key key) text
+hmac key text = mac_under (padded_key key) text
 
 -- a text has fewer octets than this: a pad of 64 octets comes before it, and the two are one message
 abbrev pub text_limit : ℕ
@@ -46,6 +46,6 @@ Keyed = Bor (List ℕ) × List (List ℕ)
 abbrev pub keyed_message : Keyed → List ℕ
 keyed_message keyed = message keyed.1
 
--- its sum under its key
-abbrev pub sum_of : Keyed → List ℕ
-sum_of keyed = keyed_sum keyed.0.now (keyed_message keyed)
+-- its HMAC under its key
+abbrev pub mac_of : Keyed → List ℕ
+mac_of keyed = mac_under keyed.0.now (keyed_message keyed)

@@ -3,7 +3,7 @@ ghost use Rattle.std.specs.Prelude.{◌≡◌, ◌<◌, ◌++◌, length, map, r
 ghost use Rattle.std.specs.Simd.Lanes.{zip2};
 ghost use Rattle.md5.specs.Md5.{md5};
 ghost use Rattle.rad_md5.specs.Pieces.{HasFreePiece, message};
-ghost use Rattle.rad_hmac.specs.Hmac.{keyed_message, sum_of, text_limit, xor};
+ghost use Rattle.rad_hmac.specs.Hmac.{keyed_message, mac_of, text_limit, xor};
 
 use crate::key::Key;
 use rad_md5::{BLOCK_LEN, DIGEST_LEN, LANES, Pieces, digest8};
@@ -21,7 +21,7 @@ const OPAD: u8 = 0x5C;
 pub fn hmac8(messages: &[(&Key, Pieces); LANES]) -> [[u8; DIGEST_LEN]; LANES]
     requires free { All (λ keyed. HasFreePiece keyed.1) messages.now }
     requires short { All (λ keyed. length (keyed_message keyed) < text_limit) messages.now }
-    ensures { result ≡ map sum_of messages.now }
+    ensures { result ≡ map mac_of messages.now }
 {
     let inner = inner8(&pads8(messages, IPAD), messages);
     outer8(&pads8(messages, OPAD), &inner)
@@ -58,14 +58,14 @@ fn inner8(
     let [pa, pb, pc, pd, pe, pf, pg, ph] = pads;
     let [a, b, c, d, e, f, g, h] = messages;
     digest8(&[
-        a.1.behind(pa),
-        b.1.behind(pb),
-        c.1.behind(pc),
-        d.1.behind(pd),
-        e.1.behind(pe),
-        f.1.behind(pf),
-        g.1.behind(pg),
-        h.1.behind(ph),
+        a.1.after(pa),
+        b.1.after(pb),
+        c.1.after(pc),
+        d.1.after(pd),
+        e.1.after(pe),
+        f.1.after(pf),
+        g.1.after(pg),
+        h.1.after(ph),
     ])
 }
 
@@ -80,20 +80,20 @@ fn outer8(
     let [pa, pb, pc, pd, pe, pf, pg, ph] = pads;
     let [a, b, c, d, e, f, g, h] = inner;
     digest8(&[
-        behind_pad(pa, a),
-        behind_pad(pb, b),
-        behind_pad(pc, c),
-        behind_pad(pd, d),
-        behind_pad(pe, e),
-        behind_pad(pf, f),
-        behind_pad(pg, g),
-        behind_pad(ph, h),
+        after_pad(pa, a),
+        after_pad(pb, b),
+        after_pad(pc, c),
+        after_pad(pd, d),
+        after_pad(pe, e),
+        after_pad(pf, f),
+        after_pad(pg, g),
+        after_pad(ph, h),
     ])
 }
 
-// A pad followed by its inner digest.
+// A pad, and the inner digest after it.
 #[inline(always)]
-fn behind_pad<'a>(pad: &'a [u8; BLOCK_LEN], digest: &'a [u8; DIGEST_LEN]) -> Pieces<'a>
+fn after_pad<'a>(pad: &'a [u8; BLOCK_LEN], digest: &'a [u8; DIGEST_LEN]) -> Pieces<'a>
     ensures { message result ≡ pad.now ++ digest.now }
 {
     Pieces::of([pad, digest, &[], &[], &[]])

@@ -1,6 +1,6 @@
 //! Keys of 64 octets.
 ghost use Rattle.std.specs.Prelude.{◌≡◌, ℕ, ◌-◌, ◌≤◌, ◌++◌, List, length, replicate};
-ghost use Rattle.rad_hmac.specs.Hmac.{hmac, keyed_sum, padded_key, xor};
+ghost use Rattle.rad_hmac.specs.Hmac.{hmac, mac_under, padded_key, xor};
 
 use md5::{Digest, Md5};
 use rad_md5::BLOCK_LEN;
@@ -30,7 +30,7 @@ impl Key {
     #[tactic(auto, unfolding(crate::specs::Hmac::padded_key))]
     pub fn new(key: &[u8]) -> Key
         ensures value { result ≡ padded_key key.now }
-        ensures sums { (text : List ℕ) → keyed_sum result text ≡ hmac key.now text }
+        ensures macs { (text : List ℕ) → mac_under result text ≡ hmac key.now text }
     {
         if key.len() > BLOCK_LEN {
             Key::padded(&Md5::digest(key))
@@ -49,7 +49,7 @@ impl Key {
         Key { octets }
     }
 
-    // The exclusive or of each octet with this one.
+    /// The exclusive or of each octet with this one.
     #[inline(always)]
     pub(crate) fn xor(&self, pad: u8) -> [u8; BLOCK_LEN]
         ensures { result ≡ xor self.now (replicate 64 pad) }

@@ -3,7 +3,7 @@
 //! A `Key` is made once of a secret, and kept; `hmac8` computes the HMACs of eight messages in pieces, each under its key,
 //! in two passes of `rad_md5::digest8`. It takes no memory and never joins a message.
 //!
-//! Others rest on this: each lane of `hmac8` is the `keyed_sum` of `specs/Hmac.antt`, over the meaning that the crate `md5`
+//! Others rest on this: each lane of `hmac8` is the `mac_under` of `specs/Hmac.antt`, over the meaning that the crate `md5`
 //! gives to a digest, and under a key of `Key::new` it is the HMAC under the key that was given.
 #![tactic(auto)]
 

@@ -54,7 +54,7 @@ pub put_count : (m block : List ℕ) (from at : ℕ) → length block ≡ 64 →
 put_count m block from at size room same =
     omega (arith, ap length same, length-take 64 (drop from m), length-drop from m, length-take at block, size)
 
--- the octets from some place on of a message with something behind it
+-- the octets from some place on of a message with something after it
 drop_both : (from : ℕ) (m end : List ℕ) → drop from (m ++ end) ≡ drop from m ++ drop (from - length m) end
 drop_both from m end =
     elim (cases_lt (length m) from) [

@@ -30,10 +30,10 @@ impl<'a> Pieces<'a> {
         Pieces { slices }
     }
 
-    /// The message with these octets in front of it.
+    /// These octets, and the message after them.
     ///
     /// Its fifth slice must be empty, to make room for them.
-    pub fn behind(&self, front: &'a [u8]) -> Pieces<'a>
+    pub fn after(&self, front: &'a [u8]) -> Pieces<'a>
         requires free { HasFreePiece self.now }
         requires short { length front.now + length (message self.now) < message_limit }
         ensures pieces { result ≡ front.now ∷ take 4 self.now }

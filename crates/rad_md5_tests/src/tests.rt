@@ -285,7 +285,7 @@ fn any_number_of_messages_is_digested(rt: HostRuntime) -> Result<(), Fail> {
 fn octets_go_in_front_of_a_message(rt: HostRuntime) {
     let digits: &[u8] = DIGITS;
     let message = Pieces::of([&digits[3..5], &digits[5..70], &[], &digits[70..], &[]]);
-    let longer = message.behind(&digits[..3]);
+    let longer = message.after(&digits[..3]);
     let mut digests = [[0; DIGEST_LEN]; 2];
     digest_each(&[message, longer], &mut digests);
     let without = Md5::digest(&digits[3..]);
