@@ -7,7 +7,7 @@ use borrow.Rule.Slice.PartMut.{put_mid}
 use Rattle.std.specs.Int.{w64, to_le_bytes}
 use Rattle.md5.specs.Md5.{compress, digest_bytes, hash_after, initial_hash, md5, padded_message, padding}
 use Rattle.md5.proofs.Absorbing.{hash_after_next}
-use Rattle.rad_md5.specs.Blocks.{block_at, block_count, hash_after_turns}
+use Rattle.rad_md5.specs.Blocks.{block_at, block_count, filled, hash_after_turns}
 use Rattle.std.proofs.Math.Seq.{drop-append-add, take-append-add}
 
 -- a slice that is skipped whole
@@ -20,7 +20,7 @@ skip_slice s rest k room past =
 pub put_slice : (old new s rest : List ℕ) (at skip len : ℕ) → at ≤ 64 → skip < length s
     → (length (drop skip s) ≤ 64 - at → len ≡ length (drop skip s)) → (64 - at < length (drop skip s) → len ≡ 64 - at)
     → take (at + len) new ≡ take at old ++ take len (drop skip s)
-    → take at old ++ take (64 - at) (drop skip (s ++ rest)) ≡ take (at + len) new ++ take (64 - (at + len)) rest
+    → filled old at skip (s ++ rest) ≡ filled new (at + len) 0 rest
 put_slice old new s rest at skip len room inside short long written =
     let part = drop skip s in
     let split : drop skip (s ++ rest) ≡ part ++ rest = drop-append-le skip s rest (omega arith) in
@@ -43,7 +43,7 @@ padded_length m =
 
 -- a message of which the slices put all that they had into a block
 pub put_all : (m block : List ℕ) (from at skip : ℕ) → length block ≡ 64 → at ≤ 64
-    → take 64 (drop from m) ≡ take at block ++ take (64 - at) (drop skip []) → take 64 (drop from m) ≡ take at block
+    → take 64 (drop from m) ≡ filled block at skip [] → take 64 (drop from m) ≡ take at block
 put_all m block from at skip size room same =
     let nothing : List ℕ = [] in
     let none : take (64 - at) (drop skip nothing) ≡ [] = rw (drop_all skip nothing (omega arith)) (take_all (64 - at) nothing (omega arith)) in
@@ -78,7 +78,7 @@ message_block m block n at size end same =
 
 -- a block with padding
 pub padded_block : (m block : List ℕ) (n at : ℕ) → length block ≡ 64 → at < 64 → take 64 (drop (n * 64) m) ≡ take at block
-    → take at block ++ take (64 - at) (drop (n * 64 - length m) (padding (length m))) ≡ block_at m n
+    → filled block at (n * 64 - length m) (padding (length m)) ≡ block_at m n
 padded_block m block n at size room same =
     let count = put_count m block (n * 64) at size (omega arith) same in
     let left : length (drop (n * 64) m) ≡ at = omega (arith, count, length-drop (n * 64) m) in

@@ -1,11 +1,11 @@
 -- What holds lane by lane.
-use Rattle.std.proofs.Common.{◌≡◌, ℕ, zero, suc, ◌<◌, ◌+◌, ◌-◌, ◌*◌, ◌/◌, ◌%◌, ◌^◌, List, [], ◌∷◌, length, slice_index, bit_or, arith, refl, subst}
+use Rattle.std.proofs.Common.{◌≡◌, ℕ, zero, suc, ◌<◌, ◌+◌, ◌-◌, ◌*◌, ◌/◌, ◌%◌, ◌^◌, List, [], ◌∷◌, length, slice_index, replicate, bit_or, arith, refl, subst}
 use Rattle.std.specs.Simd.Lanes.{zip2}
 use Rattle.std.specs.Int.{w32, rotate_left}
-use Rattle.rad_md5.specs.Lanes.{lane_at, words_of}
+use Rattle.rad_md5.specs.Lanes.{EachLane, lane_at, words_of}
 
 -- what holds of each of the eight lanes
-pub below_eight : (P : ℕ → Type 0) → P 0 → P 1 → P 2 → P 3 → P 4 → P 5 → P 6 → P 7 → (j : ℕ) → j < 8 → P j
+pub below_eight : (P : ℕ → Type 0) → P 0 → P 1 → P 2 → P 3 → P 4 → P 5 → P 6 → P 7 → EachLane P
 below_eight P p0 p1 p2 p3 p4 p5 p6 p7 zero h = p0
 below_eight P p0 p1 p2 p3 p4 p5 p6 p7 (suc zero) h = p1
 below_eight P p0 p1 p2 p3 p4 p5 p6 p7 (suc (suc zero)) h = p2
@@ -31,11 +31,11 @@ eight_lanes P p (a ∷ b ∷ c ∷ d ∷ e ∷ f ∷ g ∷ h ∷ i ∷ xs) n = a
 
 -- two shifts of each lane and an or are a rotation
 abbrev Rotates : ℕ → List ℕ → Type 0
-Rotates s a = (j : ℕ) → j < 8
-    → slice_index (zip2 bit_or
-    (zip2 (λ x n. x * 2 ^ n % 2 ^ 32) a (s ∷ s ∷ s ∷ s ∷ s ∷ s ∷ s ∷ s ∷ []))
-    (zip2 (λ x n. x / 2 ^ n) a ((32 - s) ∷ (32 - s) ∷ (32 - s) ∷ (32 - s) ∷ (32 - s) ∷ (32 - s) ∷ (32 - s) ∷ (32 - s) ∷ []))) j
-    ≡ rotate_left w32 (slice_index a j) s
+Rotates s a = EachLane (λ j.
+    slice_index (zip2 bit_or
+    (zip2 (λ x n. x * 2 ^ n % 2 ^ 32) a (replicate 8 s))
+    (zip2 (λ x n. x / 2 ^ n) a (replicate 8 (32 - s)))) j
+    ≡ rotate_left w32 (slice_index a j) s)
 
 pub shifts_rotate : (s : ℕ) → 0 < s → s < 32 → (a : List ℕ) → length a ≡ 8 → Rotates s a
 shifts_rotate s low high =

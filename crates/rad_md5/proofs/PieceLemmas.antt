@@ -1,7 +1,8 @@
 -- Five slices, one by one.
-use Rattle.std.proofs.Common.{◌≡◌, ℕ, ◌+◌, ◌-◌, List, [], ◌∷◌, ◌++◌, length, take, drop, slice_index_or, sym, ap, ◌∙◌, arith}
+use Rattle.std.proofs.Common.{◌≡◌, ℕ, ◌+◌, List, [], ◌∷◌, ◌++◌, length, take, drop, slice_index_or, sym, ap, ◌∙◌, arith}
 use Rattle.std.specs.Borrow.{Bor}
 use Rattle.std.proofs.lemmas.List.{length-append, append-nil}
+use Rattle.rad_md5.specs.Blocks.{filled}
 use Rattle.rad_md5.specs.Pieces.{message, pieces_of}
 
 -- what slice k holds
@@ -25,15 +26,14 @@ length_of_five slices n =
 
 -- what a slice's octets did to a block: they were skipped or put as far as there was room
 abbrev Put : List ℕ → List ℕ → ℕ → ℕ → List ℕ → ℕ → ℕ → Type 0
-Put octets old at skip new to left = (rest : List ℕ)
-    → take at old ++ take (64 - at) (drop skip (octets ++ rest)) ≡ take to new ++ take (64 - to) (drop left rest)
+Put octets old at skip new to left = (rest : List ℕ) → filled old at skip (octets ++ rest) ≡ filled new to left rest
 
 -- five slices put one after the other
 pub five_put : (slices : List (Bor (List ℕ))) (pieces : List (List ℕ)) (from : ℕ) (b0 b1 b2 b3 b4 b5 : List ℕ) (a1 s1 a2 s2 a3 s3 a4 s4 a5 s5 : ℕ)
     → length slices ≡ 5 → pieces_of slices ≡ pieces
     → Put (piece slices 0) b0 0 from b1 a1 s1 → Put (piece slices 1) b1 a1 s1 b2 a2 s2 → Put (piece slices 2) b2 a2 s2 b3 a3 s3
     → Put (piece slices 3) b3 a3 s3 b4 a4 s4 → Put (piece slices 4) b4 a4 s4 b5 a5 s5
-    → take 64 (drop from (message pieces)) ≡ take a5 b5 ++ take (64 - a5) (drop s5 [])
+    → take 64 (drop from (message pieces)) ≡ filled b5 a5 s5 []
 five_put slices pieces from b0 b1 b2 b3 b4 b5 a1 s1 a2 s2 a3 s3 a4 s4 a5 s5 five view put1 put2 put3 put4 put5 =
     let b = piece slices 1 in
     let d = piece slices 2 in

@@ -1,8 +1,8 @@
 //! The blocks of eight messages, side by side (RFC 1321, sections 3.1, 3.2 and 3.4).
-ghost use Rattle.std.specs.Prelude.{◌≡◌, ℕ, ◌+◌, ◌-◌, ◌*◌, ◌/◌, ◌^◌, ◌%◌, ◌<◌, ◌≤◌, List, [], ◌∷◌, ◌++◌, length, take, drop, replicate, slice_index, slice_index_or};
+ghost use Rattle.std.specs.Prelude.{◌≡◌, ℕ, ◌+◌, ◌-◌, ◌*◌, ◌/◌, ◌^◌, ◌<◌, ◌≤◌, List, [], ◌++◌, length, take, slice_index, slice_index_or};
 ghost use Rattle.md5.specs.Md5.{block_words, padding, word_at};
-ghost use Rattle.rad_md5.specs.Blocks.{block_at, block_count};
-ghost use Rattle.rad_md5.specs.Lanes.{ArePlaces, HasEnded, IsLive, lane_message, words_of};
+ghost use Rattle.rad_md5.specs.Blocks.{block_at, block_count, filled};
+ghost use Rattle.rad_md5.specs.Lanes.{ArePlaces, EachLane, HaveBlocks, HaveEnded, words_of};
 ghost use Rattle.rad_md5.specs.Pieces.{message, message_limit};
 
 use crate::lanes::LANES;
@@ -24,7 +24,8 @@ fn word(block: &[u8; BLOCK_LEN], k: usize) -> u32
 #[inline(always)]
 fn words_at(blocks: &[[u8; BLOCK_LEN]; 8], k: usize) -> u32x8
     requires { k < 16 }
-    ensures { (j : ℕ) → j < 8 → slice_index result j ≡ word_at (slice_index_or blocks.now j []) (4 * k) }
+    ensures { EachLane (λ j. slice_index result j
+        ≡ word_at (slice_index_or blocks.now j []) (4 * k)) }
 {
     u32x8::from_array([
         word(&blocks[0], k),
@@ -41,7 +42,7 @@ fn words_at(blocks: &[[u8; BLOCK_LEN]; 8], k: usize) -> u32x8
 /// The words of eight blocks: word k of all of them is vector k.
 #[inline(always)]
 pub(crate) fn words8(blocks: &[[u8; BLOCK_LEN]; 8]) -> [u32x8; 16]
-    ensures { (j : ℕ) → j < 8 → words_of j result ≡ block_words (slice_index_or blocks.now j []) 16 }
+    ensures { EachLane (λ j. words_of j result ≡ block_words (slice_index_or blocks.now j []) 16) }
 {
     [
         words_at(blocks, 0),
@@ -108,8 +109,8 @@ fn write(block: &mut [u8; BLOCK_LEN], at: usize, part: &[u8])
 fn put(block: &mut [u8; BLOCK_LEN], at: usize, skip: usize, slice: &[u8]) -> (usize, usize)
     requires { at ≤ 64 }
     ensures place { result.0 ≤ 64 }
-    ensures octets { (rest : List ℕ) → take at block.old ++ take (64 - at) (drop skip (slice.now ++ rest))
-        ≡ take result.0 block.new ++ take (64 - result.0) (drop result.1 rest) }
+    ensures octets { (rest : List ℕ) → filled block.old at skip (slice.now ++ rest)
+        ≡ filled block.new result.0 result.1 rest }
 {
     if slice.len() <= skip {
         return (at, skip - slice.len());
@@ -128,7 +129,7 @@ fn pad(block: &mut [u8; BLOCK_LEN], at: usize, n: usize, len: usize)
     requires over { len < n * 64 → at ≡ 0 }
     requires last { n < (len + length (padding len)) / 64 }
     requires short { len < message_limit }
-    ensures { block.new ≡ take at block.old ++ take (64 - at) (drop (n * 64 - len) (padding len)) }
+    ensures { block.new ≡ filled block.old at (n * 64 - len) (padding len) }
 {
     // The bit 1 is in this block, or in the one before.
     let start = (n * BLOCK_LEN).saturating_sub(len).min(1);
@@ -165,7 +166,8 @@ pub(crate) fn block_count(pieces: &Pieces) -> usize
 // Writes block n of a message and returns a mask of ones, or of zeros if there is no block n.
 #[inline(always)]
 fn next_block(pieces: &Pieces, n: usize, block: &mut [u8; BLOCK_LEN]) -> u32
-    ensures live { n < block_count (message pieces.now) → (result ≡ 2 ^ 32 - 1) × (block.new ≡ block_at (message pieces.now) n) }
+    ensures live { n < block_count (message pieces.now)
+        → (result ≡ 2 ^ 32 - 1) × (block.new ≡ block_at (message pieces.now) n) }
     ensures ended { block_count (message pieces.now) ≤ n → result ≡ 0 }
 {
     if n < block_count(pieces) {
@@ -186,9 +188,8 @@ pub(crate) fn next_blocks(
     blocks: &mut [[u8; BLOCK_LEN]; LANES],
 ) -> u32x8
     requires { ArePlaces places.now messages.now }
-    ensures live { (j : ℕ) → j < length places.now → n < block_count (lane_message messages.now places.now j)
-        → IsLive result j × (slice_index_or blocks.new j [] ≡ block_at (lane_message messages.now places.now j) n) }
-    ensures ended { (j : ℕ) → j < length places.now → block_count (lane_message messages.now places.now j) ≤ n → HasEnded result j }
+    ensures live { HaveBlocks n messages.now places.now result blocks.new }
+    ensures ended { HaveEnded n messages.now places.now result }
 {
     let mut live = [0; LANES];
     'lanes: for j in 0..places.len() {

@@ -1,8 +1,7 @@
 //! Digests of messages, eight at a time.
-ghost use Rattle.std.specs.Prelude.{◌≡◌, ℕ, ◌+◌, ◌<◌, ◌≤◌, List, [], length, map, slice_index, slice_index_or};
+ghost use Rattle.std.specs.Prelude.{◌≡◌, ℕ, ◌+◌, ◌<◌, ◌≤◌, List, [], length, map, slice_index, slice_index_or, EachIndex};
 ghost use Rattle.md5.specs.Md5.{digest_bytes, initial_hash};
-ghost use Rattle.rad_md5.specs.Blocks.{block_count};
-ghost use Rattle.rad_md5.specs.Lanes.{ArePlaces, AreWanted, HasDigests, HaveAtMost, IsHashedAfter, lane, lane_message};
+ghost use Rattle.rad_md5.specs.Lanes.{ArePlaces, AreWanted, EachLane, HasDigests, HaveAtMost, IsHashedAfter, IsWanted, lane};
 ghost use Rattle.rad_md5.specs.Pieces.{digest};
 
 use crate::block::{block_count, next_blocks, words8};
@@ -30,7 +29,7 @@ fn most_blocks(messages: &[Pieces], places: &[usize]) -> usize
 
 // The hash value before the first block, in each lane.
 fn initial_state() -> State
-    ensures { (j : ℕ) → j < 8 → lane j result ≡ initial_hash }
+    ensures { EachLane (λ j. lane j result ≡ initial_hash) }
 {
     let [a, b, c, d] = INITIAL_HASH;
     State {
@@ -51,7 +50,8 @@ fn turn(
     state: State,
 ) -> State
     requires { ArePlaces places.now messages.now }
-    ensures { IsHashedAfter n messages.now places.now state → IsHashedAfter (n + 1) messages.now places.now result }
+    ensures { IsHashedAfter n messages.now places.now state
+        → IsHashedAfter (n + 1) messages.now places.now result }
 {
     let live = next_blocks(messages, places, n, blocks);
     compress8(state, &words8(blocks), live)
@@ -88,7 +88,7 @@ fn digest_octets(words: [u32; 4]) -> [u8; DIGEST_LEN]
 
 /// The digest in each lane.
 pub(crate) fn digests_in(state: State) -> [[u8; DIGEST_LEN]; LANES]
-    ensures made { (j : ℕ) → j < 8 → slice_index_or result j [] ≡ digest_bytes (lane j state) 4 }
+    ensures made { EachLane (λ j. slice_index_or result j [] ≡ digest_bytes (lane j state) 4) }
     ensures eight { length result ≡ 8 }
 {
     let a = state.a.to_array();
@@ -124,12 +124,12 @@ pub(crate) fn place_digests(
     digests: &mut [[u8; DIGEST_LEN]],
 )
     requires few { length places.now ≤ 8 }
-    requires inside { (j : ℕ) → j < length places.now → slice_index places.now j < length digests.old }
+    requires inside { EachIndex places.now (λ j. slice_index places.now j < length digests.old) }
     ensures same { length digests.new ≡ length digests.old }
     ensures kept { (wanted : ℕ → List ℕ) → AreWanted made.now places.now wanted
-        → (i : ℕ) → slice_index_or digests.old i [] ≡ wanted i → slice_index_or digests.new i [] ≡ wanted i }
+        → (i : ℕ) → IsWanted wanted digests.old i → IsWanted wanted digests.new i }
     ensures placed { (wanted : ℕ → List ℕ) → AreWanted made.now places.now wanted
-        → (j : ℕ) → j < length places.now → slice_index_or digests.new (slice_index places.now j) [] ≡ wanted (slice_index places.now j) }
+        → EachIndex places.now (λ j. IsWanted wanted digests.new (slice_index places.now j)) }
 {
     'lanes: for j in 0..places.len() {
         digests[places[j]] = made[j];

@@ -1,5 +1,5 @@
 //! Digests of any number of messages, which are put in order of their length for speed.
-ghost use Rattle.std.specs.Prelude.{◌≡◌, ℕ, ◌<◌, ◌≤◌, length, map, slice_index, take};
+ghost use Rattle.std.specs.Prelude.{◌≡◌, ℕ, ◌<◌, ◌≤◌, length, map, slice_index, take, EachIndex};
 ghost use Rattle.std.specs.List.{Contains};
 ghost use Rattle.rad_md5.specs.Lanes.{ArePlaces};
 ghost use Rattle.rad_md5.specs.Pieces.{IsDigested, digest};
@@ -17,8 +17,10 @@ fn digest_group(messages: &[Pieces], places: &[usize], digests: &mut [[u8; DIGES
     requires places { ArePlaces places.now messages.now }
     requires equal { length digests.old ≡ length messages.now }
     ensures same { length digests.new ≡ length digests.old }
-    ensures kept { (i : ℕ) → IsDigested messages.now digests.old i → IsDigested messages.now digests.new i }
-    ensures placed { (j : ℕ) → j < length places.now → IsDigested messages.now digests.new (slice_index places.now j) }
+    ensures kept { (i : ℕ) → IsDigested messages.now digests.old i
+        → IsDigested messages.now digests.new i }
+    ensures placed { EachIndex places.now (λ j.
+        IsDigested messages.now digests.new (slice_index places.now j)) }
 {
     place_digests(&digests_in(hash8(messages, places)), places, digests);
 }
@@ -49,8 +51,8 @@ fn in_order() -> [usize; WINDOW]
 // The places of at most 64 messages. That those with the fewest blocks come first is for speed: no clause says it.
 fn shortest_first(messages: &[Pieces]) -> [usize; WINDOW]
     requires { length messages.now ≤ 64 }
-    ensures every { (i : ℕ) → i < length messages.now → Contains (take (length messages.now) result) i }
-    ensures inside { (k : ℕ) → k < length messages.now → slice_index result k < length messages.now }
+    ensures every { EachIndex messages.now (Contains (take (length messages.now) result)) }
+    ensures inside { EachIndex messages.now (λ k. slice_index result k < length messages.now) }
     ensures all { length result ≡ 64 }
 {
     let counts = block_counts(messages);

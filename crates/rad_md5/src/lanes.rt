@@ -1,8 +1,8 @@
 //! Words of eight messages side by side, one lane for each message: the operators of `u32x8`, with a clause for each lane.
-ghost use Rattle.std.specs.Prelude.{◌≡◌, ℕ, ◌-◌, ◌<◌, bit_and, bit_or, bit_xor, slice_index};
+ghost use Rattle.std.specs.Prelude.{◌≡◌, ◌<◌, bit_and, bit_or, bit_xor, slice_index};
 ghost use Rattle.std.specs.Int.{w32, bit_not, rotate_left};
 ghost use Rattle.md5.specs.Md5.{add32};
-ghost use Rattle.rad_md5.specs.Lanes.{HasEnded, IsLive};
+ghost use Rattle.rad_md5.specs.Lanes.{EachEnded, EachLive, IsLanewise1, IsLanewise2};
 
 use std::simd::u32x8;
 
@@ -21,7 +21,7 @@ pub(crate) struct State {
 /// The bits that both have, lane by lane.
 #[inline(always)]
 pub(crate) fn and(x: u32x8, y: u32x8) -> u32x8
-    ensures { (j : ℕ) → j < 8 → slice_index result j ≡ bit_and (slice_index x j) (slice_index y j) }
+    ensures { IsLanewise2 bit_and x y result }
 {
     x & y
 }
@@ -29,7 +29,7 @@ pub(crate) fn and(x: u32x8, y: u32x8) -> u32x8
 /// The bits that one or both have, lane by lane.
 #[inline(always)]
 pub(crate) fn or(x: u32x8, y: u32x8) -> u32x8
-    ensures { (j : ℕ) → j < 8 → slice_index result j ≡ bit_or (slice_index x j) (slice_index y j) }
+    ensures { IsLanewise2 bit_or x y result }
 {
     x | y
 }
@@ -37,7 +37,7 @@ pub(crate) fn or(x: u32x8, y: u32x8) -> u32x8
 /// The bits that just one has, lane by lane.
 #[inline(always)]
 pub(crate) fn xor(x: u32x8, y: u32x8) -> u32x8
-    ensures { (j : ℕ) → j < 8 → slice_index result j ≡ bit_xor (slice_index x j) (slice_index y j) }
+    ensures { IsLanewise2 bit_xor x y result }
 {
     x ^ y
 }
@@ -45,7 +45,7 @@ pub(crate) fn xor(x: u32x8, y: u32x8) -> u32x8
 /// The sum, modulo 2^32, lane by lane.
 #[inline(always)]
 pub(crate) fn add(x: u32x8, y: u32x8) -> u32x8
-    ensures { (j : ℕ) → j < 8 → slice_index result j ≡ add32 (slice_index x j) (slice_index y j) }
+    ensures { IsLanewise2 add32 x y result }
 {
     x + y
 }
@@ -53,7 +53,7 @@ pub(crate) fn add(x: u32x8, y: u32x8) -> u32x8
 /// The other bits, lane by lane.
 #[inline(always)]
 pub(crate) fn not(x: u32x8) -> u32x8
-    ensures { (j : ℕ) → j < 8 → slice_index result j ≡ bit_not w32 (slice_index x j) }
+    ensures { IsLanewise1 (bit_not w32) x result }
 {
     !x
 }
@@ -62,7 +62,7 @@ pub(crate) fn not(x: u32x8) -> u32x8
 #[inline(always)]
 pub(crate) fn rotate_left(x: u32x8, s: u32) -> u32x8
     requires { (0 < s) × (s < 32) }
-    ensures { (j : ℕ) → j < 8 → slice_index result j ≡ rotate_left w32 (slice_index x j) s }
+    ensures { IsLanewise1 (λ word. rotate_left w32 word s) x result }
 {
     (x << u32x8::splat(s)) | (x >> u32x8::splat(32 - s))
 }
@@ -70,8 +70,9 @@ pub(crate) fn rotate_left(x: u32x8, s: u32) -> u32x8
 /// Adds to a variable what the steps made of it, in the lanes that are live: a mask of zeros makes the addend zero.
 #[inline(always)]
 pub(crate) fn carry(h: u32x8, v: u32x8, live: u32x8) -> u32x8
-    ensures taken { (j : ℕ) → j < 8 → IsLive live j → slice_index result j ≡ add32 (slice_index h j) (slice_index v j) }
-    ensures left { (j : ℕ) → j < 8 → HasEnded live j → slice_index result j ≡ slice_index h j }
+    ensures taken { EachLive live (λ j. slice_index result j
+        ≡ add32 (slice_index h j) (slice_index v j)) }
+    ensures left { EachEnded live (λ j. slice_index result j ≡ slice_index h j) }
 {
     add(h, and(v, live))
 }

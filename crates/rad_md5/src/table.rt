@@ -1,5 +1,5 @@
 //! The tables of MD5 (RFC 1321, sections 3.1, 3.3 and 3.4).
-ghost use Rattle.std.specs.Prelude.{◌≡◌, ℕ, ◌<◌, slice_index};
+ghost use Rattle.std.specs.Prelude.{◌≡◌, ◌<◌, slice_index};
 ghost use Rattle.md5.specs.Md5.{step_shifts};
 
 /// How many octets a block has.
