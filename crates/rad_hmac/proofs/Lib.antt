@@ -1,1 +1,1 @@
-mod LaneLemmas
+pub mod LaneLemmas

@@ -1,4 +1,4 @@
-mod BlockLemmas
-mod DigestLemmas
-mod LaneLemmas
-mod PieceLemmas
+pub mod BlockLemmas
+pub mod DigestLemmas
+pub mod LaneLemmas
+pub mod PieceLemmas
