@@ -40,7 +40,7 @@ pub mid_place : (places : List ℕ) (k n j : ℕ) → j < n → slice_index (tak
 mid_place places k n j below = get_or-take n (drop k places) j 0 below ∙ get_or-drop k places j 0
 
 -- the numbers below n, in whatever order, are each below n and all there
-abbrev IsCount : List ℕ → ℕ → Type 0
+abbrev pub IsCount : List ℕ → ℕ → Type 0
 IsCount places n = (n ≤ length places) × ((k : ℕ) → k < n → slice_index places k ≡ k)
 
 front_of : (sorted rest : List ℕ) (n : ℕ) → length sorted ≡ n → take n (sorted ++ rest) ≡ sorted
