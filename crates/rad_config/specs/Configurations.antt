@@ -1,6 +1,6 @@
 -- What a configuration text says, or its first fault. A text is a list of octets, which are numbers below 256; an index counts
 -- from 1, and a place from 0.
-use Rattle.std.specs.Prelude.{◌≡◌, ◌⊎◌, ℕ, ◌+◌, ◌&&◌, ◌||◌, nat_le, nat_lt, Bool, true, false, List, [], ◌∷◌, ◌++◌, position, Option, Some, None, Result, Ok, Err, ok_or, is_some}
+use Rattle.std.specs.Prelude.{◌≡◌, ◌⊎◌, ℕ, ◌+◌, ◌&&◌, ◌||◌, nat_le, nat_lt, Bool, false, List, [], ◌∷◌, ◌++◌, position, Option, Some, None, Result, Ok, Err, ok_or, is_some}
 use Rattle.std.specs.List.{list_any}
 use Rattle.std.specs.Str.{bytes_eq}
 use Rattle.toml.specs.Data.{Data, as_array, as_table, Items, no_items, item, Members, get_member}
@@ -54,6 +54,10 @@ spot e key = record { part = e.part; index = e.index; key = key }
 abbrev pub at_key : EntryData → Key → Option Data
 at_key e key = get_member (key_name key) e.members
 
+-- whether data stands at the key
+abbrev pub has_key : EntryData → Key → Bool
+has_key e key = is_some (at_key e key)
+
 -- data that is there fits, or is a bad value; an absent key stands for a value, or is missing
 abbrev pub value_at : {A : Type 0} → Spot → Row A → Option Data → Result A ConfigFault
 value_at at row (Some d) = ok_or (row.fit d) (BadValue at)
@@ -90,10 +94,14 @@ items_in part most (Some d) = do
   few ← refuse_if (nat_lt most (count_items ds)) (TooMany part)
   Ok ds
 
+-- the items of a part's list
+abbrev pub items_at : Part → ℕ → Members → Result Items ConfigFault
+items_at part most members = items_in part most (get_member (part_name part) members)
+
 -- a part's list of at most so many entries
 unfoldable pub list_of : {A : Type 0} → Part → ℕ → (List A → EntryData → Result A ConfigFault) → Members → Result (List A) ConfigFault
 list_of part most read members = do
-  ds ← items_in part most (get_member (part_name part) members)
+  ds ← items_at part most members
   entries_from part read 1 [] ds
 
 -- ---- parts
@@ -140,11 +148,32 @@ user_in pools earlier e = do
   protocol ← value e rows.protocol
   timeout ← value e rows.timeout
   message ← value e rows.message
-  challenge ← value e (rows.challenge (is_some (at_key e keys.Answer)))
-  answer ← value e (rows.answer (is_some (at_key e keys.Challenge)))
-  Ok (record { name = name; password = password; pool = pool; sessions = sessions; service = service; protocol = protocol; timeout = timeout; message = message; challenge = challenge; answer = answer })
+  challenge ← value e (rows.challenge (has_key e keys.Answer))
+  answer ← value e (rows.answer (has_key e keys.Challenge))
+  Ok (record {
+    name = name;
+    password = password;
+    pool = pool;
+    sessions = sessions;
+    service = service;
+    protocol = protocol;
+    timeout = timeout;
+    message = message;
+    challenge = challenge;
+    answer = answer;
+  })
 
 -- ---- the whole
+
+-- the clients, the pools, and the users beside these pools
+abbrev pub clients_of : Members → Result (List Client) ConfigFault
+clients_of members = list_of parts.Client clients_max client_in members
+
+abbrev pub pools_of : Members → Result (List Pool) ConfigFault
+pools_of members = list_of parts.Pool pools_max pool_in members
+
+abbrev pub users_of : List Pool → Members → Result (List User) ConfigFault
+users_of pools members = list_of parts.User users_max (user_in pools) members
 
 abbrev pub top : Members → EntryData
 top members = record { part = parts.Top; index = 0; members = members }
@@ -160,7 +189,7 @@ ordered_spans members = do
 -- the pools, no two of which share an address
 unfoldable pub separate_pools : Members → Result (List Pool) ConfigFault
 separate_pools members = do
-  pools ← list_of parts.Pool pools_max pool_in members
+  pools ← pools_of members
   apart ← refuse_if (overlap pools) PoolsOverlap
   Ok pools
 
@@ -169,7 +198,7 @@ unfoldable pub configuration_of : List ℕ → Result Configuration ConfigFault
 configuration_of text = do
   members ← ok_or (parse_document text) Syntax
   spans ← ordered_spans members
-  clients ← list_of parts.Client clients_max client_in members
+  clients ← clients_of members
   pools ← separate_pools members
-  users ← list_of parts.User users_max (user_in pools) members
+  users ← users_of pools members
   Ok (record { window = spans.0; hold = spans.1; clients = clients; pools = pools; users = users })

@@ -1,6 +1,7 @@
 -- What holds of each configuration that was read, and of its pools and users: lengths, ranges of numbers, and what the checks of
 -- a whole list leave. Texts are lists of octets, times are in seconds. Clients keep their own ranges.
 use Rattle.std.specs.Prelude.{◌≡◌, ℕ, ◌+◌, ◌≤◌, ◌<◌, List, length, slice_get, All, Some, IfSome, is_some}
+use Rattle.std.specs.Int.{IsInRange}
 use Rattle.rad_packet.specs.Attributes.{value_max}
 use Rattle.rad_auth.specs.Passwords.{password_max}
 use Rattle.rad_config.specs.Configurations.{Configuration, pools_max, user_place, users_max}
@@ -15,12 +16,12 @@ HasLength least most octets = (least ≤ length octets) × (length octets ≤ mo
 pub record IsPool (pool : Pool) : Type 0 where
   pub name : HasLength 1 64 pool.name
   pub first : 1 ≤ pool.first
-  pub last : (pool.first ≤ pool.last) × (pool.last ≤ address_max)
+  pub last : IsInRange pool.first address_max pool.last
   pub size : pool.last ≤ pool.first + above_first_max
 
 -- an address of the pool
 abbrev pub HasAddress : Pool → ℕ → Type 0
-HasAddress pool address = (pool.first ≤ address) × (address ≤ pool.last)
+HasAddress pool address = IsInRange pool.first pool.last address
 
 -- no address is in two pools, which have the places i and j
 abbrev pub AreApart : List Pool → Type 0
@@ -31,10 +32,10 @@ pub record IsUser (pools : ℕ) (user : User) : Type 0 where
   pub name : HasLength 1 value_max user.name
   pub password : HasLength 1 password_max user.password
   pub pool : IfSome user.pool (λ place. place < pools)
-  pub sessions : (1 ≤ user.sessions) × (user.sessions ≤ 4096)
+  pub sessions : IsInRange 1 4096 user.sessions
   pub service : IfSome user.service (λ number. number ≤ number_max)
   pub protocol : IfSome user.protocol (λ number. number ≤ number_max)
-  pub timeout : IfSome user.timeout (λ seconds. (1 ≤ seconds) × (seconds ≤ number_max))
+  pub timeout : IfSome user.timeout (IsInRange 1 number_max)
   pub message : IfSome user.message (HasLength 1 value_max)
   pub challenge : IfSome user.challenge (HasLength 1 value_max)
   pub answer : IfSome user.answer (HasLength 1 password_max)
@@ -45,8 +46,8 @@ abbrev pub AreNamedApart : List User → Type 0
 AreNamedApart users = (place : ℕ) (user : User) → slice_get users place ≡ Some user → user_place users user.name ≡ Some place
 
 pub record IsConfiguration (configuration : Configuration) : Type 0 where
-  pub window : (1 ≤ configuration.window) × (configuration.window ≤ 3600)
-  pub hold : (configuration.window ≤ configuration.hold) × (configuration.hold ≤ 86400)
+  pub window : IsInRange 1 3600 configuration.window
+  pub hold : IsInRange configuration.window 86400 configuration.hold
   pub pool_count : length configuration.pools ≤ pools_max
   pub pools : All IsPool configuration.pools
   pub apart : AreApart configuration.pools

@@ -5,8 +5,19 @@ use Rattle.rad_config.specs.declared.read_client.ClientEntry.{ClientEntry}
 use Rattle.rad_config.specs.declared.read_user.UserEntry.{UserEntry}
 use Rattle.rad_config.specs.declared.user.User.{User}
 
-abbrev pub client_of_entry : ClientEntry → Client
-client_of_entry client = record { address = client.address; secret = client.secret.now; require_message_authenticator = client.require_message_authenticator }
+abbrev pub entry_client : ClientEntry → Client
+entry_client client = record { address = client.address; secret = client.secret.now; require_message_authenticator = client.require_message_authenticator }
 
-abbrev pub user_of_entry : UserEntry → User
-user_of_entry user = record { name = user.name.now; password = user.password.now; pool = user.pool; sessions = user.sessions; service = user.service; protocol = user.protocol; timeout = user.timeout; message = option_copied user.message; challenge = option_copied user.challenge; answer = option_copied user.answer }
+abbrev pub entry_user : UserEntry → User
+entry_user user = record {
+  name = user.name.now;
+  password = user.password.now;
+  pool = user.pool;
+  sessions = user.sessions;
+  service = user.service;
+  protocol = user.protocol;
+  timeout = user.timeout;
+  message = option_copied user.message;
+  challenge = option_copied user.challenge;
+  answer = option_copied user.answer;
+}

@@ -1,5 +1,5 @@
 -- What the rows of the code's table, and its entries, stand for.
-use Rattle.std.specs.Prelude.{ℕ, Bool, true, false, List, Option, option_map}
+use Rattle.std.specs.Prelude.{ℕ, Bool, if◌then◌else◌, List, Option, option_map}
 use Rattle.std.specs.Borrow.{Bor}
 use Rattle.toml.specs.Data.{Data, as_bool}
 use Rattle.toml.specs.View.{view, table_view}
@@ -34,18 +34,18 @@ flag_row row = with_default row.default row.key as_bool
 abbrev pub address_row : AddressRow → Row ℕ
 address_row row = required row.key (address row.least row.most)
 
-abbrev pub text_fit : Bool → ℕ → ℕ → Data → Option (List ℕ)
-text_fit true least most d = text least most d
-text_fit false least most d = text_without_zero least most d
+-- the text that data is, where it fits a row
+abbrev pub text_fit : TextRow → Data → Option (List ℕ)
+text_fit row d = if row.zeros then text row.least row.most d else text_without_zero row.least row.most d
 
 -- a text whose key has to be present
 abbrev pub required_text_row : TextRow → Row (List ℕ)
-required_text_row row = required row.key (text_fit row.zeros row.least row.most)
+required_text_row row = required row.key (text_fit row)
 
 -- a text whose key may be absent
 abbrev pub text_row : TextRow → Row (Option (List ℕ))
-text_row row = optional row.key (text_fit row.zeros row.least row.most)
+text_row row = optional row.key (text_fit row)
 
 -- a text whose key may be absent unless it is needed
 abbrev pub text_row_unless : Bool → TextRow → Row (Option (List ℕ))
-text_row_unless needed row = optional_unless needed row.key (text_fit row.zeros row.least row.most)
+text_row_unless needed row = optional_unless needed row.key (text_fit row)

@@ -1,5 +1,6 @@
 //! The configuration of a server.
 ghost use Rattle.std.specs.Prelude.{◌≡◌, ◌≤◌, All, IfOk, false, length, ok_or};
+ghost use Rattle.std.specs.Int.{IsInRange};
 ghost use Rattle.toml.specs.Parse.{parse_document};
 ghost use Rattle.toml.specs.View.{table_view};
 ghost use Rattle.rad_config.specs.Configurations.{Gives, ordered_spans, overlap, pools_max, separate_pools};
@@ -185,7 +186,7 @@ impl Config {
 
 // The document that the text is.
 fn document(alloc: Global, text: &str) -> Result<Table, ConfigFault>
-    ensures { Gives (λ table. table_view table) result (ok_or (parse_document text.now) ConfigFault.Syntax) }
+    ensures { Gives table_view result (ok_or (parse_document text.now) ConfigFault.Syntax) }
 {
     match toml::table_from_str(alloc, text) {
         Ok(table) => Ok(table),
@@ -198,8 +199,8 @@ fn document(alloc: Global, text: &str) -> Result<Table, ConfigFault>
 #[tactic(auto, unfolding(crate::specs::Configurations::ordered_spans))]
 fn ordered_spans(document: &Table) -> Result<(u32, u32), ConfigFault>
     ensures read { Gives (λ spans. spans) result (ordered_spans (table_view document.now)) }
-    ensures window { IfOk result (λ spans. (1 ≤ spans.0) × (spans.0 ≤ 3600)) }
-    ensures hold { IfOk result (λ spans. (spans.0 ≤ spans.1) × (spans.1 ≤ 86400)) }
+    ensures window { IfOk result (λ spans. IsInRange 1 3600 spans.0) }
+    ensures hold { IfOk result (λ spans. IsInRange spans.0 86400 spans.1) }
 {
     let top = Entry {
         part: Part::Top,

@@ -13,10 +13,11 @@ pub struct Entry<'a> {
 }
 
 impl<'a> Entry<'a> {
-    ghost use Rattle.std.specs.Prelude.{◌≡◌, ◌≤◌, ◌||◌, IfOk, IfSome, is_some};
+    ghost use Rattle.std.specs.Prelude.{◌≡◌, ◌||◌, IfOk, IfSome};
+    ghost use Rattle.std.specs.Int.{IsInRange};
     ghost use Rattle.std.specs.Option.{option_copied};
-    ghost use Rattle.rad_config.specs.Configurations.{Gives, spot, at_key, value};
-    ghost use Rattle.rad_config.specs.Ranges.{HasLength};
+    ghost use Rattle.rad_config.specs.Configurations.{at_key, has_key, spot};
+    ghost use Rattle.rad_config.specs.Readers.{FoundIf, GivesValue, HasRowLength};
     ghost use Rattle.rad_config.specs.Views.{address_row, data_of, entry_data, flag_row, number_row, required_text_row, default_row, text_row, text_row_unless};
 
     /// Where a fault at a key is.
@@ -40,7 +41,7 @@ impl<'a> Entry<'a> {
 
     /// Whether there is a value at a key.
     pub fn has(&self, key: Key) -> bool
-        ensures { result ≡ is_some (at_key (entry_data self.now) key) }
+        ensures { result ≡ has_key (entry_data self.now) key }
     {
         self.get(key).is_some()
     }
@@ -48,8 +49,8 @@ impl<'a> Entry<'a> {
     /// The number at a key that may be absent.
     #[tactic(auto, unfolding(crate::specs::Configurations::value))]
     pub fn number(&self, row: &NumberRow) -> Result<Option<u32>, ConfigFault>
-        ensures read { Gives (λ found. found) result (value (entry_data self.now) (number_row row.now)) }
-        ensures range { IfOk result (λ found. IfSome found (λ number. (row.now.least ≤ number) × (number ≤ row.now.most))) }
+        ensures read { GivesValue (λ found. found) result self.now (number_row row.now) }
+        ensures range { IfOk result (λ found. IfSome found (IsInRange row.now.least row.now.most)) }
     {
         let Some(value) = self.get(row.key) else {
             return Ok(None);
@@ -63,9 +64,9 @@ impl<'a> Entry<'a> {
     /// The number at a key, or its default.
     #[tactic(auto, unfolding(crate::specs::Configurations::value))]
     pub fn number_or_default(&self, row: &DefaultRow) -> Result<u32, ConfigFault>
-        requires { (row.now.number.least ≤ row.now.default) × (row.now.default ≤ row.now.number.most) }
-        ensures read { Gives (λ number. number) result (value (entry_data self.now) (default_row row.now)) }
-        ensures range { IfOk result (λ number. (row.now.number.least ≤ number) × (number ≤ row.now.number.most)) }
+        requires { IsInRange row.now.number.least row.now.number.most row.now.default }
+        ensures read { GivesValue (λ number. number) result self.now (default_row row.now) }
+        ensures range { IfOk result (IsInRange row.now.number.least row.now.number.most) }
     {
         match self.number(&row.number)? {
             Some(number) => Ok(number),
@@ -76,7 +77,7 @@ impl<'a> Entry<'a> {
     /// The flag at a key, or its default.
     #[tactic(auto, unfolding(crate::specs::Configurations::value))]
     pub fn flag_or_default(&self, row: &FlagRow) -> Result<bool, ConfigFault>
-        ensures { Gives (λ flag. flag) result (value (entry_data self.now) (flag_row row.now)) }
+        ensures { GivesValue (λ flag. flag) result self.now (flag_row row.now) }
     {
         let Some(value) = self.get(row.key) else {
             return Ok(row.default);
@@ -90,8 +91,8 @@ impl<'a> Entry<'a> {
     /// The address at a required key.
     #[tactic(auto, unfolding(crate::specs::Configurations::value))]
     pub fn address(&self, row: &AddressRow) -> Result<u32, ConfigFault>
-        ensures read { Gives (λ address. address) result (value (entry_data self.now) (address_row row.now)) }
-        ensures range { IfOk result (λ address. (row.now.least ≤ address) × (address ≤ row.now.most)) }
+        ensures read { GivesValue (λ address. address) result self.now (address_row row.now) }
+        ensures range { IfOk result (IsInRange row.now.least row.now.most) }
     {
         let Some(value) = self.get(row.key) else {
             return Err(self.missing(row.key));
@@ -105,8 +106,8 @@ impl<'a> Entry<'a> {
     /// The octets of the text at a required key.
     #[tactic(auto, unfolding(crate::specs::Configurations::value))]
     pub fn required_text(&self, row: &TextRow) -> Result<&'a [u8], ConfigFault>
-        ensures read { Gives (λ text. text.now) result (value (entry_data self.now) (required_text_row row.now)) }
-        ensures range { IfOk result (λ text. HasLength row.now.least row.now.most text.now) }
+        ensures read { GivesValue (λ text. text.now) result self.now (required_text_row row.now) }
+        ensures range { IfOk result (HasRowLength row.now) }
     {
         let Some(value) = self.get(row.key) else {
             return Err(self.missing(row.key));
@@ -120,9 +121,9 @@ impl<'a> Entry<'a> {
     /// The octets of the text at a key that may be absent.
     #[tactic(auto, unfolding(crate::specs::Configurations::value))]
     pub fn text(&self, row: &TextRow) -> Result<Option<&'a [u8]>, ConfigFault>
-        ensures read { Gives (λ found. option_copied found) result (value (entry_data self.now) (text_row row.now)) }
-        ensures range { IfOk result (λ found. IfSome found (λ text. HasLength row.now.least row.now.most text.now)) }
-        ensures present { IfOk result (λ found. is_some found ≡ is_some (at_key (entry_data self.now) row.now.key)) }
+        ensures read { GivesValue option_copied result self.now (text_row row.now) }
+        ensures range { IfOk result (λ found. IfSome found (HasRowLength row.now)) }
+        ensures present { FoundIf result (has_key (entry_data self.now) row.now.key) }
     {
         let Some(value) = self.get(row.key) else {
             return Ok(None);
@@ -136,9 +137,9 @@ impl<'a> Entry<'a> {
     /// The octets of the text at a key that is required if it is needed.
     #[tactic(auto, unfolding(crate::specs::Configurations::value))]
     pub fn text_unless(&self, needed: bool, row: &TextRow) -> Result<Option<&'a [u8]>, ConfigFault>
-        ensures read { Gives (λ found. option_copied found) result (value (entry_data self.now) (text_row_unless needed row.now)) }
-        ensures range { IfOk result (λ found. IfSome found (λ text. HasLength row.now.least row.now.most text.now)) }
-        ensures present { IfOk result (λ found. is_some found ≡ (needed || is_some (at_key (entry_data self.now) row.now.key))) }
+        ensures read { GivesValue option_copied result self.now (text_row_unless needed row.now) }
+        ensures range { IfOk result (λ found. IfSome found (HasRowLength row.now)) }
+        ensures present { FoundIf result (needed || has_key (entry_data self.now) row.now.key) }
     {
         if needed {
             Ok(Some(self.required_text(row)?))

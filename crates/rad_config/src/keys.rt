@@ -1,9 +1,10 @@
 //! The table of keys: which values fit each, and the defaults. A user's pool is any pool's name, so it has no row here.
-ghost use Rattle.std.specs.Prelude.{◌≡◌, ◌≤◌, ◌+◌, min, IfSome};
+ghost use Rattle.std.specs.Prelude.{◌≡◌, ◌+◌, min, IfSome};
+ghost use Rattle.std.specs.Int.{IsInRange};
 ghost use Rattle.std.specs.Option.{option_copied};
 ghost use Rattle.toml.specs.View.{view};
 ghost use Rattle.rad_config.specs.Keys.{number, address, above_first_max, address_max};
-ghost use Rattle.rad_config.specs.Ranges.{HasLength};
+ghost use Rattle.rad_config.specs.Readers.{HasRowLength};
 ghost use Rattle.rad_config.specs.Views.{text_fit};
 
 use crate::config_fault::Key;
@@ -193,7 +194,7 @@ impl NumberRow {
     /// The number that a value is, where it fits.
     pub fn fit(&self, value: &Value) -> Option<u32>
         ensures value { result ≡ number self.now.least self.now.most (view value.now) }
-        ensures range { IfSome result (λ number. (self.now.least ≤ number) × (number ≤ self.now.most)) }
+        ensures range { IfSome result (IsInRange self.now.least self.now.most) }
     {
         let number = value.as_integer()?;
         if number < i64::from(self.least) || number > i64::from(self.most) {
@@ -207,7 +208,7 @@ impl AddressRow {
     /// The address that a value is, where it fits.
     pub fn fit(&self, value: &Value) -> Option<u32>
         ensures value { result ≡ address self.now.least self.now.most (view value.now) }
-        ensures range { IfSome result (λ address. (self.now.least ≤ address) × (address ≤ self.now.most)) }
+        ensures range { IfSome result (IsInRange self.now.least self.now.most) }
     {
         let text = value.as_str()?;
         let address = decimal::address(text.as_bytes())?;
@@ -221,8 +222,8 @@ impl AddressRow {
 impl TextRow {
     /// The octets of the text that a value is, where it fits.
     pub fn fit<'a>(&self, value: &'a Value) -> Option<&'a [u8]>
-        ensures value { option_copied result ≡ text_fit self.now.zeros self.now.least self.now.most (view value.now) }
-        ensures range { IfSome result (λ text. HasLength self.now.least self.now.most text.now) }
+        ensures value { option_copied result ≡ text_fit self.now (view value.now) }
+        ensures range { IfSome result (HasRowLength self.now) }
     {
         let text = value.as_str()?.as_bytes();
         if text.len() < self.least || text.len() > self.most {

@@ -1,11 +1,12 @@
 //! The lists of entries: clients, pools and users.
-ghost use Rattle.std.specs.Prelude.{◌≡◌, ◌≤◌, [], length, All, IfOk};
+ghost use Rattle.std.specs.Prelude.{◌≡◌, ◌≤◌, length, All, IfOk};
 ghost use Rattle.toml.specs.View.{view, items_view, table_view};
 ghost use Rattle.toml.specs.Data.{get_member};
 ghost use Rattle.rad_auth.specs.Clients.{clients_max};
-ghost use Rattle.rad_config.specs.Configurations.{Gives, client_in, entries_from, entry_of, items_in, list_of, pool_in, pools_max, user_in, users_max};
+ghost use Rattle.rad_config.specs.Configurations.{Gives, clients_of, entry_of, items_at, pools_max, pools_of, users_max, users_of};
 ghost use Rattle.rad_config.specs.Faults.{part_name};
 ghost use Rattle.rad_config.specs.Ranges.{IsPool, IsUser};
+ghost use Rattle.rad_config.specs.Readers.{clients_from, found_items, pools_from, users_from};
 ghost use Rattle.rad_config.specs.Views.{data_of, entry_data};
 
 use crate::config_fault::{ConfigFault, Key, Part, Spot};
@@ -22,7 +23,7 @@ use toml::{Table, Value};
 /// The clients of a document.
 #[tactic(auto, unfolding(crate::specs::Configurations::list_of))]
 pub fn read_clients(alloc: Global, document: &Table) -> Result<Clients, ConfigFault>
-    ensures { Gives (λ clients. clients) result (list_of Part.Client clients_max client_in (table_view document.now)) }
+    ensures { Gives (λ clients. clients) result (clients_of (table_view document.now)) }
 {
     let items = items_in(Part::Client, CLIENTS_MAX, document)?;
     clients_from(alloc, items)
@@ -31,7 +32,7 @@ pub fn read_clients(alloc: Global, document: &Table) -> Result<Clients, ConfigFa
 /// The pools of a document.
 #[tactic(auto, unfolding(crate::specs::Configurations::list_of))]
 pub fn read_pools(alloc: Global, document: &Table) -> Result<Vec<Pool>, ConfigFault>
-    ensures read { Gives (λ pools. pools.items) result (list_of Part.Pool pools_max pool_in (table_view document.now)) }
+    ensures read { Gives (λ pools. pools.items) result (pools_of (table_view document.now)) }
     ensures few { IfOk result (λ pools. length pools.items ≤ pools_max) }
     ensures range { IfOk result (λ pools. All IsPool pools.items) }
 {
@@ -43,7 +44,7 @@ pub fn read_pools(alloc: Global, document: &Table) -> Result<Vec<Pool>, ConfigFa
 #[tactic(auto, unfolding(crate::specs::Configurations::list_of))]
 pub fn read_users(alloc: Global, pools: &[Pool], document: &Table) -> Result<Users, ConfigFault>
     requires { length pools.now ≤ pools_max }
-    ensures read { Gives (λ users. users) result (list_of Part.User users_max (user_in pools.now) (table_view document.now)) }
+    ensures read { Gives (λ users. users) result (users_of pools.now (table_view document.now)) }
     ensures range { IfOk result (All (IsUser (length pools.now))) }
 {
     let items = items_in(Part::User, USERS_MAX, document)?;
@@ -60,7 +61,7 @@ fn list_at(part: Part, document: &Table) -> Option<&Value>
 // The items of a part's list, at most so many.
 #[tactic(auto, unfolding(crate::specs::Configurations::items_in))]
 fn items_in(part: Part, most: usize, document: &Table) -> Result<&[Value], ConfigFault>
-    ensures read { Gives (λ items. items_view items.now) result (items_in part most (get_member (part_name part) (table_view document.now))) }
+    ensures read { Gives found_items result (items_at part most (table_view document.now)) }
     ensures few { IfOk result (λ items. length items.now ≤ most) }
 {
     let Some(list) = list_at(part, document) else {
@@ -80,7 +81,7 @@ fn items_in(part: Part, most: usize, document: &Table) -> Result<&[Value], Confi
 // The table that an entry is.
 #[tactic(auto, unfolding(crate::specs::Configurations::entry_of))]
 fn entry_at(part: Part, index: u32, item: &Value) -> Result<Entry<'_>, ConfigFault>
-    ensures { Gives (λ entry. entry_data entry) result (entry_of part index (view item.now)) }
+    ensures { Gives entry_data result (entry_of part index (view item.now)) }
 {
     let table = item.as_table().ok_or(ConfigFault::BadValue(Spot {
         part,
@@ -92,7 +93,7 @@ fn entry_at(part: Part, index: u32, item: &Value) -> Result<Entry<'_>, ConfigFau
 
 fn clients_from(alloc: Global, items: &[Value]) -> Result<Clients, ConfigFault>
     requires { length items.now ≤ clients_max }
-    ensures { Gives (λ clients. clients) result (entries_from Part.Client client_in 1 [] (items_view items.now)) }
+    ensures { Gives (λ clients. clients) result (clients_from (items_view items.now)) }
 {
     let mut clients = Clients::new(alloc);
     for (place, item) in items.iter().enumerate() {
@@ -112,7 +113,7 @@ fn clients_from(alloc: Global, items: &[Value]) -> Result<Clients, ConfigFault>
 
 fn pools_from(alloc: Global, items: &[Value]) -> Result<Vec<Pool>, ConfigFault>
     requires { length items.now ≤ pools_max }
-    ensures read { Gives (λ pools. pools.items) result (entries_from Part.Pool pool_in 1 [] (items_view items.now)) }
+    ensures read { Gives (λ pools. pools.items) result (pools_from (items_view items.now)) }
     ensures few { IfOk result (λ pools. length pools.items ≤ pools_max) }
     ensures range { IfOk result (λ pools. All IsPool pools.items) }
 {
@@ -128,7 +129,7 @@ fn pools_from(alloc: Global, items: &[Value]) -> Result<Vec<Pool>, ConfigFault>
 fn users_from(alloc: Global, pools: &[Pool], items: &[Value]) -> Result<Users, ConfigFault>
     requires few { length items.now ≤ users_max }
     requires pools { length pools.now ≤ pools_max }
-    ensures read { Gives (λ users. users) result (entries_from Part.User (user_in pools.now) 1 [] (items_view items.now)) }
+    ensures read { Gives (λ users. users) result (users_from pools.now (items_view items.now)) }
     ensures range { IfOk result (All (IsUser (length pools.now))) }
 {
     let mut users = Users::new(alloc);

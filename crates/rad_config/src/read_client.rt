@@ -2,7 +2,7 @@
 ghost use Rattle.std.specs.Prelude.{◌≡◌, None, IfOk};
 ghost use Rattle.rad_auth.specs.Clients.{IsSecret, client_place};
 ghost use Rattle.rad_config.specs.Configurations.{Gives, client_in};
-ghost use Rattle.rad_config.specs.ReadEntries.{client_of_entry};
+ghost use Rattle.rad_config.specs.ReadEntries.{entry_client};
 ghost use Rattle.rad_config.specs.Views.{entry_data};
 
 use crate::config_fault::{ConfigFault, Key};
@@ -21,7 +21,7 @@ pub struct ClientEntry<'a> {
 /// The client that an entry says, whose address no earlier one has.
 #[tactic(auto, unfolding(crate::specs::Configurations::client_in))]
 pub fn read_client<'a>(earlier: &Clients, entry: &Entry<'a>) -> Result<ClientEntry<'a>, ConfigFault>
-    ensures read { Gives client_of_entry result (client_in earlier.now (entry_data entry.now)) }
+    ensures read { Gives entry_client result (client_in earlier.now (entry_data entry.now)) }
     ensures new { IfOk result (λ client. client_place earlier.now client.address ≡ None) }
     ensures secret { IfOk result (λ client. IsSecret client.secret.now) }
 {

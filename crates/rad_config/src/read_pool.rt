@@ -1,9 +1,10 @@
 //! Reading pools.
 ghost use Rattle.std.specs.Prelude.{◌≡◌, ◌<◌, ◌≤◌, IfOk, IfSome, length};
 ghost use Rattle.std.specs.List.{list_any};
-ghost use Rattle.rad_config.specs.Configurations.{Gives, overlap, pool_in, pools_max, share, value};
+ghost use Rattle.rad_config.specs.Configurations.{Gives, overlap, pool_in, pools_max, share};
 ghost use Rattle.rad_config.specs.Keys.{pool_place, user_pool};
 ghost use Rattle.rad_config.specs.Ranges.{IsPool};
+ghost use Rattle.rad_config.specs.Readers.{GivesValue};
 ghost use Rattle.rad_config.specs.Views.{entry_data};
 
 use crate::config_fault::{ConfigFault, Key};
@@ -41,7 +42,7 @@ fn place_of(pools: &[Pool], name: &[u8]) -> Option<usize>
 #[tactic(auto, unfolding(crate::specs::Configurations::value))]
 pub fn read_pool_place(pools: &[Pool], entry: &Entry<'_>) -> Result<Option<u32>, ConfigFault>
     requires { length pools.now ≤ pools_max }
-    ensures read { Gives (λ place. place) result (value (entry_data entry.now) (user_pool pools.now)) }
+    ensures read { GivesValue (λ place. place) result entry.now (user_pool pools.now) }
     ensures within { IfOk result (λ found. IfSome found (λ place. place < length pools.now)) }
 {
     let Some(value) = entry.get(Key::Pool) else {

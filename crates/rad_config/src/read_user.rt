@@ -3,7 +3,7 @@ ghost use Rattle.std.specs.Prelude.{◌≡◌, ◌≤◌, length, IfOk, None};
 ghost use Rattle.std.specs.Option.{option_copied};
 ghost use Rattle.rad_config.specs.Configurations.{Gives, pools_max, user_in, user_place};
 ghost use Rattle.rad_config.specs.Ranges.{IsUser};
-ghost use Rattle.rad_config.specs.ReadEntries.{user_of_entry};
+ghost use Rattle.rad_config.specs.ReadEntries.{entry_user};
 ghost use Rattle.rad_config.specs.Views.{entry_data};
 
 use crate::config_fault::{ConfigFault, Key};
@@ -40,9 +40,9 @@ pub fn read_user<'a>(
     entry: &Entry<'a>,
 ) -> Result<UserEntry<'a>, ConfigFault>
     requires { length pools.now ≤ pools_max }
-    ensures read { Gives user_of_entry result (user_in pools.now earlier.now (entry_data entry.now)) }
+    ensures read { Gives entry_user result (user_in pools.now earlier.now (entry_data entry.now)) }
     ensures new { IfOk result (λ user. user_place earlier.now user.name.now ≡ None) }
-    ensures range { IfOk result (λ user. IsUser (length pools.now) (user_of_entry user)) }
+    ensures range { IfOk result (λ user. IsUser (length pools.now) (entry_user user)) }
 {
     let name = entry.required_text(&USER_NAME)?;
     if earlier.find(name).is_some() {
@@ -73,11 +73,11 @@ pub fn read_user<'a>(
 
 impl<'a> UserEntry<'a> {
     ghost use Rattle.std.specs.Prelude.{◌≡◌, IfOk};
-    ghost use Rattle.rad_config.specs.ReadEntries.{user_of_entry};
+    ghost use Rattle.rad_config.specs.ReadEntries.{entry_user};
 
     /// The user with octets of their own.
     pub fn to_user(&self, alloc: Global) -> Result<User, AllocError>
-        ensures { IfOk result (λ user. user ≡ user_of_entry self.now) }
+        ensures { IfOk result (λ user. user ≡ entry_user self.now) }
     {
         Ok(User {
             name: Text::copy_of(alloc, self.name)?,

@@ -1,5 +1,6 @@
 //! Whether pools and users are equal.
 ghost use Rattle.std.specs.Prelude.{◌≡◌, ◌↔◌, IsTrue};
+ghost use Rattle.rad_config.specs.UserTables.{HaveSameAccess, HaveSameAttributes, HaveSameChallenge};
 
 use crate::pool::Pool;
 use crate::text::Text;
@@ -41,7 +42,7 @@ fn same_user(user: &User, other: &User) -> bool
 
 // Who may enter.
 fn same_access(user: &User, other: &User) -> bool
-    ensures { IsTrue result ↔ ((user.now.name ≡ other.now.name) × (user.now.password ≡ other.now.password) × (user.now.pool ≡ other.now.pool) × (user.now.sessions ≡ other.now.sessions)) }
+    ensures { IsTrue result ↔ HaveSameAccess user.now other.now }
 {
     user.name.same(&other.name)
         && user.password.same(&other.password)
@@ -51,7 +52,7 @@ fn same_access(user: &User, other: &User) -> bool
 
 // What an Access-Accept says.
 fn same_attributes(user: &User, other: &User) -> bool
-    ensures { IsTrue result ↔ ((user.now.service ≡ other.now.service) × (user.now.protocol ≡ other.now.protocol) × (user.now.timeout ≡ other.now.timeout) × (user.now.message ≡ other.now.message)) }
+    ensures { IsTrue result ↔ HaveSameAttributes user.now other.now }
 {
     user.service == other.service
         && user.protocol == other.protocol
@@ -61,7 +62,7 @@ fn same_attributes(user: &User, other: &User) -> bool
 
 // What an Access-Challenge asks.
 fn same_challenge(user: &User, other: &User) -> bool
-    ensures { IsTrue result ↔ ((user.now.challenge ≡ other.now.challenge) × (user.now.answer ≡ other.now.answer)) }
+    ensures { IsTrue result ↔ HaveSameChallenge user.now other.now }
 {
     same_text(&user.challenge, &other.challenge) && same_text(&user.answer, &other.answer)
 }

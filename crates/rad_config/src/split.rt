@@ -11,7 +11,7 @@ fn place(text: &[u8], separator: u8) -> Option<usize>
 
 /// The text before the first separator, and the text after it.
 pub fn split_once(text: &[u8], separator: u8) -> Option<(&[u8], &[u8])>
-    ensures { option_map (λ parts. (parts.0.now, parts.1.now)) result ≡ split_once separator text.now }
+    ensures { option_map (λ two. (two.0.now, two.1.now)) result ≡ split_once separator text.now }
 {
     let end = place(text, separator)?;
     Some((&text[..end], &text[end + 1..]))

@@ -43,16 +43,15 @@ pub struct Users {
 }
 
 impl Model for Users {
-    ghost use Rattle.std.specs.Prelude.{◌≡◌, ◌≤◌, List, length, map};
-    ghost use Rattle.rad_config.specs.Configurations.{users_max};
-    ghost use Rattle.rad_config.specs.Ranges.{AreNamedApart};
+    ghost use Rattle.std.specs.Prelude.{List};
+    ghost use Rattle.rad_config.specs.UserTables.{KeepsUsers};
     ghost use Rattle.rad_config.specs.declared.user.User.{User};
 
     ghost Value = { List User };
 
     ghost view = { λ users. users.rows.items };
 
-    ghost invariant = { λ users. (map (λ name. name.items) users.names.keys ≡ map (λ user. user.name) users.rows.items) × (length users.rows.items ≤ users_max) × AreNamedApart users.rows.items };
+    ghost invariant = { λ users. KeepsUsers users.names.keys users.rows.items };
 }
 
 impl Users {

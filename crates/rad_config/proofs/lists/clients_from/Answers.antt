@@ -2,7 +2,7 @@ use Rattle.std.proofs.Common.{◌≡◌, ◌+◌, ◌∷◌, [], ◌++◌, sym, 
 use Rattle.std.proofs.lemmas.List.{length_push}
 use Rattle.std.proofs.lemmas.Result.{err_from_is_err_and}
 use Rattle.rad_config.specs.Configurations.{client_in}
-use Rattle.rad_config.specs.ReadEntries.{client_of_entry}
+use Rattle.rad_config.specs.ReadEntries.{entry_client}
 use Rattle.rad_config.specs.Views.{entry_data}
 use Rattle.rad_config.specs.declared.config_fault.Part.TheVariants as part
 use Rattle.rad_config.proofs.EntryLemmas.{entries_from-more, entries_from-no_entry, entries_from-refused, entries_from-all}
@@ -20,10 +20,10 @@ returns-in_err-client c =
 
 pub loop-place-preserved : goal.loop-place-preserved
 loop-place-preserved c =
-    let more : c.add.new.self ≡ c.loop-place.clients ++ client_of_entry c.in_ok-client.client ∷ [] = search rules in
+    let more : c.add.new.self ≡ c.loop-place.clients ++ entry_client c.in_ok-client.client ∷ [] = search rules in
     record {
       one_each = rw (more, length_push) (omega arith);
-      as_all = rw more (sym (entries_from-more part.Client client_in c.args.items.now c.loop-place.place c.index-items-place.result c.loop-place.clients c.loop-place-test.true c.index-items-place.is (entry_data c.in_ok-entry.entry) (client_of_entry c.in_ok-client.client) c.in_ok-entry.ensures c.in_ok-client.ensures.read) ∙ c.loop-place.invariant.as_all);
+      as_all = rw more (sym (entries_from-more part.Client client_in c.args.items.now c.loop-place.place c.index-items-place.result c.loop-place.clients c.loop-place-test.true c.index-items-place.is (entry_data c.in_ok-entry.entry) (entry_client c.in_ok-client.client) c.in_ok-entry.ensures c.in_ok-client.ensures.read) ∙ c.loop-place.invariant.as_all);
     }
 
 pub returns : goal.returns

@@ -1,8 +1,9 @@
-use Rattle.std.proofs.Common.{◌≡◌, ◌+◌, [], length, drop}
+use Rattle.std.proofs.Common.{◌≡◌, ◌+◌, length, drop}
 use Rattle.std.specs.Prelude.{All}
 use Rattle.toml.specs.View.{items_view}
 use Rattle.rad_config.specs.Configurations.{entries_from, pool_in}
 use Rattle.rad_config.specs.Ranges.{IsPool}
+use Rattle.rad_config.specs.Readers.{pools_from}
 use Rattle.rad_config.specs.declared.config_fault.Part.TheVariants as part
 use Rattle.rad_config.proofs.lists.pools_from.Given as goal
 
@@ -11,6 +12,6 @@ abbrev pub invariant-loop-place : goal.invariant-loop-place
 invariant-loop-place l =
     record {
       one_each : length l.pools.items ≡ l.place;
-      as_all : entries_from part.Pool pool_in (l.place + 1) l.pools.items (items_view (drop l.place l.items)) ≡ entries_from part.Pool pool_in 1 [] (items_view l.items);
+      as_all : entries_from part.Pool pool_in (l.place + 1) l.pools.items (items_view (drop l.place l.items)) ≡ pools_from (items_view l.items);
       ranges : All IsPool l.pools.items;
     }

@@ -3,7 +3,7 @@ use Rattle.std.proofs.lemmas.List.{length_push}
 use Rattle.std.proofs.lemmas.Result.{err_from_is_err_and}
 use Rattle.rad_config.specs.Configurations.{user_in}
 use Rattle.rad_config.specs.Ranges.{IsUser}
-use Rattle.rad_config.specs.ReadEntries.{user_of_entry}
+use Rattle.rad_config.specs.ReadEntries.{entry_user}
 use Rattle.rad_config.specs.Views.{entry_data}
 use Rattle.rad_config.specs.declared.config_fault.Part.TheVariants as part
 use Rattle.rad_config.proofs.EntryLemmas.{entries_from-more, entries_from-no_entry, entries_from-refused, entries_from-all, All-push}
@@ -21,7 +21,7 @@ returns-in_err-said-clause-read c =
 
 pub loop-place-preserved : goal.loop-place-preserved
 loop-place-preserved c =
-    let is : c.in_ok-user.user ≡ user_of_entry c.in_ok-said.said = search rules in
+    let is : c.in_ok-user.user ≡ entry_user c.in_ok-said.said = search rules in
     let more : c.add.new.self ≡ c.loop-place.users ++ c.in_ok-user.user ∷ [] = search rules in
     record {
       one_each = rw (more, length_push) (omega arith);

@@ -3,8 +3,10 @@ use Rattle.rad_config.proofs.user.Users.find.Goals as goal
 
 pub returns-in_err-place-clause-value : goal.returns-in_err-place-clause-value
 returns-in_err-place-clause-value c =
-    rw (← c.self.view_is, ← user_place-names c.self.inside.names.keys c.self.inside.rows.items c.self.invariant.0 c.args.name.now, ← c.get_index_of.ensures.index, c.in_err-place.was) c.from_residual.ensures
+    let named = user_place-names c.self.inside.names.keys c.self.inside.rows.items c.self.invariant.index c.args.name.now in
+    rw (← c.self.view_is, ← named, ← c.get_index_of.ensures.index, c.in_err-place.was) c.from_residual.ensures
 
 pub returns-clause-value : goal.returns-clause-value
 returns-clause-value c =
-    rw (← c.self.view_is, ← user_place-names c.self.inside.names.keys c.self.inside.rows.items c.self.invariant.0 c.args.name.now) c.in_ok-place.ensures.index
+    let named = user_place-names c.self.inside.names.keys c.self.inside.rows.items c.self.invariant.index c.args.name.now in
+    rw (← c.self.view_is, ← named) c.in_ok-place.ensures.index

@@ -1,0 +1,43 @@
+-- What the functions return that read keys, lists and their entries. Only the contracts of private functions use these words.
+use Rattle.std.specs.Prelude.{◌≡◌, ℕ, Bool, List, [], Option, is_some, Result, IfOk}
+use Rattle.std.specs.Borrow.{Bor}
+use Rattle.toml.specs.Data.{Items}
+use Rattle.toml.specs.View.{items_view}
+use Rattle.toml.specs.declared.value.Value.{Value}
+use Rattle.rad_auth.specs.Clients.{Client}
+use Rattle.rad_config.specs.Configurations.{Gives, client_in, entries_from, pool_in, user_in, value}
+use Rattle.rad_config.specs.Keys.{Row}
+use Rattle.rad_config.specs.Ranges.{HasLength}
+use Rattle.rad_config.specs.Views.{entry_data}
+use Rattle.rad_config.specs.declared.config_fault.ConfigFault.{ConfigFault}
+use Rattle.rad_config.specs.declared.config_fault.Part.TheVariants as parts
+use Rattle.rad_config.specs.declared.entry.Entry.{Entry}
+use Rattle.rad_config.specs.declared.keys.TextRow.{TextRow}
+use Rattle.rad_config.specs.declared.pool.Pool.{Pool}
+use Rattle.rad_config.specs.declared.user.User.{User}
+
+-- what a call returned, seen by view, is the value in an entry at a row's key, unless memory ran out
+abbrev pub GivesValue : {X A : Type 0} → (X → A) → Result X ConfigFault → Entry → Row A → Type 0
+GivesValue view result entry row = Gives view result (value (entry_data entry) row)
+
+-- a call that returned without a fault found a value exactly if this is true
+abbrev pub FoundIf : {X : Type 0} → Result (Option X) ConfigFault → Bool → Type 0
+FoundIf result is_there = IfOk result (λ found. is_some found ≡ is_there)
+
+-- as many octets as a row says
+abbrev pub HasRowLength : TextRow → Bor (List ℕ) → Type 0
+HasRowLength row text = HasLength row.least row.most text.now
+
+-- the items that the code found
+abbrev pub found_items : Bor (List Value) → Items
+found_items items = items_view items.now
+
+-- the clients, the pools, and the users beside these pools, that items are
+abbrev pub clients_from : Items → Result (List Client) ConfigFault
+clients_from items = entries_from parts.Client client_in 1 [] items
+
+abbrev pub pools_from : Items → Result (List Pool) ConfigFault
+pools_from items = entries_from parts.Pool pool_in 1 [] items
+
+abbrev pub users_from : List Pool → Items → Result (List User) ConfigFault
+users_from pools items = entries_from parts.User (user_in pools) 1 [] items

@@ -1,0 +1,27 @@
+-- The users of the code: what is kept of them and their names, and when two are equal. Only the contracts of private functions, and
+-- the invariant of a private type, use these words.
+use Rattle.std.specs.Prelude.{◌≡◌, ℕ, ◌≤◌, List, length, map, Vec}
+use Rattle.std.specs.Global.{Global}
+use Rattle.rad_config.specs.Configurations.{users_max}
+use Rattle.rad_config.specs.Ranges.{AreNamedApart}
+use Rattle.rad_config.specs.declared.user.User.{User}
+
+-- the names in an index, each at the place of its user, and the users
+pub record KeepsUsers (names : List (Vec ℕ Global)) (users : List User) : Type 0 where
+  pub index : map (λ name. name.items) names ≡ map (λ user. user.name) users
+  pub few : length users ≤ users_max
+  pub apart : AreNamedApart users
+
+-- who may enter
+abbrev pub HaveSameAccess : User → User → Type 0
+HaveSameAccess user other =
+    (user.name ≡ other.name) × (user.password ≡ other.password) × (user.pool ≡ other.pool) × (user.sessions ≡ other.sessions)
+
+-- what an Access-Accept says
+abbrev pub HaveSameAttributes : User → User → Type 0
+HaveSameAttributes user other =
+    (user.service ≡ other.service) × (user.protocol ≡ other.protocol) × (user.timeout ≡ other.timeout) × (user.message ≡ other.message)
+
+-- what an Access-Challenge asks
+abbrev pub HaveSameChallenge : User → User → Type 0
+HaveSameChallenge user other = (user.challenge ≡ other.challenge) × (user.answer ≡ other.answer)
