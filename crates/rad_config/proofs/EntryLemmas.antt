@@ -13,7 +13,8 @@ use Rattle.rad_config.specs.declared.config_fault.ConfigFault.{ConfigFault}
 use Rattle.rad_config.specs.declared.config_fault.ConfigFault.TheVariants.{NoMemory, TooMany}
 use Rattle.rad_config.specs.Configurations.{EntryData, entry_of, entries_from, items_in, count_items}
 
-module _ {A : Type 0} (part : Part) (read : List A → EntryData → Result A ConfigFault) (values : List Value) (i : ℕ) (value : Value) (earlier : List A) (within : i < length values) (found : value ≡ get_or values i value) where
+module _ {A : Type 0} (part : Part) (read : List A → EntryData → Result A ConfigFault) (values : List Value) (i : ℕ) (value : Value)
+    (earlier : List A) (within : i < length values) (found : value ≡ get_or values i value) where
   -- an entry that is read
   pub entries_from-more : (e : EntryData) (a : A) → entry_of part (i + 1) (view value) ≡ Ok e → read earlier e ≡ Ok a
       → entries_from part read (i + 1) earlier (items_view (drop i values)) ≡ entries_from part read (i + 1 + 1) (earlier ++ a ∷ []) (items_view (drop (i + 1) values))
@@ -30,7 +31,8 @@ module _ {A : Type 0} (part : Part) (read : List A → EntryData → Result A Co
       inr (sym so_far ∙ here)
 
   -- an entry that is refused
-  pub entries_from-refused : (e : EntryData) (fault : ConfigFault) (total : Result (List A) ConfigFault) → entry_of part (i + 1) (view value) ≡ Ok e → (fault ≡ NoMemory) ⊎ (read earlier e ≡ Err fault)
+  pub entries_from-refused : (e : EntryData) (fault : ConfigFault) (total : Result (List A) ConfigFault)
+      → entry_of part (i + 1) (view value) ≡ Ok e → (fault ≡ NoMemory) ⊎ (read earlier e ≡ Err fault)
       → entries_from part read (i + 1) earlier (items_view (drop i values)) ≡ total → (fault ≡ NoMemory) ⊎ (total ≡ Err fault)
   unfolding entries_from
   entries_from-refused e fault total is_entry (inl memory) so_far = inl memory
@@ -39,7 +41,8 @@ module _ {A : Type 0} (part : Part) (read : List A → EntryData → Result A Co
       inr (sym so_far ∙ here)
 
 -- no entry is left
-pub entries_from-all : {A : Type 0} (part : Part) (read : List A → EntryData → Result A ConfigFault) (values : List Value) (i index : ℕ) (earlier : List A) → length values ≤ i → entries_from part read index earlier (items_view (drop i values)) ≡ Ok earlier
+pub entries_from-all : {A : Type 0} (part : Part) (read : List A → EntryData → Result A ConfigFault) (values : List Value) (i index : ℕ) (earlier : List A)
+    → length values ≤ i → entries_from part read index earlier (items_view (drop i values)) ≡ Ok earlier
 unfolding entries_from
 entries_from-all part read values i index earlier past = rw (drop_all i values past)
 
@@ -48,12 +51,14 @@ count_items-view [] = refl
 count_items-view (value ∷ values) = omega (arith, count_items-view values)
 
 -- more entries than there may be
-pub items_in-many : (part : Part) (most : ℕ) (d : Data) (values : List Value) → as_array d ≡ Some (items_view values) → most < length values → items_in part most (Some d) ≡ Err (TooMany part)
+pub items_in-many : (part : Part) (most : ℕ) (d : Data) (values : List Value) → as_array d ≡ Some (items_view values)
+    → most < length values → items_in part most (Some d) ≡ Err (TooMany part)
 unfolding items_in
 items_in-many part most d values is_array many = rw (is_array, count_items-view values, lt-ltb _ _ many) refl
 
 -- entries that are few enough
-pub items_in-few : (part : Part) (most : ℕ) (d : Data) (values : List Value) → as_array d ≡ Some (items_view values) → length values ≤ most → items_in part most (Some d) ≡ Ok (items_view values)
+pub items_in-few : (part : Part) (most : ℕ) (d : Data) (values : List Value) → as_array d ≡ Some (items_view values)
+    → length values ≤ most → items_in part most (Some d) ≡ Ok (items_view values)
 unfolding items_in
 items_in-few part most d values is_array few = rw (is_array, count_items-view values, le-ltb _ _ few) refl
 

@@ -20,7 +20,8 @@ found-more : {A : Type 0} (p : A → Bool) (xs : List A) (x : A) (i : ℕ) → p
 found-more p [] x i found = absurd cc
 found-more p (y ∷ ys) x i found = at (p y) (position p ys) (found-more p ys x) refl refl
   where
-    at : (b : Bool) (rest : Option ℕ) → ((j : ℕ) → position p ys ≡ Some j → position p (ys ++ x ∷ []) ≡ Some j) → p y ≡ b → position p ys ≡ rest → position p (y ∷ ys ++ x ∷ []) ≡ Some i
+    at : (b : Bool) (rest : Option ℕ) → ((j : ℕ) → position p ys ≡ Some j → position p (ys ++ x ∷ []) ≡ Some j)
+        → p y ≡ b → position p ys ≡ rest → position p (y ∷ ys ++ x ∷ []) ≡ Some i
     at true rest later here behind = position-step p y (ys ++ x ∷ []) true here ∙ sym (position-step p y ys true here) ∙ found
     at false None later here behind = absurd (none-some (sym found ∙ position-step p y ys false here ∙ ap (option_map suc) behind))
     at false (Some j) later here behind =
@@ -31,7 +32,8 @@ found-last : {A : Type 0} (p : A → Bool) (xs : List A) (x : A) → position p 
 found-last p [] x none here = position-step p x [] true here
 found-last p (y ∷ ys) x none here = at (p y) (position p ys) (λ rest. found-last p ys x rest here) refl refl
   where
-    at : (b : Bool) (rest : Option ℕ) → (position p ys ≡ None → position p (ys ++ x ∷ []) ≡ Some (length ys)) → p y ≡ b → position p ys ≡ rest → position p (y ∷ ys ++ x ∷ []) ≡ Some (length (y ∷ ys))
+    at : (b : Bool) (rest : Option ℕ) → (position p ys ≡ None → position p (ys ++ x ∷ []) ≡ Some (length ys))
+        → p y ≡ b → position p ys ≡ rest → position p (y ∷ ys ++ x ∷ []) ≡ Some (length (y ∷ ys))
     at true rest later first behind = absurd (none-some (sym (position-step p y ys true first) ∙ none))
     at false None later first behind = position-step p y (ys ++ x ∷ []) false first ∙ ap (option_map suc) (later behind)
     at false (Some j) later first behind = absurd (none-some (sym (ap (option_map suc) behind) ∙ sym (position-step p y ys false first) ∙ none))

@@ -14,7 +14,11 @@ share-from_address p q address here there = grind (arith, nat_tests, here, there
 
 -- pools that share an address hold one, the greater of their first ones
 pub address-from_share : (p q : Pool) → p.first ≤ p.last → q.first ≤ q.last → share p q ≡ true → (address : ℕ) × HasAddress p address × HasAddress q address
-address-from_share p q p_is q_is shared = (max p.first q.first, (grind (arith, nat_tests, p_is, q_is, shared), grind (arith, nat_tests, p_is, q_is, shared)), (grind (arith, nat_tests, p_is, q_is, shared), grind (arith, nat_tests, p_is, q_is, shared)))
+address-from_share p q p_is q_is shared = (
+  max p.first q.first,
+  (grind (arith, nat_tests, p_is, q_is, shared), grind (arith, nat_tests, p_is, q_is, shared)),
+  (grind (arith, nat_tests, p_is, q_is, shared), grind (arith, nat_tests, p_is, q_is, shared)),
+)
 
 -- a pool that passes makes a list pass
 list_any_place : (test : Pool → Bool) (pools : List Pool) (i : ℕ) (q : Pool) → slice_get pools i ≡ Some q → test q ≡ true → list_any test pools ≡ true
@@ -23,7 +27,8 @@ list_any_place test (pool ∷ pools) zero q at_place passes = grind (arith, ap (
 list_any_place test (pool ∷ pools) (suc i) q at_place passes = or_right (test pool) (list_any test pools) (list_any_place test pools i q at_place passes)
 
 -- a pool that shares nothing with the others holds no address of one of them
-alone : (pool : Pool) (pools : List Pool) (j : ℕ) (q : Pool) (address : ℕ) → list_any (share pool) pools ≡ false → slice_get pools j ≡ Some q → HasAddress pool address → ¬ HasAddress q address
+alone : (pool : Pool) (pools : List Pool) (j : ℕ) (q : Pool) (address : ℕ)
+    → list_any (share pool) pools ≡ false → slice_get pools j ≡ Some q → HasAddress pool address → ¬ HasAddress q address
 alone pool pools j q address none at_place here there =
     true≢false (sym (list_any_place (share pool) pools j q at_place (share-from_address pool q address here there)) ∙ none)
 

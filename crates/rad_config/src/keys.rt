@@ -98,7 +98,7 @@ pub const POOL_NAME: TextRow = TextRow {
     zeros: true,
 };
 
-/// The highest address of a pool: Framed-IP-Address gives the two above it a meaning of their own (RFC 2865, section 5.8).
+// The highest address of a pool: Framed-IP-Address gives the two above it a meaning of their own (RFC 2865, section 5.8).
 const ADDRESS_MAX: u32 = 4_294_967_293;
 
 /// From 0.0.0.1 to 255.255.255.253.
@@ -108,7 +108,7 @@ pub const POOL_FIRST: AddressRow = AddressRow {
     most: ADDRESS_MAX,
 };
 
-/// How far the last address of a pool may lie above its first.
+// How far the last address of a pool may lie above its first.
 const ABOVE_FIRST_MAX: u32 = 65_535;
 
 /// The last address of a pool with this first one: not below it, and not too far above it.

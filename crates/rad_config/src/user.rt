@@ -38,7 +38,7 @@ pub struct User {
 #[derive(Drop)]
 pub struct Users {
     rows: Vec<User>,
-    /// The users' names: a name has the place of its user.
+    // The users' names: a name has the place of its user.
     names: IndexSet<Vec<u8>>,
 }
 

@@ -7,7 +7,7 @@ use rad_config::{Config, ConfigFault};
 use std::alloc::AllocError;
 use std::process::Abort;
 
-/// Configuration with two clients, three pools and thirteen users.
+// Configuration with two clients, three pools and thirteen users.
 const CAMPUS: &str = r#"
 window = 30
 hold = 60
@@ -122,7 +122,7 @@ fn is_printed(rt: &impl Abort, printed: &str, want: &str, what: &str) {
     assert_eq!(rt; printed, want, "at {what:?}");
 }
 
-/// The printed fault of a text, or `read`.
+// The printed fault of a text, or `read`.
 fn outcome(rt: &impl AllocGlobal, text: &str) -> Result<String, AllocError> {
     match fault(rt, text) {
         None => String::from_str(rt.alloc(), "read"),
@@ -134,14 +134,14 @@ fn fault(rt: &impl AllocGlobal, text: &str) -> Option<ConfigFault> {
     Config::read(rt.alloc(), text).err()
 }
 
-/// Asserts the outcome of a text.
+// Asserts the outcome of a text.
 fn reads_as<R: Abort + AllocGlobal>(rt: &R, text: &str, want: &str) -> Result<(), AllocError> {
     let printed = outcome(rt, text)?;
     is_printed(rt, printed.as_str(), want, text);
     Ok(())
 }
 
-/// Asserts the outcome of each text.
+// Asserts the outcome of each text.
 fn read_as<R: Abort + AllocGlobal>(rt: &R, cases: &[(&str, &str)]) -> Result<(), AllocError> {
     for (text, want) in cases {
         reads_as(rt, text, want)?;

@@ -2,7 +2,7 @@ use super::{is_printed, read_as};
 use rad_config::ConfigFault;
 use std::test::Fail;
 
-/// Texts, and the printed fault of each, or `read`.
+// Texts, and the printed fault of each, or `read`.
 const PRINTED: [(&str, &str); 25] = [
     ("", "read"),
     ("listen = 3\n[proxy]\nclient = 3", "read"),
@@ -74,7 +74,7 @@ fn each_fault_is_printed(rt: HostRuntime) -> Result<(), Fail> {
     Ok(())
 }
 
-/// Texts with several faults, and the one that is reported.
+// Texts with several faults, and the one that is reported.
 const FIRST: [(&str, &str); 11] = [
     (
         "hold = 0\nwindow = 0",

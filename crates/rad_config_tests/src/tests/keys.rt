@@ -3,7 +3,7 @@ use std::alloc::AllocError;
 use std::process::Abort;
 use std::test::Fail;
 
-/// Keys that hold a number, each with values that fit, values that don't, and the fault of these.
+// Keys that hold a number, each with values that fit, values that don't, and the fault of these.
 const NUMBERS: [(&str, [i64; 2], [i64; 2], &str); 6] = [
     (
         "hold = 3600\nwindow",
@@ -43,7 +43,7 @@ const NUMBERS: [(&str, [i64; 2], [i64; 2], &str); 6] = [
     ),
 ];
 
-/// What fits no key that holds a number.
+// What fits no key that holds a number.
 const NO_NUMBERS: [&str; 6] = [
     "true",
     "1.0",
@@ -126,7 +126,7 @@ fn only_numbers_are_numbers(rt: HostRuntime) -> Result<(), Fail> {
     Ok(())
 }
 
-/// Keys that hold a text, each with what follows it, lengths that fit, lengths that don't, and the fault of these.
+// Keys that hold a text, each with what follows it, lengths that fit, lengths that don't, and the fault of these.
 const TEXTS: [(&str, &str, [usize; 2], [usize; 2], &str); 7] = [
     (
         "[[client]]\naddress = \"1.2.3.4\"\nsecret",
@@ -235,7 +235,7 @@ fn numbers_are_no_texts(rt: HostRuntime) -> Result<(), Fail> {
     Ok(())
 }
 
-/// How many letters of two octets a secret has, and the outcome.
+// How many letters of two octets a secret has, and the outcome.
 const LETTERS: [(usize, &str); 2] = [
     (64, "read"),
     (65, "config fault 3 BadValue at client 1 secret"),
@@ -250,7 +250,7 @@ fn octets_are_counted(rt: HostRuntime) -> Result<(), Fail> {
     Ok(())
 }
 
-/// Texts with a zero, and the outcome of each.
+// Texts with a zero, and the outcome of each.
 const ZEROS: [(&str, &str); 7] = [
     (
         "[[client]]\naddress = \"1.2.3.4\"\nsecret = \"\\u0000\"",
@@ -285,7 +285,7 @@ fn only_passwords_and_answers_have_no_zero(rt: HostRuntime) -> Result<(), Fail> 
     Ok(())
 }
 
-/// Addresses of clients, and the outcome of each.
+// Addresses of clients, and the outcome of each.
 const ADDRESSES: [(&str, &str); 12] = [
     ("0.0.0.0", "read"),
     ("255.255.255.255", "read"),
@@ -322,7 +322,7 @@ fn addresses_have_ranges(rt: HostRuntime) -> Result<(), Fail> {
     Ok(())
 }
 
-/// First and last addresses of pools, and the outcome of each pair.
+// First and last addresses of pools, and the outcome of each pair.
 const POOLS: [(&str, &str, &str); 8] = [
     ("0.0.0.1", "0.0.0.1", "read"),
     (
@@ -375,7 +375,7 @@ fn pools_have_bounds(rt: HostRuntime) -> Result<(), Fail> {
     Ok(())
 }
 
-/// Texts with a flag, and the outcome of each.
+// Texts with a flag, and the outcome of each.
 const FLAGS: [(&str, &str); 4] = [
     (
         "[[client]]\naddress = \"1.2.3.4\"\nsecret = \"s\"\nrequire_message_authenticator = true",

@@ -36,7 +36,7 @@ fn add_users(rt: &impl AllocGlobal, text: &mut String, count: u32) -> Result<(),
     Ok(())
 }
 
-/// So many clients, pools and users.
+// So many clients, pools and users.
 fn numbered(
     rt: &impl AllocGlobal,
     clients: u32,
@@ -50,7 +50,7 @@ fn numbered(
     Ok(text)
 }
 
-/// The configuration with the most clients, pools and users.
+// The configuration with the most clients, pools and users.
 fn longest(rt: &impl AllocGlobal) -> Result<Config, Fail> {
     let text = numbered(rt, 256, 16, 4_096)?;
     Ok(Config::read(rt.alloc(), text.as_str())?)
@@ -78,7 +78,7 @@ fn the_longest_lists_are_read(rt: HostRuntime) -> Result<(), Fail> {
     Ok(())
 }
 
-/// How many clients, pools and users a text has, and its fault.
+// How many clients, pools and users a text has, and its fault.
 const TOO_MANY: [(u32, u32, u32, &str); 3] = [
     (257, 0, 0, "config fault 6 TooMany at client"),
     (0, 17, 0, "config fault 6 TooMany at pool"),

@@ -35,7 +35,7 @@ fn are_counted(rt: &impl Abort, config: &Config) {
     holds(rt, client == Some(1), "the second client");
 }
 
-/// Names, and the place of each in the campus.
+// Names, and the place of each in the campus.
 const PLACES: [(&str, Option<u32>); 4] = [
     ("kay", Some(3)),
     ("Kay", None),
@@ -145,7 +145,7 @@ fn a_user_has_what_the_text_says(rt: HostRuntime) -> Result<(), Fail> {
 
 const LINE_COUNT: usize = 18;
 
-/// The lines of a configuration, each with another that says something else.
+// The lines of a configuration, each with another that says something else.
 const LINES: [(&str, &str); LINE_COUNT] = [
     ("window = 30", "window = 29"),
     ("hold = 60", "hold = 61"),
@@ -176,7 +176,7 @@ const LINES: [(&str, &str); LINE_COUNT] = [
     ("answer = \"4711\"", "answer = \"4712\""),
 ];
 
-/// The text in which this one line says something else.
+// The text in which this one line says something else.
 fn changed_at(rt: &impl AllocGlobal, place: usize) -> Result<String, AllocError> {
     let mut text = String::new(rt.alloc());
     for (k, (line, other)) in LINES.iter().enumerate() {
@@ -186,7 +186,7 @@ fn changed_at(rt: &impl AllocGlobal, place: usize) -> Result<String, AllocError>
     Ok(text)
 }
 
-/// The configuration that it is.
+// The configuration that it is.
 fn config_changed_at(rt: &impl AllocGlobal, place: usize) -> Result<Config, Fail> {
     let text = changed_at(rt, place)?;
     Ok(Config::read(rt.alloc(), text.as_str())?)
@@ -227,7 +227,7 @@ fn each_value_is_compared(rt: HostRuntime) -> Result<(), Fail> {
     differs_at_each(&rt, &config)
 }
 
-/// Texts, and whether each is the configuration of one plain user.
+// Texts, and whether each is the configuration of one plain user.
 const USERS: [(&str, bool); 10] = [
     ("\n[[user]]\nname = \"n\"\npassword = \"p\"\n", true),
     (

@@ -15,9 +15,13 @@ is_array c =
 pub returns-then-len-most-clause-read : goal.returns-then-len-most-clause-read
 returns-then-len-most-clause-read c =
     let many : c.args.most < length c.in_ok-items.items.now.items = omega (arith, c.in_ok-items.items.now.ok.0) in
-    inr (rw (← c.list_at.ensures, c.in-Some.is) (items_in-many c.args.part c.args.most (view c.in-Some.list.now) c.in_ok-items.items.now.items (is_array (goal.at.returns-then-len-most-clause-read c).In_ok-items) many))
+    let array = is_array (goal.at.returns-then-len-most-clause-read c).In_ok-items in
+    let refused = items_in-many c.args.part c.args.most (view c.in-Some.list.now) c.in_ok-items.items.now.items array many in
+    inr (rw (← c.list_at.ensures, c.in-Some.is) refused)
 
 pub returns-clause-read : goal.returns-clause-read
 returns-clause-read c =
     let few : length c.in_ok-items.items.now.items ≤ c.args.most = omega (arith, c.in_ok-items.items.now.ok.0) in
-    rw (← c.list_at.ensures, c.in-Some.is, c.as_slice.ensures.value) (items_in-few c.args.part c.args.most (view c.in-Some.list.now) c.in_ok-items.items.now.items (is_array (goal.at.returns-clause-read c).In_ok-items) few)
+    let array = is_array (goal.at.returns-clause-read c).In_ok-items in
+    let read = items_in-few c.args.part c.args.most (view c.in-Some.list.now) c.in_ok-items.items.now.items array few in
+    rw (← c.list_at.ensures, c.in-Some.is, c.as_slice.ensures.value) read

@@ -9,10 +9,42 @@ returns-in_err-answer-clause-read c =
     let p = err_from_is_err_and c.from_residual-in_err-answer.result c.from_residual-in_err-answer.ensures.1 in
     rw (p.1, p.2) (elim c.in_err-answer.ensures.read [
       | inl memory ↦ inl memory
-      | inr refused ↦ inr (rw (c.in_ok-name.ensures.read, ← c.find.ensures.value, ← c.is_some.ensures, c.if-is_some.false, c.in_ok-password.ensures.read, c.in_ok-pool.ensures.read, c.in_ok-sessions.ensures.read, c.in_ok-service.ensures.read, c.in_ok-protocol.ensures.read, c.in_ok-timeout.ensures.read, c.in_ok-message.ensures.read, ← c.has.ensures, c.in_ok-challenge.ensures.read, ← c.has-2.ensures, refused) refl)
+      | inr refused ↦ inr (rw (
+        c.in_ok-name.ensures.read,
+        ← c.find.ensures.value,
+        ← c.is_some.ensures,
+        c.if-is_some.false,
+        c.in_ok-password.ensures.read,
+        c.in_ok-pool.ensures.read,
+        c.in_ok-sessions.ensures.read,
+        c.in_ok-service.ensures.read,
+        c.in_ok-protocol.ensures.read,
+        c.in_ok-timeout.ensures.read,
+        c.in_ok-message.ensures.read,
+        ← c.has.ensures,
+        c.in_ok-challenge.ensures.read,
+        ← c.has-2.ensures,
+        refused,
+      ) refl)
     ])
 
 pub returns-clause-read : goal.returns-clause-read
 unfolding user_in
 returns-clause-read c =
-    rw (c.in_ok-name.ensures.read, ← c.find.ensures.value, ← c.is_some.ensures, c.if-is_some.false, c.in_ok-password.ensures.read, c.in_ok-pool.ensures.read, c.in_ok-sessions.ensures.read, c.in_ok-service.ensures.read, c.in_ok-protocol.ensures.read, c.in_ok-timeout.ensures.read, c.in_ok-message.ensures.read, ← c.has.ensures, c.in_ok-challenge.ensures.read, ← c.has-2.ensures, c.in_ok-answer.ensures.read) refl
+    rw (
+      c.in_ok-name.ensures.read,
+      ← c.find.ensures.value,
+      ← c.is_some.ensures,
+      c.if-is_some.false,
+      c.in_ok-password.ensures.read,
+      c.in_ok-pool.ensures.read,
+      c.in_ok-sessions.ensures.read,
+      c.in_ok-service.ensures.read,
+      c.in_ok-protocol.ensures.read,
+      c.in_ok-timeout.ensures.read,
+      c.in_ok-message.ensures.read,
+      ← c.has.ensures,
+      c.in_ok-challenge.ensures.read,
+      ← c.has-2.ensures,
+      c.in_ok-answer.ensures.read,
+    ) refl
