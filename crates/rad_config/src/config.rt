@@ -188,11 +188,13 @@ impl Config {
 fn document(alloc: Global, text: &str) -> Result<Table, ConfigFault>
     ensures { Gives table_view result (ok_or (parse_document text.now) ConfigFault.Syntax) }
 {
-    match toml::table_from_str(alloc, text) {
-        Ok(table) => Ok(table),
-        Err(error) if error.is_memory() => Err(ConfigFault::NoMemory),
-        Err(_) => Err(ConfigFault::Syntax),
-    }
+    toml::table_from_str(alloc, text).map_err(|error| {
+        if error.is_memory() {
+            ConfigFault::NoMemory
+        } else {
+            ConfigFault::Syntax
+        }
+    })
 }
 
 // Window and hold, in seconds.

@@ -55,10 +55,8 @@ impl<'a> Entry<'a> {
         let Some(value) = self.get(row.key) else {
             return Ok(None);
         };
-        match row.fit(value) {
-            Some(number) => Ok(Some(number)),
-            None => Err(self.bad(row.key)),
-        }
+        let number = row.fit(value).ok_or(self.bad(row.key))?;
+        Ok(Some(number))
     }
 
     /// The number at a key, or its default.
@@ -68,10 +66,8 @@ impl<'a> Entry<'a> {
         ensures read { GivesValue (λ number. number) result self.now (default_row row.now) }
         ensures range { IfOk result (IsInRange row.now.number.least row.now.number.most) }
     {
-        match self.number(&row.number)? {
-            Some(number) => Ok(number),
-            None => Ok(row.default),
-        }
+        let number = self.number(&row.number)?;
+        Ok(number.unwrap_or(row.default))
     }
 
     /// The flag at a key, or its default.
@@ -82,10 +78,7 @@ impl<'a> Entry<'a> {
         let Some(value) = self.get(row.key) else {
             return Ok(row.default);
         };
-        match value.as_bool() {
-            Some(flag) => Ok(flag),
-            None => Err(self.bad(row.key)),
-        }
+        value.as_bool().ok_or(self.bad(row.key))
     }
 
     /// The address at a required key.
@@ -94,13 +87,8 @@ impl<'a> Entry<'a> {
         ensures read { GivesValue (λ address. address) result self.now (address_row row.now) }
         ensures range { IfOk result (IsInRange row.now.least row.now.most) }
     {
-        let Some(value) = self.get(row.key) else {
-            return Err(self.missing(row.key));
-        };
-        match row.fit(value) {
-            Some(address) => Ok(address),
-            None => Err(self.bad(row.key)),
-        }
+        let value = self.get(row.key).ok_or(self.missing(row.key))?;
+        row.fit(value).ok_or(self.bad(row.key))
     }
 
     /// The octets of the text at a required key.
@@ -109,13 +97,8 @@ impl<'a> Entry<'a> {
         ensures read { GivesValue (λ text. text.now) result self.now (required_text_row row.now) }
         ensures range { IfOk result (HasRowLength row.now) }
     {
-        let Some(value) = self.get(row.key) else {
-            return Err(self.missing(row.key));
-        };
-        match row.fit(value) {
-            Some(text) => Ok(text),
-            None => Err(self.bad(row.key)),
-        }
+        let value = self.get(row.key).ok_or(self.missing(row.key))?;
+        row.fit(value).ok_or(self.bad(row.key))
     }
 
     /// The octets of the text at a key that may be absent.
@@ -128,10 +111,8 @@ impl<'a> Entry<'a> {
         let Some(value) = self.get(row.key) else {
             return Ok(None);
         };
-        match row.fit(value) {
-            Some(text) => Ok(Some(text)),
-            None => Err(self.bad(row.key)),
-        }
+        let text = row.fit(value).ok_or(self.bad(row.key))?;
+        Ok(Some(text))
     }
 
     /// The octets of the text at a key that is required if it is needed.
