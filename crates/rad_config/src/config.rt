@@ -161,8 +161,7 @@ impl Config {
         ensures value { slice_get self.now.pools place ≡ Some result.now }
         ensures range { IsPool result.now }
     {
-        let pools = self.pools();
-        &pools[place as usize]
+        &self.pools()[place as usize]
     }
 
     /// Whether the other configuration says the same.
