@@ -1,7 +1,11 @@
--- How long things are remembered, in milliseconds, where the configuration has seconds.
-use Rattle.std.specs.Prelude.{ℕ, ◌*◌}
+-- Moments, and how long things are remembered: in milliseconds, where the configuration has seconds.
+use Rattle.std.specs.Prelude.{ℕ, ◌*◌, ◌^◌}
 use Rattle.rad_config.specs.Configurations.{Configuration}
 use Rattle.rad_config.specs.declared.spans.Spans.{Spans}
+
+-- the last moment
+abbrev pub moment_max : ℕ
+moment_max = 2 ^ 62
 
 abbrev pub milliseconds : ℕ → ℕ
 milliseconds seconds = 1000 * seconds

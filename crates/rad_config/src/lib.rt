@@ -27,6 +27,6 @@ mod user;
 pub use config::Config;
 pub use config_fault::{ConfigFault, Key, Part, Spot};
 pub use pool::{POOLS_MAX, Pool};
-pub use spans::Spans;
+pub use spans::{MOMENT_MAX, Spans};
 pub use text::Text;
 pub use user::{USERS_MAX, User};

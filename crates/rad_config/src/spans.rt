@@ -1,4 +1,7 @@
-//! Spans of time.
+//! Moments and spans of time.
+
+/// The last moment, in milliseconds.
+pub const MOMENT_MAX: u64 = 1 << 62;
 
 /// How long things are remembered, in milliseconds.
 #[derive(Clone, Copy, Debug, PartialEq, Eq)]

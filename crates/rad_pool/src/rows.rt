@@ -1,0 +1,211 @@
+//! The sessions as a plain list: each question walks over all of it.
+ghost use Rattle.std.specs.Prelude.{◌≡◌, ◌≤◌, ◌+◌, ◌^◌, ◌↔◌, IsTrue, length, map, vec_len};
+ghost use Rattle.std.specs.Vec.{vec_capacity};
+ghost use Rattle.rad_config.specs.Ranges.{IsPool};
+ghost use Rattle.rad_config.specs.Spans.{moment_max};
+ghost use Rattle.rad_pool.specs.Grants.{is_address, is_held, least_free, open_sessions};
+ghost use Rattle.rad_pool.specs.Meant.{agrees, is_meant, meant};
+ghost use Rattle.rad_pool.specs.Sessions.{after_start, after_stop, is_live, is_open, live, with_phase};
+
+use crate::session::{Phase, Session};
+use rad_config::{Pool, Spans};
+
+// Whether a session is live at a moment. A sum that saturates is above every moment.
+fn is_live(session: &Session, spans: Spans, now: u64) -> bool
+    requires { now ≤ moment_max }
+    ensures { result ≡ is_live spans now session.now }
+{
+    match session.phase {
+        Phase::Pending => now < session.made.saturating_add(spans.hold),
+        Phase::Active => true,
+        Phase::Ended => now < session.made.saturating_add(spans.window),
+    }
+}
+
+fn is_open(phase: Phase) -> bool
+    ensures { result ≡ is_open phase }
+{
+    phase != Phase::Ended
+}
+
+fn is_address(address: u32, held: Option<u32>) -> bool
+    ensures { result ≡ is_address address held }
+{
+    match held {
+        Some(held) => held == address,
+        None => false,
+    }
+}
+
+/// Keeps the live sessions alone, in their order.
+pub(crate) fn keep_live(rows: &mut Vec<Session>, spans: Spans, now: u64)
+    requires { now ≤ moment_max }
+    ensures items { rows.new.items ≡ live spans now rows.old.items }
+    ensures len { vec_len rows.new ≤ vec_len rows.old }
+    ensures capacity { vec_capacity rows.new ≡ vec_capacity rows.old }
+{
+    rows.retain(
+        |row|
+            requires { now ≤ moment_max }
+        { is_live(row, spans, now) },
+    );
+}
+
+/// How many sessions are live.
+pub(crate) fn count_live(rows: &[Session], spans: Spans, now: u64) -> usize
+    requires { now ≤ moment_max }
+    ensures { result ≡ length (live spans now rows.now) }
+{
+    let mut count: usize = 0;
+    for row in rows {
+        if is_live(row, spans, now) {
+            count += 1;
+        }
+    }
+    count
+}
+
+/// How many live sessions of a user are open.
+pub(crate) fn count_open(rows: &[Session], spans: Spans, now: u64, user: u32) -> usize
+    requires { now ≤ moment_max }
+    ensures { result ≡ open_sessions user (live spans now rows.now) }
+{
+    let mut count: usize = 0;
+    for row in rows {
+        if is_live(row, spans, now) && row.user == user && is_open(row.phase) {
+            count += 1;
+        }
+    }
+    count
+}
+
+/// The least address of a pool that no live session has.
+pub(crate) fn least_free(rows: &[Session], spans: Spans, now: u64, pool: &Pool) -> Option<u32>
+    requires moment { now ≤ moment_max }
+    requires pool { IsPool pool.now }
+    ensures { result ≡ least_free (live spans now rows.now) pool.now }
+{
+    for step in 0..pool.last - pool.first + 1 {
+        let address = pool.first + step;
+        if !is_held(rows, spans, now, address) {
+            return Some(address);
+        }
+    }
+    None
+}
+
+// Whether a live session has this address.
+fn is_held(rows: &[Session], spans: Spans, now: u64, address: u32) -> bool
+    requires { now ≤ moment_max }
+    ensures { result ≡ is_held (live spans now rows.now) address }
+{
+    for row in rows {
+        if is_live(row, spans, now) && is_address(address, row.address) {
+            return true;
+        }
+    }
+    false
+}
+
+/// The number of the session that a client means.
+pub(crate) fn find(
+    rows: &[Session],
+    client: u32,
+    number: Option<u64>,
+    address: Option<u32>,
+    name: Option<Option<u32>>,
+) -> Option<u64>
+    ensures { result ≡ meant client number address name rows.now }
+{
+    for row in rows {
+        if row.client == client && is_meant(row, number, address, name) {
+            return Some(row.number);
+        }
+    }
+    None
+}
+
+fn is_meant(
+    session: &Session,
+    number: Option<u64>,
+    address: Option<u32>,
+    name: Option<Option<u32>>,
+) -> bool
+    ensures { result ≡ is_meant number address name session.now }
+{
+    match (number, address) {
+        (Some(number), _) => session.number == number,
+        (None, Some(address)) => {
+            is_open(session.phase)
+                && is_address(address, session.address)
+                && agrees(name, session.user)
+        }
+        (None, None) => false,
+    }
+}
+
+// Whether a User-Name that was sent, if one was, may go with a session of this user.
+fn agrees(name: Option<Option<u32>>, user: u32) -> bool
+    ensures { result ≡ agrees name user }
+{
+    match name {
+        None => true,
+        Some(None) => false,
+        Some(Some(named)) => named == user,
+    }
+}
+
+/// A Start of the session of this number.
+pub(crate) fn start(rows: &mut Vec<Session>, number: u64)
+    ensures items { rows.new.items ≡ map (with_phase after_start number) rows.old.items }
+    ensures len { vec_len rows.new ≡ vec_len rows.old }
+    ensures capacity { vec_capacity rows.new ≡ vec_capacity rows.old }
+{
+    for row in rows.iter_mut() {
+        *row = started(*row, number);
+    }
+}
+
+/// A Stop of the session of this number.
+pub(crate) fn stop(rows: &mut Vec<Session>, number: u64)
+    ensures items { rows.new.items ≡ map (with_phase after_stop number) rows.old.items }
+    ensures len { vec_len rows.new ≡ vec_len rows.old }
+    ensures capacity { vec_capacity rows.new ≡ vec_capacity rows.old }
+{
+    for row in rows.iter_mut() {
+        *row = stopped(*row, number);
+    }
+}
+
+fn started(session: Session, number: u64) -> Session
+    ensures { result ≡ with_phase after_start number session }
+{
+    if session.number == number && session.phase == Phase::Pending {
+        Session {
+            phase: Phase::Active,
+            ..session
+        }
+    } else {
+        session
+    }
+}
+
+fn stopped(session: Session, number: u64) -> Session
+    ensures { result ≡ with_phase after_stop number session }
+{
+    if session.number == number {
+        Session {
+            phase: Phase::Ended,
+            ..session
+        }
+    } else {
+        session
+    }
+}
+
+/// Whether both lists have the same sessions in the same order.
+pub(crate) fn same(rows: &[Session], others: &[Session]) -> bool
+    ensures { IsTrue result ↔ (rows.now ≡ others.now) }
+{
+    rows.len() == others.len() && rows.iter().zip(others).all(|(row, other)| row == other)
+}

@@ -1,0 +1,241 @@
+//! The table of sessions.
+ghost use Rattle.std.specs.Prelude.{◌≡◌, ◌≤◌, ◌<◌, ◌↔◌, IsTrue, length, IfOk, IsErrOf, IsOk, OnOk, true};
+ghost use Rattle.std.specs.Iterator.{YieldsFirst, item_count};
+ghost use Rattle.rad_config.specs.Spans.{moment_max, spans_of};
+ghost use Rattle.rad_pool.specs.Grants.{IsGranted, granted};
+ghost use Rattle.rad_pool.specs.Meant.{meant};
+ghost use Rattle.rad_pool.specs.Sessions.{AreSame, cut, opening, started, stopped};
+
+use crate::grant::{Grant, Refusal};
+use crate::rows;
+use crate::session::{Phase, Session};
+use rad_config::{Config, Spans};
+use std::alloc::{AllocError, Global};
+use std::marker::Model;
+
+/// The most sessions that there are at a time.
+pub const SESSIONS_MAX: usize = 4_096;
+
+/// The sessions, oldest first, and the number of the next one.
+///
+/// Contracts see them as a list, and whether memory is ready for one more. Moments are in milliseconds, at most
+/// `MOMENT_MAX`, and need not rise.
+#[derive(Drop)]
+pub struct Sessions {
+    rows: Vec<Session>,
+    // The last number that was given, or 0.
+    last: u64,
+    spans: Spans,
+}
+
+impl Model for Sessions {
+    ghost use Rattle.std.specs.Prelude.{◌+◌, nat_lt, vec_len};
+    ghost use Rattle.std.specs.Vec.{vec_capacity};
+    ghost use Rattle.rad_pool.specs.Sessions.{Seen};
+
+    ghost Value = { Seen };
+
+    ghost view = { λ sessions. record {
+      table = record { sessions = sessions.rows.items; next = sessions.last + 1; spans = sessions.spans };
+      has_room = nat_lt (vec_len sessions.rows) (vec_capacity sessions.rows);
+    } };
+}
+
+impl Sessions {
+    /// No sessions, which are remembered for as long as the configuration says.
+    pub fn open(alloc: Global, config: &Config) -> Result<Sessions, AllocError>
+        ensures { IfOk result (λ sessions. sessions.table ≡ opening (spans_of config.now)) }
+    {
+        Ok(Sessions {
+            rows: Vec::new(alloc),
+            last: 0,
+            spans: config.spans(),
+        })
+    }
+
+    /// The sessions, oldest first.
+    pub fn rows(&self) -> Rows<'_>
+        ensures { result ≡ self.now.table.sessions }
+    {
+        Rows { rest: &self.rows }
+    }
+
+    /// Removes the sessions that are no longer live.
+    pub fn expire(&mut self, now: u64)
+        requires { now ≤ moment_max }
+        ensures cut { self.new.table ≡ cut now self.old.table }
+        ensures room { self.old.has_room ≡ true → self.new.has_room ≡ true }
+    {
+        let spans = self.spans;
+        rows::keep_live(&mut self.rows, spans, now);
+    }
+
+    /// What `grant` would answer if there is memory.
+    ///
+    /// `user` is a place of the configuration. The client doesn't matter.
+    #[tactic(auto, unfolding(crate::specs::Grants::granted, crate::specs::Grants::address_from))]
+    pub fn peek(&self, config: &Config, _client: u32, user: u32, now: u64) -> Result<Grant, Refusal>
+        requires user { user < length config.now.users }
+        requires moment { now ≤ moment_max }
+        ensures answer { result ≡ granted config.now user (cut now self.now.table) }
+        ensures number { IfOk result (λ grant. grant.number ≡ self.now.table.next) }
+        ensures memory { IsErrOf result Refusal.NoMemory → ⊥ }
+    {
+        let Sessions { rows, last, spans } = self;
+        let asking = config.user_at(user);
+        if asking.sessions as usize <= rows::count_open(rows, *spans, now, user) {
+            return Err(Refusal::SessionLimit);
+        }
+        let address = match asking.pool {
+            None => None,
+            Some(place) => match rows::least_free(rows, *spans, now, config.pool_at(place)) {
+                None => return Err(Refusal::NoAddress),
+                Some(address) => Some(address),
+            },
+        };
+        if SESSIONS_MAX <= rows::count_live(rows, *spans, now) || *last == u64::MAX {
+            return Err(Refusal::Full);
+        }
+        Ok(Grant {
+            number: *last + 1,
+            address,
+        })
+    }
+
+    /// Makes memory ready for one more session.
+    pub fn room(&mut self) -> Result<(), AllocError>
+        ensures same { self.new.table ≡ self.old.table }
+        ensures made { OnOk result (self.new.has_room ≡ true) }
+        ensures kept { self.old.has_room ≡ true → IsOk result }
+    {
+        self.rows.reserve(1)?;
+        Ok(())
+    }
+
+    /// Removes the sessions that are no longer live, and adds one for the user at a place: Pending, with the next number, and with
+    /// the least address of the user's pool that no session has.
+    ///
+    /// Refusals are reported in the order of `Refusal`. After `NoMemory` nothing has changed; after `room` it doesn't come.
+    pub fn grant(
+        &mut self,
+        config: &Config,
+        client: u32,
+        user: u32,
+        now: u64,
+    ) -> Result<Grant, Refusal>
+        requires user { user < length config.now.users }
+        requires moment { now ≤ moment_max }
+        ensures granted { IsGranted config.now client user now self.old.table result self.new.table }
+        ensures roomy { self.old.has_room ≡ true → IsErrOf result Refusal.NoMemory → ⊥ }
+    {
+        let grant = match self.peek(config, client, user, now) {
+            Ok(grant) => grant,
+            Err(refusal) => {
+                self.expire(now);
+                return Err(refusal);
+            }
+        };
+        if self.room().is_err() {
+            return Err(Refusal::NoMemory);
+        }
+        self.expire(now);
+        let session = Session {
+            number: grant.number,
+            client,
+            user,
+            address: grant.address,
+            phase: Phase::Pending,
+            made: now,
+        };
+        if self.rows.push(session).is_err() {
+            return Err(Refusal::NoMemory);
+        }
+        self.last = grant.number;
+        Ok(grant)
+    }
+
+    /// A Start was reported: the session of this number is Active if it was Pending.
+    ///
+    /// With a number of no session nothing changes. Source: RFC 2866, section 5.1.
+    pub fn start(&mut self, number: u64)
+        ensures started { self.new.table ≡ started number self.old.table }
+        ensures room { self.new.has_room ≡ self.old.has_room }
+    {
+        rows::start(&mut self.rows, number);
+    }
+
+    /// A Stop was reported: the session of this number has ended.
+    ///
+    /// It keeps its address until the window after its grant. With a number of no session nothing changes. Source: RFC 2866,
+    /// section 5.1.
+    pub fn stop(&mut self, number: u64)
+        ensures stopped { self.new.table ≡ stopped number self.old.table }
+        ensures room { self.new.has_room ≡ self.old.has_room }
+    {
+        rows::stop(&mut self.rows, number);
+    }
+
+    /// The number of the session that an Accounting-Request of a client means.
+    ///
+    /// `number` is that of its Class, `address` its Framed-IP-Address, which is looked at only without a number. `name` is None
+    /// if no User-Name was sent, and Some(None) if it is no user's; it must be the session's user if the address counts.
+    pub fn find(
+        &self,
+        client: u32,
+        number: Option<u64>,
+        address: Option<u32>,
+        name: Option<Option<u32>>,
+    ) -> Option<u64>
+        ensures { result ≡ meant client number address name self.now.table.sessions }
+    {
+        rows::find(&self.rows, client, number, address, name)
+    }
+
+    /// An equal table. Memory that was made ready isn't copied.
+    pub fn copy(&self) -> Result<Sessions, AllocError>
+        ensures { IfOk result (λ copy. copy.table ≡ self.now.table) }
+    {
+        let rows = self.rows.clone()?;
+        Ok(Sessions {
+            rows,
+            last: self.last,
+            spans: self.spans,
+        })
+    }
+
+    /// Whether the other table has the same sessions and the same next number.
+    pub fn same(&self, other: &Sessions) -> bool
+        ensures { IsTrue result ↔ AreSame self.now.table other.now.table }
+    {
+        self.last == other.last && rows::same(&self.rows, &other.rows)
+    }
+}
+
+/// The sessions that are left, oldest first. Contracts see them as a list.
+#[derive(Drop)]
+pub struct Rows<'a> {
+    rest: &'a [Session],
+}
+
+impl<'a> Model for Rows<'a> {
+    ghost use Rattle.std.specs.Prelude.{List};
+    ghost use Rattle.rad_pool.specs.declared.session.Session.{Session};
+
+    ghost Value = { List Session };
+
+    ghost view = { λ rows. rows.rest.now };
+}
+
+impl<'a> Iterator for Rows<'a> {
+    type Item = Session;
+
+    ghost next_gives = { YieldsFirst (λ s. s) };
+
+    ghost remaining = { item_count (λ s. s) };
+
+    fn next(&mut self) -> Option<Session> {
+        let (first, rest) = self.rest.split_first()?;
+        self.rest = rest;
+        Some(*first)
+    }
+}

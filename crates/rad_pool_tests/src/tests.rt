@@ -1,0 +1,164 @@
+mod copies;
+mod found;
+mod granted;
+mod limits;
+
+use rad_config::{Config, MOMENT_MAX};
+use rad_pool::{Grant, Phase, Refusal, Session, Sessions};
+use std::alloc::Global;
+use std::process::Abort;
+use std::test::Fail;
+
+/// Two clients; users who share a pool of one address, one with two sessions and two addresses, and one with many sessions and
+/// no address.
+const CAMPUS: &str = r#"
+window = 30
+hold = 60
+
+[[client]]
+address = "192.168.1.16"
+secret = "xyzzy5461"
+
+[[client]]
+address = "192.168.1.20"
+secret = "second"
+
+[[pool]]
+name = "one"
+first = "10.0.0.1"
+last = "10.0.0.1"
+
+[[pool]]
+name = "two"
+first = "10.0.2.1"
+last = "10.0.2.2"
+
+[[user]]
+name = "nemo"
+password = "arctangent"
+pool = "one"
+
+[[user]]
+name = "dory"
+password = "reef"
+pool = "one"
+
+[[user]]
+name = "bruce"
+password = "shark"
+pool = "two"
+sessions = 2
+
+[[user]]
+name = "many"
+password = "p"
+sessions = 4096
+"#;
+
+const NEMO: u32 = 0;
+
+const DORY: u32 = 1;
+
+const BRUCE: u32 = 2;
+
+const MANY: u32 = 3;
+
+/// The address of the pool `one`, and those of the pool `two`.
+const ONE: u32 = 0x0A00_0001;
+
+const TWO: u32 = 0x0A00_0201;
+
+const TWO_NEXT: u32 = 0x0A00_0202;
+
+/// A call, and what it must return or leave.
+#[derive(Clone, Copy)]
+enum Call {
+    /// A user of the first client is granted the session with this number and address.
+    Grant(u32, u64, Option<u32>),
+    /// A user is refused a session.
+    Refuse(u32, Refusal),
+    Start(u64),
+    Stop(u64),
+    Expire,
+    /// The number and phase of each session, oldest first.
+    Rows(&'static [(u64, Phase)]),
+}
+
+// Asserts once, of `what`.
+fn holds(rt: &impl Abort, is_so: bool, what: &str) {
+    assert!(rt; is_so, "{what}");
+}
+
+// Makes the calls, each at its moment, in sessions that are opened for it, and asserts what each returns.
+fn play(rt: &impl Abort, alloc: Global, calls: &[(u64, Call, &str)]) -> Result<(), Fail> {
+    let config = Config::read(alloc, CAMPUS)?;
+    let mut sessions = Sessions::open(alloc, &config)?;
+    for (now, call, what) in calls.iter() {
+        let is_right = make(&mut sessions, &config, *now, call);
+        holds(rt, is_right, what);
+    }
+    Ok(())
+}
+
+// Makes a call, and returns whether it returned what it must.
+fn make(sessions: &mut Sessions, config: &Config, now: u64, call: &Call) -> bool {
+    match call {
+        Call::Grant(user, number, address) => {
+            let grant = Grant {
+                number: *number,
+                address: *address,
+            };
+            ask(sessions, config, *user, now) == Some(Ok(grant))
+        }
+        Call::Refuse(user, refusal) => ask(sessions, config, *user, now) == Some(Err(*refusal)),
+        Call::Start(number) => {
+            sessions.start(*number);
+            true
+        }
+        Call::Stop(number) => {
+            sessions.stop(*number);
+            true
+        }
+        Call::Expire => expire(sessions, now),
+        Call::Rows(wanted) => are_rows(sessions, wanted),
+    }
+}
+
+// What the first client is granted for a user, or None if there is no such user or moment, or `peek` differs.
+fn ask(
+    sessions: &mut Sessions,
+    config: &Config,
+    user: u32,
+    now: u64,
+) -> Option<Result<Grant, Refusal>> {
+    if config.users().len() <= user as usize || MOMENT_MAX < now {
+        return None;
+    }
+    let peeked = sessions.peek(config, 0, user, now);
+    let granted = sessions.grant(config, 0, user, now);
+    if granted == peeked {
+        Some(granted)
+    } else {
+        None
+    }
+}
+
+fn expire(sessions: &mut Sessions, now: u64) -> bool {
+    if MOMENT_MAX < now {
+        return false;
+    }
+    sessions.expire(now);
+    true
+}
+
+// Whether these are the sessions, oldest first.
+fn are_rows(sessions: &Sessions, wanted: &[(u64, Phase)]) -> bool {
+    let mut rest = wanted.iter();
+    for session in sessions.rows() {
+        let Session { number, phase, .. } = session;
+        if rest.next() != Some(&(number, phase)) {
+            return false;
+        }
+    }
+    rest.next().is_none()
+}
