@@ -3,7 +3,7 @@ use Rattle.std.specs.Prelude.{ℕ, ◌*◌, ◌^◌}
 use Rattle.rad_config.specs.Configurations.{Configuration}
 use Rattle.rad_config.specs.declared.spans.Spans.{Spans}
 
--- the last moment
+-- the last moment: it and a span add up within 64 bits
 abbrev pub moment_max : ℕ
 moment_max = 2 ^ 62
 

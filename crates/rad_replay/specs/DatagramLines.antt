@@ -1,6 +1,6 @@
 -- A datagram line of a transcript: `MOMENT DOOR ADDRESS:PORT OCTETS`, with one space between. A text is a list of octets,
 -- which are numbers below 256; a moment is in milliseconds, and an address has its most significant octet first.
-use Rattle.std.specs.Prelude.{ℕ, ◌*◌, ◌^◌, ◌==◌, ◌||◌, nat_lt, if◌then◌else◌, List, [], length, codes, Option, Some, None}
+use Rattle.std.specs.Prelude.{ℕ, ◌*◌, ◌==◌, ◌||◌, nat_lt, if◌then◌else◌, List, [], length, codes, Option, Some, None}
 use Rattle.std.specs.Result.{result_ok}
 use lib.Pointwise.{pointwise}
 use Rattle.hex.specs.Hex.{decode_of}
@@ -9,16 +9,13 @@ use Rattle.rad_auth.specs.declared.arrival.Door.{Door}
 use Rattle.rad_auth.specs.declared.arrival.Door.TheVariants.{Auth, Acct}
 use Rattle.rad_auth.specs.Datagrams.{Datagram}
 use Rattle.rad_config.specs.Decimals.{◌>>=◌, number_of, address_of}
+use Rattle.rad_config.specs.Spans.{moment_max}
 use Rattle.rad_config.specs.Splits.{split_once}
 
 -- a datagram and when it came
 pub record TimedDatagram : Type 0 where
   pub moment : ℕ
   pub datagram : Datagram
-
--- the greatest moment
-abbrev pub moment_max : ℕ
-moment_max = 2 ^ 62
 
 unfoldable pub moment_of : List ℕ → Option ℕ
 moment_of text = number_of 19 moment_max text

@@ -3,7 +3,7 @@ ghost use Rattle.std.specs.Prelude.{◌≡◌, ◌≤◌, IfOk};
 ghost use Rattle.rad_auth.specs.Admission.{HoldsAdmitted, IsAdmitted, IsAnswerable, admission};
 ghost use Rattle.rad_auth.specs.Datagrams.{datagram_of};
 ghost use Rattle.rad_auth.specs.Sealing.{IsReply};
-ghost use Rattle.rad_replay.specs.DatagramLines.{moment_max};
+ghost use Rattle.rad_config.specs.Spans.{moment_max};
 ghost use Rattle.rad_replay.specs.Steps.{opening};
 ghost use Rattle.rad_replay.specs.Replays.{IsFirstOf, IsLineOf, IsLineOfRequest, timed_of};
 ghost use Rattle.rad_replay.specs.Transcripts.{draw_of, sealed_reply};

@@ -1,16 +1,15 @@
 //! A datagram line of a transcript: `MOMENT DOOR ADDRESS:PORT OCTETS`.
 ghost use Rattle.std.specs.Prelude.{◌≡◌, ◌≤◌, length, take, IfSome, option_map};
 ghost use Rattle.rad_packet.specs.Packets.{length_max};
-ghost use Rattle.rad_replay.specs.DatagramLines.{moment_of, moment_max, port_of, door_of, octets_of, timed_datagram_of};
+ghost use Rattle.rad_config.specs.Spans.{moment_max};
+ghost use Rattle.rad_replay.specs.DatagramLines.{moment_of, port_of, door_of, octets_of, timed_datagram_of};
 ghost use Rattle.rad_replay.specs.ReadLines.{timed_datagram};
 
 use rad_auth::Door;
+use rad_config::MOMENT_MAX;
 use rad_config::decimal::{address, number};
 use rad_config::split::split_once;
 use rad_packet::LENGTH_MAX;
-
-/// The greatest moment, in milliseconds: it and a span add up within 64 bits.
-pub const MOMENT_MAX: u64 = 1 << 62;
 
 /// A datagram and when it came.
 #[derive(Clone, Copy, Debug, PartialEq, Eq)]

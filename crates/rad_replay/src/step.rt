@@ -4,7 +4,7 @@ ghost use Rattle.std.specs.Prelude.{◌≡◌, ◌≤◌, IfOk, OnErr, OnOk};
 ghost use Rattle.rad_packet.specs.Bodies.{Body};
 ghost use Rattle.rad_auth.specs.Admission.{IsAdmitted, proxy_states_max, proxy_states_size};
 ghost use Rattle.rad_auth.specs.Sealing.{IsReply};
-ghost use Rattle.rad_replay.specs.DatagramLines.{moment_max};
+ghost use Rattle.rad_config.specs.Spans.{moment_max};
 ghost use Rattle.rad_replay.specs.Steps.{access_denied, access_reply, opening, reply, reply_by_code, step, with_proxy_states, IsSealable};
 
 use rad_auth::{Door, Request, admitted_is_answerable};
