@@ -6,7 +6,7 @@ use Rattle.rad_pool.specs.declared.session.Phase.{Phase}
 use Rattle.rad_pool.specs.declared.session.Phase.TheVariants.{Pending, Active, Ended}
 use Rattle.rad_pool.specs.declared.session.Session.{Session}
 
--- the most sessions that there may be
+-- the most sessions that there may be, of any phase
 abbrev pub sessions_max : ℕ
 sessions_max = 4096
 
@@ -32,8 +32,8 @@ pub record AreSame (table other : Table) : Type 0 where
 
 -- ---- life
 
--- Whether a session in this phase, made then, is live at a moment. The window runs from the Access-Accept, for an ended session
--- too: for that long a repeated request gets the stored reply, which names its address (RFC 5080, section 2.2.2).
+-- Whether a session in this phase, made then, is live at a moment. An ended one lives until the window after its Access-Accept,
+-- not after its Stop: for that long a repeated request gets the stored reply, which names its address (RFC 5080, section 2.2.2).
 abbrev pub lives : Spans → ℕ → Phase → ℕ → Bool
 lives spans now Pending made = nat_lt now (made + spans.hold)
 lives spans now Active made = true
@@ -43,12 +43,12 @@ abbrev pub is_live : Spans → ℕ → Session → Bool
 is_live spans now session = lives spans now session.phase session.made
 
 -- the live sessions of a list
-abbrev pub live : Spans → ℕ → List Session → List Session
-live spans now sessions = filter (is_live spans now) sessions
+abbrev pub live_sessions : Spans → ℕ → List Session → List Session
+live_sessions spans now sessions = filter (is_live spans now) sessions
 
 -- the table at a moment: with its live sessions alone
 abbrev pub cut : ℕ → Table → Table
-cut now table = record table { sessions = live table.spans now table.sessions }
+cut now table = record table { sessions = live_sessions table.spans now table.sessions }
 
 -- Pending and Active sessions are open
 abbrev pub is_open : Phase → Bool

@@ -1,8 +1,8 @@
 //! Sessions and the addresses of pools: who has access now, and which address nobody else has (RFC 2866; RFC 5080, section
 //! 2.2.2).
 //!
-//! `Sessions` is a list, oldest first, that is cut to the live sessions at each moment. `grant` adds a session with the least free
-//! address of the user's pool, `start` and `stop` change its phase, and `find` is how an Accounting-Request names one.
+//! `Sessions` is a list, oldest first, which `expire` and `grant` cut to the live sessions. `grant` adds a session with the least
+//! free address of the user's pool, `start` and `stop` change its phase, and `find` is how an Accounting-Request names one.
 //!
 //! Other crates rest on this: what each call does to the list is what `specs/Sessions.antt`, `specs/Grants.antt` and
 //! `specs/Meant.antt` say. How a session is found is known to `rows.rt` alone.

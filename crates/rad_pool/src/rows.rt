@@ -3,9 +3,9 @@ ghost use Rattle.std.specs.Prelude.{◌≡◌, ◌≤◌, ◌+◌, ◌^◌, ◌�
 ghost use Rattle.std.specs.Vec.{vec_capacity};
 ghost use Rattle.rad_config.specs.Ranges.{IsPool};
 ghost use Rattle.rad_config.specs.Spans.{moment_max};
-ghost use Rattle.rad_pool.specs.Grants.{is_address, is_held, least_free, open_sessions};
+ghost use Rattle.rad_pool.specs.Grants.{has_address, is_held, least_free, open_sessions};
 ghost use Rattle.rad_pool.specs.Meant.{agrees, is_meant, meant};
-ghost use Rattle.rad_pool.specs.Sessions.{after_start, after_stop, is_live, is_open, live, with_phase};
+ghost use Rattle.rad_pool.specs.Sessions.{after_start, after_stop, is_live, is_open, live_sessions, with_phase};
 
 use crate::session::{Phase, Session};
 use rad_config::{Pool, Spans};
@@ -28,10 +28,10 @@ fn is_open(phase: Phase) -> bool
     phase != Phase::Ended
 }
 
-fn is_address(address: u32, held: Option<u32>) -> bool
-    ensures { result ≡ is_address address held }
+fn has_address(session: &Session, address: u32) -> bool
+    ensures { result ≡ has_address address session.now }
 {
-    match held {
+    match session.address {
         Some(held) => held == address,
         None => false,
     }
@@ -40,7 +40,7 @@ fn is_address(address: u32, held: Option<u32>) -> bool
 /// Keeps the live sessions alone, in their order.
 pub(crate) fn keep_live(rows: &mut Vec<Session>, spans: Spans, now: u64)
     requires { now ≤ moment_max }
-    ensures items { rows.new.items ≡ live spans now rows.old.items }
+    ensures items { rows.new.items ≡ live_sessions spans now rows.old.items }
     ensures len { vec_len rows.new ≤ vec_len rows.old }
     ensures capacity { vec_capacity rows.new ≡ vec_capacity rows.old }
 {
@@ -54,7 +54,7 @@ pub(crate) fn keep_live(rows: &mut Vec<Session>, spans: Spans, now: u64)
 /// How many sessions are live.
 pub(crate) fn count_live(rows: &[Session], spans: Spans, now: u64) -> usize
     requires { now ≤ moment_max }
-    ensures { result ≡ length (live spans now rows.now) }
+    ensures { result ≡ length (live_sessions spans now rows.now) }
 {
     let mut count: usize = 0;
     for row in rows {
@@ -68,7 +68,7 @@ pub(crate) fn count_live(rows: &[Session], spans: Spans, now: u64) -> usize
 /// How many live sessions of a user are open.
 pub(crate) fn count_open(rows: &[Session], spans: Spans, now: u64, user: u32) -> usize
     requires { now ≤ moment_max }
-    ensures { result ≡ open_sessions user (live spans now rows.now) }
+    ensures { result ≡ open_sessions user (live_sessions spans now rows.now) }
 {
     let mut count: usize = 0;
     for row in rows {
@@ -83,7 +83,7 @@ pub(crate) fn count_open(rows: &[Session], spans: Spans, now: u64, user: u32) ->
 pub(crate) fn least_free(rows: &[Session], spans: Spans, now: u64, pool: &Pool) -> Option<u32>
     requires moment { now ≤ moment_max }
     requires pool { IsPool pool.now }
-    ensures { result ≡ least_free (live spans now rows.now) pool.now }
+    ensures { result ≡ least_free (live_sessions spans now rows.now) pool.now }
 {
     for step in 0..pool.last - pool.first + 1 {
         let address = pool.first + step;
@@ -97,10 +97,10 @@ pub(crate) fn least_free(rows: &[Session], spans: Spans, now: u64, pool: &Pool) 
 // Whether a live session has this address.
 fn is_held(rows: &[Session], spans: Spans, now: u64, address: u32) -> bool
     requires { now ≤ moment_max }
-    ensures { result ≡ is_held (live spans now rows.now) address }
+    ensures { result ≡ is_held (live_sessions spans now rows.now) address }
 {
     for row in rows {
-        if is_live(row, spans, now) && is_address(address, row.address) {
+        if is_live(row, spans, now) && has_address(row, address) {
             return true;
         }
     }
@@ -136,9 +136,7 @@ fn is_meant(
     match (number, address) {
         (Some(number), _) => session.number == number,
         (None, Some(address)) => {
-            is_open(session.phase)
-                && is_address(address, session.address)
-                && agrees(name, session.user)
+            is_open(session.phase) && has_address(session, address) && agrees(name, session.user)
         }
         (None, None) => false,
     }

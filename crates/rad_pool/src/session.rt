@@ -4,7 +4,7 @@
 ///
 /// ```text
 ///   grant        Start          Stop
-///  -------> Pending -----> Active -----> Ended ------> gone, window after it was made
+///  -------> Pending -----> Active -----> Ended ------> gone, window after it was made or at once if that is past
 ///              |                           ^
 ///              |            Stop           |
 ///              '---------------------------'
@@ -32,7 +32,7 @@ pub struct Session {
     pub client: u32,
     /// The user's place in the configuration.
     pub user: u32,
-    /// The most significant octet first; none if the user has no pool.
+    /// An IPv4 address, most significant octet first; none if the user has no pool.
     pub address: Option<u32>,
     pub phase: Phase,
     /// The moment of the grant, in milliseconds.

@@ -42,7 +42,7 @@ impl Model for Sessions {
 }
 
 impl Sessions {
-    /// No sessions, which are remembered for as long as the configuration says.
+    /// No sessions yet. The configuration says how long they will be remembered.
     pub fn open(alloc: Global, config: &Config) -> Result<Sessions, AllocError>
         ensures { IfOk result (λ sessions. sessions.table ≡ opening (spans_of config.now)) }
     {
@@ -64,6 +64,8 @@ impl Sessions {
     pub fn expire(&mut self, now: u64)
         requires { now ≤ moment_max }
         ensures cut { self.new.table ≡ cut now self.old.table }
+        // To remove them once more at that moment changes nothing.
+        ensures settled { cut now self.new.table ≡ self.new.table }
         ensures room { self.old.has_room ≡ true → self.new.has_room ≡ true }
     {
         let spans = self.spans;
@@ -104,16 +106,16 @@ impl Sessions {
 
     /// Makes memory ready for one more session.
     pub fn room(&mut self) -> Result<(), AllocError>
-        ensures same { self.new.table ≡ self.old.table }
-        ensures made { OnOk result (self.new.has_room ≡ true) }
+        ensures unchanged { self.new.table ≡ self.old.table }
+        ensures ready { OnOk result (self.new.has_room ≡ true) }
         ensures kept { self.old.has_room ≡ true → IsOk result }
     {
         self.rows.reserve(1)?;
         Ok(())
     }
 
-    /// Removes the sessions that are no longer live, and adds one for the user at a place: Pending, with the next number, and with
-    /// the least address of the user's pool that no session has.
+    /// Removes the sessions that are no longer live, and adds one for the user at place `user`: Pending, with the next number, and
+    /// with the least address of the user's pool that no session has.
     ///
     /// Refusals are reported in the order of `Refusal`. After `NoMemory` nothing has changed; after `room` it doesn't come.
     pub fn grant(
@@ -125,7 +127,7 @@ impl Sessions {
     ) -> Result<Grant, Refusal>
         requires user { user < length config.now.users }
         requires moment { now ≤ moment_max }
-        ensures granted { IsGranted config.now client user now self.old.table result self.new.table }
+        ensures outcome { IsGranted config.now client user now self.old.table result self.new.table }
         ensures roomy { self.old.has_room ≡ true → IsErrOf result Refusal.NoMemory → ⊥ }
     {
         let grant = match self.peek(config, client, user, now) {
@@ -159,18 +161,18 @@ impl Sessions {
     /// With a number of no session nothing changes. Source: RFC 2866, section 5.1.
     pub fn start(&mut self, number: u64)
         ensures started { self.new.table ≡ started number self.old.table }
-        ensures room { self.new.has_room ≡ self.old.has_room }
+        ensures room { self.old.has_room ≡ true → self.new.has_room ≡ true }
     {
         rows::start(&mut self.rows, number);
     }
 
     /// A Stop was reported: the session of this number has ended.
     ///
-    /// It keeps its address until the window after its grant. With a number of no session nothing changes. Source: RFC 2866,
+    /// It keeps its address until `window` after its grant. With a number of no session nothing changes. Source: RFC 2866,
     /// section 5.1.
     pub fn stop(&mut self, number: u64)
         ensures stopped { self.new.table ≡ stopped number self.old.table }
-        ensures room { self.new.has_room ≡ self.old.has_room }
+        ensures room { self.old.has_room ≡ true → self.new.has_room ≡ true }
     {
         rows::stop(&mut self.rows, number);
     }
@@ -178,7 +180,8 @@ impl Sessions {
     /// The number of the session that an Accounting-Request of a client means.
     ///
     /// `number` is that of its Class, `address` its Framed-IP-Address, which is looked at only without a number. `name` is None
-    /// if no User-Name was sent, and Some(None) if it is no user's; it must be the session's user if the address counts.
+    /// if no User-Name was sent, and Some(None) if it is no user's. Without a number, a User-Name that was sent must be the
+    /// session's user's.
     pub fn find(
         &self,
         client: u32,
