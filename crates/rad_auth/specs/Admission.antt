@@ -3,9 +3,11 @@
 use Rattle.std.specs.Prelude.{◌≡◌, ℕ, ◌==◌, ◌&&◌, ◌||◌, nat_lt, Bool, false, not, IsTrue, List, Option, Some, None, Result, Ok, Err, ok_or, option_map, ◌<◌, ◌≤◌, length, IfOk, IfSome}
 use lib.Pointwise.{pointwise}
 use Rattle.rad_packet.specs.declared.packet.ReadFault.{ReadFault}
-use Rattle.rad_packet.specs.Attributes.{count, first_value, has, has_len, of_kind, size}
+use Rattle.rad_packet.specs.Attributes.{count, first_value, has, has_len, integer_size, of_kind, size}
+use Rattle.rad_packet.specs.Codes.{code_access_request, code_accounting_request, code_status_server}
 use Rattle.rad_packet.specs.Ladders.{◌>>=◌, refuse_if}
 use Rattle.rad_packet.specs.Packets.{Packet, packet_octets, packet_of}
+use Rattle.rad_packet.specs.Types.{type_acct_status_type, type_eap_message, type_message_authenticator, type_proxy_state}
 use Rattle.rad_auth.specs.declared.arrival.Arrival.{Arrival}
 use Rattle.rad_auth.specs.declared.arrival.Door.{Door}
 use Rattle.rad_auth.specs.declared.arrival.Door.TheVariants.{Auth, Acct}
@@ -19,15 +21,15 @@ use Rattle.rad_auth.specs.Authenticators.{accounting_authenticator, message_auth
 
 -- ---- what the checks ask
 
--- Whether a port accepts a Code: Access-Request 1 and Status-Server 12, or Accounting-Request 4 and Status-Server 12
--- (RFC 5997, section 3).
+-- whether a port accepts a Code: Access-Request and Status-Server, or Accounting-Request and Status-Server (RFC 5997,
+-- section 3)
 abbrev pub is_code_accepted : Door → ℕ → Bool
-is_code_accepted Auth code = (code == 1) || (code == 12)
-is_code_accepted Acct code = (code == 4) || (code == 12)
+is_code_accepted Auth code = (code == code_access_request) || (code == code_status_server)
+is_code_accepted Acct code = (code == code_accounting_request) || (code == code_status_server)
 
 -- whether a Code is one whose Message-Authenticator is looked at: Access-Request and Status-Server
 abbrev pub checks_message_authenticator : ℕ → Bool
-checks_message_authenticator code = (code == 1) || (code == 12)
+checks_message_authenticator code = (code == code_access_request) || (code == code_status_server)
 
 -- whether the Request Authenticator is the digest that an Accounting-Request must have
 abbrev pub has_accounting_authenticator : Client → Packet → Bool
@@ -35,11 +37,12 @@ has_accounting_authenticator client p = pointwise ◌==◌ p.authenticator (acco
 
 -- whether an Accounting-Request has another Request Authenticator
 abbrev pub has_bad_authenticator : Client → Packet → Bool
-has_bad_authenticator client p = (p.code == 4) && not (has_accounting_authenticator client p)
+has_bad_authenticator client p = (p.code == code_accounting_request) && not (has_accounting_authenticator client p)
 
--- whether the Message-Authenticator, Type 80, occurs once, with 16 octets, and they are the HMAC (RFC 3579, section 3.2)
+-- whether the Message-Authenticator occurs once, with 16 octets, and they are the HMAC (RFC 3579, section 3.2)
 abbrev pub has_right_message_authenticator : Client → Packet → Bool
-has_right_message_authenticator client p = (count 80 p.attributes == 1) && is_hmac (first_value 80 p.attributes)
+has_right_message_authenticator client p =
+    (count type_message_authenticator p.attributes == 1) && is_hmac (first_value type_message_authenticator p.attributes)
   where
     is_hmac : Option (List ℕ) → Bool
     is_hmac None = false
@@ -48,29 +51,32 @@ has_right_message_authenticator client p = (count 80 p.attributes == 1) && is_hm
 -- Whether there is a Message-Authenticator, but not one that is right. That of an Accounting-Request is not looked at.
 abbrev pub has_bad_message_authenticator : Client → Packet → Bool
 has_bad_message_authenticator client p =
-    checks_message_authenticator p.code && (has 80 p.attributes && not (has_right_message_authenticator client p))
+    checks_message_authenticator p.code
+    && (has type_message_authenticator p.attributes && not (has_right_message_authenticator client p))
 
 -- whether a packet must have a Message-Authenticator: each Status-Server (RFC 5997, section 3), and an Access-Request with
--- an EAP-Message, Type 79 (RFC 3579, section 3.1), or from a client of which it is required
+-- an EAP-Message (RFC 3579, section 3.1), or from a client of which it is required
 abbrev pub needs_message_authenticator : Client → Packet → Bool
 needs_message_authenticator client p =
-    (p.code == 12) || ((p.code == 1) && (has 79 p.attributes || client.require_message_authenticator))
+    (p.code == code_status_server)
+    || ((p.code == code_access_request) && (has type_eap_message p.attributes || client.require_message_authenticator))
 
 -- whether a packet must have a Message-Authenticator, and has none
 abbrev pub lacks_message_authenticator : Client → Packet → Bool
-lacks_message_authenticator client p = not (has 80 p.attributes) && needs_message_authenticator client p
+lacks_message_authenticator client p =
+    not (has type_message_authenticator p.attributes) && needs_message_authenticator client p
 
--- whether an Accounting-Request has no Acct-Status-Type, Type 40, of 4 octets (RFC 2866, section 5.1)
+-- whether an Accounting-Request has no Acct-Status-Type of 4 octets (RFC 2866, section 5.1)
 abbrev pub lacks_status_type : Packet → Bool
-lacks_status_type p = (p.code == 4) && not (has_len 40 4 p.attributes)
+lacks_status_type p = (p.code == code_accounting_request) && not (has_len type_acct_status_type integer_size p.attributes)
 
--- the most octets of Proxy-State attributes, Type 33, in total
+-- the most octets of Proxy-State attributes in total
 abbrev pub proxy_states_max : ℕ
 proxy_states_max = 3584
 
 -- the octets of a packet's Proxy-State attributes, Type and Length counted
 abbrev pub proxy_states_size : Packet → ℕ
-proxy_states_size p = size (of_kind 33 p.attributes)
+proxy_states_size p = size (of_kind type_proxy_state p.attributes)
 
 -- ---- the verdict
 
@@ -141,5 +147,6 @@ HoldsAdmitted clients lane = IfSome lane (λ verdict. IfOk verdict (IsAdmitted c
 pub record IsAnswerable (clients : List Client) (request : Request) : Type 0 where
   pub client : request.client < length clients
   pub taken : IsTrue (is_code_accepted request.door request.packet.code)
-  pub status : request.packet.code ≡ 4 → IsTrue (has_len 40 4 request.packet.attributes)
+  pub status : request.packet.code ≡ code_accounting_request
+      → IsTrue (has_len type_acct_status_type integer_size request.packet.attributes)
   pub proxy_states : proxy_states_size request.packet ≤ proxy_states_max

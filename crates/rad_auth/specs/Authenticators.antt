@@ -6,6 +6,7 @@ use Rattle.rad_hmac.specs.Hmac.{hmac}
 use Rattle.rad_packet.specs.Attributes.{Attribute, is_of_len}
 use Rattle.rad_packet.specs.Bodies.{Body, packet_of_body}
 use Rattle.rad_packet.specs.Packets.{Packet, packet_octets}
+use Rattle.rad_packet.specs.Types.{type_message_authenticator}
 
 -- sixteen zero octets
 abbrev pub sixteen_zeros : List ℕ
@@ -16,9 +17,9 @@ sixteen_zeros = replicate 16 0
 abbrev pub accounting_authenticator : Packet → List ℕ → List ℕ
 accounting_authenticator p secret = md5 (packet_octets (record p { authenticator = sixteen_zeros }) ++ secret)
 
--- an attribute that can hold an HMAC: a Message-Authenticator, Type 80, with a Value of 16 octets
+-- an attribute that can hold an HMAC: a Message-Authenticator with a Value of 16 octets
 abbrev pub holds_hmac : Attribute → Bool
-holds_hmac a = is_of_len 80 16 a
+holds_hmac a = is_of_len type_message_authenticator 16 a
 
 -- the attributes with this Value in the first of them that can hold an HMAC, if there is one
 abbrev pub with_message_authenticator : List ℕ → List Attribute → List Attribute

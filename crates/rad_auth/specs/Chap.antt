@@ -4,6 +4,10 @@ use Rattle.std.specs.Prelude.{ℕ, ◌==◌, Bool, false, List, [], ◌∷◌, �
 use lib.Pointwise.{pointwise}
 use Rattle.md5.specs.Md5.{md5}
 
+-- the octets of a CHAP-Password's value
+abbrev pub chap_value_size : ℕ
+chap_value_size = 17
+
 -- the response to a challenge: the digest of the identifier, the password and the challenge
 abbrev pub chap_response : ℕ → List ℕ → List ℕ → List ℕ
 chap_response identifier password challenge = md5 (identifier ∷ password ++ challenge)

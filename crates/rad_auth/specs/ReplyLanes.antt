@@ -5,6 +5,7 @@ use Rattle.md5.specs.Md5.{md5}
 use Rattle.rad_hmac.specs.Hmac.{hmac, mac_under}
 use Rattle.rad_packet.specs.Attributes.{size}
 use Rattle.rad_packet.specs.Bodies.{packet_of_body}
+use Rattle.rad_packet.specs.Codes.{code_accounting_response}
 use Rattle.rad_packet.specs.Packets.{Packet, header_size}
 use Rattle.rad_auth.specs.declared.job.Job.{Job}
 use Rattle.rad_auth.specs.Authenticators.{message_authenticator, response_authenticator, signed_body}
@@ -14,7 +15,7 @@ abbrev pub header_octets : Job → List ℕ
 header_octets job = job.body.now.code ∷ job.id ∷ to_be_bytes w16 (header_size + size job.body.now.attributes) ++ job.request_authenticator
 
 abbrev pub lane_header : Option Job → List ℕ
-lane_header None = replicate 20 0
+lane_header None = replicate header_size 0
 lane_header (Some job) = header_octets job
 
 -- the reply before it is sealed, with the Request Authenticator as its Authenticator
@@ -24,7 +25,7 @@ unsealed job = packet_of_body job.body.now job.id job.request_authenticator
 -- whether a lane has a reply with a Message-Authenticator
 abbrev pub has_hmac : Option Job → Bool
 has_hmac None = false
-has_hmac (Some job) = not (job.body.now.code == 5)
+has_hmac (Some job) = not (job.body.now.code == code_accounting_response)
 
 -- the Message-Authenticator of a reply, if it has one
 abbrev pub HasReplyHmac : List ℕ → Job → Type 0

@@ -3,6 +3,7 @@
 use Rattle.std.specs.Prelude.{◌≡◌, ℕ, ◌<◌, ◌==◌, ◌&&◌, Bool, false, is_some, List, length, Option, Some, None, Result, Ok, Err, option_map, IfOk, IfSome, IsTrue}
 use Rattle.md5.specs.Md5.{md5}
 use Rattle.rad_hmac.specs.Hmac.{hmac, mac_under}
+use Rattle.rad_packet.specs.Codes.{code_accounting_request}
 use Rattle.rad_packet.specs.Ladders.{◌>>=◌}
 use Rattle.rad_packet.specs.Packets.{Packet}
 use Rattle.rad_auth.specs.Admission.{content_checks, checks_message_authenticator, own_datagram, request_in}
@@ -39,7 +40,7 @@ pub record IsCandidate (clients : List Client) (candidate : Candidate) : Type 0 
 -- the digest that an Accounting-Request must have
 abbrev pub IsAccountingAuthenticator : List Client → List ℕ → Candidate → Type 0
 IsAccountingAuthenticator clients digest candidate =
-    candidate.request.packet.code ≡ 4
+    candidate.request.packet.code ≡ code_accounting_request
     → digest ≡ accounting_authenticator candidate.request.packet (secret_at clients candidate.request.client)
 
 -- the HMAC that a Message-Authenticator must have under a secret, if one can hold it
@@ -56,7 +57,7 @@ IsMessageAuthenticator clients mac candidate =
 abbrev pub is_accounting : Option (Result Candidate Discard) → Bool
 is_accounting None = false
 is_accounting (Some (Err discard)) = false
-is_accounting (Some (Ok candidate)) = candidate.request.packet.code == 4
+is_accounting (Some (Ok candidate)) = candidate.request.packet.code == code_accounting_request
 
 -- whether a lane has an HMAC that is checked
 abbrev pub has_hmac_to_check : Option (Result Candidate Discard) → Bool

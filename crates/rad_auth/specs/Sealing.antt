@@ -3,30 +3,32 @@ use Rattle.std.specs.Prelude.{◌≡◌, ◌≢◌, ◌⊎◌, ℕ, ◌==◌, if
 use Rattle.std.specs.Simd.Lanes.{zip2}
 use Rattle.rad_packet.specs.Attributes.{Attribute, count}
 use Rattle.rad_packet.specs.Bodies.{Body, FitsPacket, packet_of_body}
+use Rattle.rad_packet.specs.Codes.{code_access_accept, code_access_challenge, code_access_reject, code_access_request, code_accounting_request, code_accounting_response, code_status_server}
 use Rattle.rad_packet.specs.Packets.{packet_octets}
+use Rattle.rad_packet.specs.Types.{type_message_authenticator}
 use Rattle.rad_auth.specs.declared.job.Job.{Job}
 use Rattle.rad_auth.specs.Authenticators.{accounting_authenticator, response_authenticator, signed_body}
 
 -- the first attribute, if there is one, is no Message-Authenticator
 abbrev pub BeginsOtherwise : List Attribute → Type 0
 BeginsOtherwise [] = Unit {0}
-BeginsOtherwise (a ∷ list) = a.kind ≢ 80
+BeginsOtherwise (a ∷ list) = a.kind ≢ type_message_authenticator
 
 -- the first attribute is a Message-Authenticator of 16 octets
 abbrev pub BeginsWithMessageAuthenticator : List Attribute → Type 0
 BeginsWithMessageAuthenticator [] = ⊥
-BeginsWithMessageAuthenticator (a ∷ list) = (a.kind ≡ 80) × (length a.value ≡ 16)
+BeginsWithMessageAuthenticator (a ∷ list) = (a.kind ≡ type_message_authenticator) × (length a.value ≡ 16)
 
 -- an Accounting-Response with no Message-Authenticator
 pub record IsAccountingResponse (body : Body) : Type 0 where
-  pub code : body.code ≡ 5
-  pub none : count 80 body.attributes ≡ 0
+  pub code : body.code ≡ code_accounting_response
+  pub none : count type_message_authenticator body.attributes ≡ 0
 
 -- an Access-Accept, Access-Reject or Access-Challenge that begins with a Message-Authenticator and has no second
 pub record IsAccessReply (body : Body) : Type 0 where
-  pub code : (body.code ≡ 2) ⊎ ((body.code ≡ 3) ⊎ (body.code ≡ 11))
+  pub code : (body.code ≡ code_access_accept) ⊎ ((body.code ≡ code_access_reject) ⊎ (body.code ≡ code_access_challenge))
   pub first : BeginsWithMessageAuthenticator body.attributes
-  pub only : count 80 body.attributes ≡ 1
+  pub only : count type_message_authenticator body.attributes ≡ 1
 
 -- a body that can be sealed
 pub record IsReply (body : Body) : Type 0 where
@@ -46,13 +48,13 @@ reply_octets body identifier request_authenticator secret =
 
 -- an Access-Request, an Accounting-Request or a Status-Server
 abbrev pub IsRequestCode : ℕ → Type 0
-IsRequestCode code = (code ≡ 1) ⊎ ((code ≡ 4) ⊎ (code ≡ 12))
+IsRequestCode code = (code ≡ code_access_request) ⊎ ((code ≡ code_accounting_request) ⊎ (code ≡ code_status_server))
 
 -- The octets of a request. An Accounting-Request gets its Authenticator; another has the one that is given, and its HMAC
 -- if one of its attributes holds one.
 abbrev pub request_octets : Body → ℕ → List ℕ → List ℕ → List ℕ
 request_octets body identifier authenticator secret =
-    if body.code == 4
+    if body.code == code_accounting_request
     then packet_octets (packet_of_body body identifier (accounting_authenticator (packet_of_body body identifier authenticator) secret))
     else packet_octets (packet_of_body (signed_body body identifier authenticator secret) identifier authenticator)
 

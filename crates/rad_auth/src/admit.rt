@@ -1,6 +1,7 @@
 //! Admission: which datagrams are requests of a client, and why the others are discarded.
 ghost use Rattle.std.specs.Prelude.{◌≡◌, ◌<◌, length, map, All, IfOk, Ok};
 ghost use Rattle.rad_packet.specs.Attributes.{has};
+ghost use Rattle.rad_packet.specs.Types.{type_message_authenticator};
 ghost use Rattle.rad_auth.specs.Admission.{HoldsAdmitted, IsAdmitted, IsAnswerable, admission, content_checks, has_bad_authenticator, has_bad_message_authenticator, has_right_message_authenticator, is_code_accepted, lane_admission, lacks_message_authenticator, lacks_status_type, own_datagram, request_in};
 ghost use Rattle.rad_auth.specs.Clients.{Client};
 ghost use Rattle.rad_auth.specs.Datagrams.{datagram_of};
@@ -226,7 +227,7 @@ fn has_bad_message_authenticator(
 
 // Whether a Message-Authenticator is there.
 fn has_message_authenticator(candidate: &Candidate) -> bool
-    ensures { result ≡ has 80 candidate.now.request.packet.attributes }
+    ensures { result ≡ has type_message_authenticator candidate.now.request.packet.attributes }
 {
     candidate.summary.message_authenticators > 0
 }

@@ -1,8 +1,9 @@
 //! The digests and HMACs of requests and replies, and the octets that they run over.
-ghost use Rattle.std.specs.Prelude.{◌≡◌, ◌+◌, ◌-◌, ◌<◌, ◌≤◌, ◌^◌, ◌++◌, length, take, drop};
+ghost use Rattle.std.specs.Prelude.{◌≡◌, ◌+◌, ◌-◌, ◌*◌, ◌<◌, ◌≤◌, ◌^◌, ◌++◌, length, take, drop};
 ghost use Rattle.md5.specs.Md5.{md5};
 ghost use Rattle.rad_md5.specs.Pieces.{HasFreePiece, message};
 ghost use Rattle.rad_packet.specs.Bodies.{FitsPacket, body_octets};
+ghost use Rattle.rad_packet.specs.Packets.{header_size, length_max};
 ghost use Rattle.rad_auth.specs.Summaries.{with_hmac};
 ghost use Rattle.rad_auth.specs.Authenticators.{sixteen_zeros};
 
@@ -24,7 +25,7 @@ pub(crate) fn nothing<'a>() -> Pieces<'a>
 /// A packet with zeros in the Message-Authenticator before its last so many octets.
 pub(crate) fn hmac_pieces<'a>(octets: &'a [u8], after: usize) -> Pieces<'a>
     requires place { after + 16 ≤ length octets.now }
-    requires short { length octets.now ≤ 4096 }
+    requires short { length octets.now ≤ length_max }
     ensures message { message result ≡ with_hmac after sixteen_zeros octets.now }
     ensures free { HasFreePiece result }
     ensures short { length (message result) < 2 ^ 32 - 64 }
@@ -41,11 +42,17 @@ pub(crate) fn hmac_pieces<'a>(octets: &'a [u8], after: usize) -> Pieces<'a>
 
 /// A packet with zeros in the place of its Authenticator, and then the secret.
 pub(crate) fn accounting_pieces<'a>(octets: &'a [u8], secret: &'a [u8]) -> Pieces<'a>
-    requires header { 20 ≤ length octets.now }
-    requires short { length octets.now + length secret.now ≤ 8192 }
-    ensures { message result ≡ take 4 octets.now ++ sixteen_zeros ++ drop 20 octets.now ++ secret.now }
+    requires header { header_size ≤ length octets.now }
+    requires short { length octets.now + length secret.now ≤ 2 * length_max }
+    ensures { message result ≡ take 4 octets.now ++ sixteen_zeros ++ drop header_size octets.now ++ secret.now }
 {
-    Pieces::of([&octets[..4], &SIXTEEN_ZEROS, &octets[20..], secret, &[]])
+    Pieces::of([
+        &octets[..4],
+        &SIXTEEN_ZEROS,
+        &octets[HEADER_SIZE..],
+        secret,
+        &[],
+    ])
 }
 
 /// The digest of a packet that says this body, with this Authenticator, and then the secret.

@@ -1,6 +1,6 @@
 //! CHAP-Passwords (RFC 2865, sections 2.2 and 5.3; RFC 1994, section 4.1).
 ghost use Rattle.std.specs.Prelude.{◌≡◌, length};
-ghost use Rattle.rad_auth.specs.Chap.{chap_response, chap_right};
+ghost use Rattle.rad_auth.specs.Chap.{chap_response, chap_right, chap_value_size};
 
 use crate::same_octets::same_octets;
 use md5::{Digest, Md5};
@@ -26,7 +26,7 @@ pub fn chap_response(identifier: u8, password: &[u8], challenge: &[u8]) -> [u8; 
 /// The value has `CHAP_VALUE_LEN` octets. The challenge is that of the CHAP-Challenge, or else the Request Authenticator.
 /// All octets of the response are compared, whether the first differ or not. Source: RFC 2865, sections 2.2 and 5.3.
 pub fn chap_right(value: &[u8], password: &[u8], challenge: &[u8]) -> bool
-    requires { length value.now ≡ 17 }
+    requires { length value.now ≡ chap_value_size }
     ensures { result ≡ chap_right value.now password.now challenge.now }
 {
     let response = chap_response(value[0], password, challenge);

@@ -1,7 +1,9 @@
 //! What one walk over a packet's attributes finds for the checks.
 ghost use Rattle.std.specs.Prelude.{◌≡◌, ◌+◌, ◌==◌, ◌&&◌, ◌||◌, ◌<◌, ◌≤◌, ◌^◌, if◌then◌else◌, length};
 ghost use Rattle.std.specs.List.{AllByRecursion};
-ghost use Rattle.rad_packet.specs.Attributes.{IsAttribute, size};
+ghost use Rattle.rad_packet.specs.Attributes.{IsAttribute, integer_size, size, value_max};
+ghost use Rattle.rad_packet.specs.Packets.{length_max};
+ghost use Rattle.rad_packet.specs.Types.{type_acct_status_type, type_eap_message, type_message_authenticator, type_proxy_state};
 ghost use Rattle.rad_auth.specs.Summaries.{IsSummary, HasNextHmac};
 
 use rad_packet::attribute::{ACCT_STATUS_TYPE, EAP_MESSAGE, MESSAGE_AUTHENTICATOR, PROXY_STATE};
@@ -24,7 +26,7 @@ pub(crate) struct Summary {
 impl Summary {
     /// What these attributes say, found in one walk.
     pub fn of(attributes: Attributes) -> Summary
-        requires fits { size attributes ≤ 4096 }
+        requires fits { size attributes ≤ length_max }
         requires each { AllByRecursion IsAttribute attributes }
         ensures { IsSummary attributes.entry result }
     {
@@ -46,12 +48,12 @@ impl Summary {
     fn add(&mut self, attribute: &Attribute, after: usize)
         requires few { self.old.message_authenticators < 2 ^ 32 }
         requires short { self.old.proxy_states < 2 ^ 32 }
-        requires value { length attribute.now.value.now ≤ 253 }
-        ensures message_authenticators { self.new.message_authenticators ≡ self.old.message_authenticators + (if attribute.now.kind == 80 then 1 else 0) }
+        requires value { length attribute.now.value.now ≤ value_max }
+        ensures message_authenticators { self.new.message_authenticators ≡ self.old.message_authenticators + (if attribute.now.kind == type_message_authenticator then 1 else 0) }
         ensures after_hmac { HasNextHmac attribute.now.kind attribute.now.value.now after self.old self.new }
-        ensures has_eap_message { self.new.has_eap_message ≡ (self.old.has_eap_message || attribute.now.kind == 79) }
-        ensures has_status_type { self.new.has_status_type ≡ (self.old.has_status_type || (attribute.now.kind == 40 && length attribute.now.value.now == 4)) }
-        ensures proxy_states { self.new.proxy_states ≡ self.old.proxy_states + (if attribute.now.kind == 33 then length attribute.now.value.now + 2 else 0) }
+        ensures has_eap_message { self.new.has_eap_message ≡ (self.old.has_eap_message || attribute.now.kind == type_eap_message) }
+        ensures has_status_type { self.new.has_status_type ≡ (self.old.has_status_type || (attribute.now.kind == type_acct_status_type && length attribute.now.value.now == integer_size)) }
+        ensures proxy_states { self.new.proxy_states ≡ self.old.proxy_states + (if attribute.now.kind == type_proxy_state then length attribute.now.value.now + 2 else 0) }
     {
         let len = attribute.value.len();
         match attribute.kind {

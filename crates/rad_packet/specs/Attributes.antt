@@ -12,6 +12,10 @@ pub record Attribute : Type 0 where
 abbrev pub value_max : ℕ
 value_max = 253
 
+-- the octets of a Value that is an integer
+abbrev pub integer_size : ℕ
+integer_size = 4
+
 -- a Type of one octet, and a Value that the Length octet can count
 pub record IsAttribute (a : Attribute) : Type 0 where
   pub kind : a.kind < 256
