@@ -6,7 +6,7 @@ use Rattle.std.proofs.lemmas.List.Quantifiers.{position-Some}
 use Rattle.rad_packet.specs.Attributes.{has_len}
 use Rattle.rad_packet.specs.Ladders.{◌>>=◌, refuse_if}
 use Rattle.rad_packet.specs.Packets.{Packet, packet_of}
-use Rattle.rad_auth.specs.Admission.{IsAdmitted, IsAnswerable, admission, content_checks, has_bad_authenticator, has_bad_message_authenticator, is_code_accepted, lacks_message_authenticator, lacks_status_type, own_datagram, packet_or_discard, proxy_states_max, proxy_states_size, request_in, request_of}
+use Rattle.rad_auth.specs.Admission.{IsAdmitted, IsAnswerable, IsInOwnDatagram, admission, content_checks, has_bad_authenticator, has_bad_message_authenticator, is_code_accepted, lacks_message_authenticator, lacks_status_type, own_datagram, packet_or_discard, proxy_states_max, proxy_states_size, request_in, request_of}
 use Rattle.rad_auth.specs.Clients.{Client, client_place, client_of}
 use Rattle.rad_auth.specs.Datagrams.{Datagram}
 use Rattle.rad_auth.specs.declared.arrival.Request.{Request}
@@ -19,7 +19,7 @@ refused_not false refusal u e = refl
 
 -- ---- a request that is held by its own octets
 
-pub admitted_again : (clients : List Client) (request : Request) (checked : Unit {0}) → request_in clients (own_datagram request) ≡ Ok request
+pub admitted_again : (clients : List Client) (request : Request) (checked : Unit {0}) → IsInOwnDatagram clients request
     → content_checks (client_of clients request.client) request.packet ≡ Ok checked → IsAdmitted clients request
 unfolding admission
 admitted_again clients request checked held content = rw (held, content) refl

@@ -16,7 +16,7 @@ any-step p true x xs = refl
 any-step p false x xs = refl
 
 pub after_hmac-step : (so_far : Option ℕ) (a : Attribute) (list : List Attribute)
-    → option_or (first_after a.kind a.value (size list) so_far) (after_hmac list) ≡ option_or so_far (after_hmac (a ∷ list))
+    → option_or (first_after a (size list) so_far) (after_hmac list) ≡ option_or so_far (after_hmac (a ∷ list))
 after_hmac-step (Some n) a list = refl
 after_hmac-step None a list =
     elim (holds_hmac a) as (λ b. option_or (cond b (Some (size list)) None) (after_hmac list) ≡ cond b (Some (size list)) (after_hmac list)) [ true ↦ refl | false ↦ refl ]

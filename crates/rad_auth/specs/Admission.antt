@@ -134,6 +134,10 @@ own_datagram request = record {
   octets = packet_octets request.packet;
 }
 
+-- a request that its own octets hold
+abbrev pub IsInOwnDatagram : List Client → Request → Type 0
+IsInOwnDatagram clients request = request_in clients (own_datagram request) ≡ Ok request
+
 -- a request that the admission of its own octets gives
 abbrev pub IsAdmitted : List Client → Request → Type 0
 IsAdmitted clients request = admission clients (own_datagram request) ≡ Ok request

@@ -1,14 +1,14 @@
 -- Eight lanes of arrivals on their way through the checks: what was read of each, and the digest and the HMAC that were
 -- made for it.
-use Rattle.std.specs.Prelude.{◌≡◌, ℕ, ◌<◌, ◌==◌, ◌&&◌, Bool, false, is_some, List, length, Option, Some, None, Result, Ok, Err, option_map, IfOk, IfSome, IsTrue}
+use Rattle.std.specs.Prelude.{◌≡◌, ℕ, ◌<◌, ◌==◌, ◌&&◌, Bool, false, is_some, List, [], ◌++◌, length, take, drop, slice_index_or, Option, Some, None, Result, Ok, Err, option_map, IfOk, IfSome, IsTrue}
 use Rattle.md5.specs.Md5.{md5}
 use Rattle.rad_hmac.specs.Hmac.{hmac, mac_under}
 use Rattle.rad_packet.specs.Codes.{code_accounting_request}
 use Rattle.rad_packet.specs.Ladders.{◌>>=◌}
-use Rattle.rad_packet.specs.Packets.{Packet}
-use Rattle.rad_auth.specs.Admission.{content_checks, checks_message_authenticator, own_datagram, request_in}
+use Rattle.rad_packet.specs.Packets.{Packet, header_size}
+use Rattle.rad_auth.specs.Admission.{IsInOwnDatagram, content_checks, checks_message_authenticator}
 use Rattle.rad_auth.specs.Clients.{Client, client_of, secret_at}
-use Rattle.rad_auth.specs.Authenticators.{accounting_authenticator, message_authenticator}
+use Rattle.rad_auth.specs.Authenticators.{accounting_authenticator, message_authenticator, sixteen_zeros}
 use Rattle.rad_auth.specs.declared.candidate.Candidate.{Candidate}
 use Rattle.rad_auth.specs.declared.arrival.Request.{Request}
 use Rattle.rad_auth.specs.declared.discard.Discard.{Discard}
@@ -35,7 +35,7 @@ OfCandidate Holds lane = IfSome lane (λ read. IfOk read Holds)
 -- the candidate is a client's, and its own octets hold it
 pub record IsCandidate (clients : List Client) (candidate : Candidate) : Type 0 where
   pub client : candidate.request.client < length clients
-  pub held : request_in clients (own_datagram candidate.request) ≡ Ok candidate.request
+  pub held : IsInOwnDatagram clients candidate.request
 
 -- the digest that an Accounting-Request must have
 abbrev pub IsAccountingAuthenticator : List Client → List ℕ → Candidate → Type 0
@@ -53,6 +53,15 @@ abbrev pub IsMessageAuthenticator : List Client → List ℕ → Candidate → T
 IsMessageAuthenticator clients mac candidate =
     IsTrue (checks_message_authenticator candidate.request.packet.code) → IsHmacUnder (secret_at clients candidate.request.client) mac candidate
 
+-- the same of eight lanes
+abbrev pub AreAccountingAuthenticators : List Client → List (Option (Result Candidate Discard)) → List (List ℕ) → Type 0
+AreAccountingAuthenticators clients lanes digests =
+    (j : ℕ) → j < 8 → OfCandidate (IsAccountingAuthenticator clients (slice_index_or digests j [])) (slice_index_or lanes j None)
+
+abbrev pub AreMessageAuthenticators : List Client → List (Option (Result Candidate Discard)) → List (List ℕ) → Type 0
+AreMessageAuthenticators clients lanes macs =
+    (j : ℕ) → j < 8 → OfCandidate (IsMessageAuthenticator clients (slice_index_or macs j [])) (slice_index_or lanes j None)
+
 -- whether a lane has an Accounting-Request
 abbrev pub is_accounting : Option (Result Candidate Discard) → Bool
 is_accounting None = false
@@ -64,6 +73,10 @@ abbrev pub has_hmac_to_check : Option (Result Candidate Discard) → Bool
 has_hmac_to_check None = false
 has_hmac_to_check (Some (Err discard)) = false
 has_hmac_to_check (Some (Ok candidate)) = checks_message_authenticator candidate.request.packet.code && is_some candidate.summary.after_hmac
+
+-- a packet's octets with zeros in its Authenticator
+abbrev pub with_zero_authenticator : List ℕ → List ℕ
+with_zero_authenticator octets = take 4 octets ++ sixteen_zeros ++ drop header_size octets
 
 -- a text whose digest is the Authenticator that an Accounting-Request must have
 abbrev pub HasAccountingText : List Client → List ℕ → Candidate → Type 0

@@ -1,7 +1,7 @@
 -- What one walk over a packet's attributes finds for the checks.
-use Rattle.std.specs.Prelude.{◌≡◌, ℕ, ◌+◌, ◌-◌, ◌==◌, ◌&&◌, if◌then◌else◌, List, [], ◌∷◌, ◌++◌, length, take, drop, Option, Some, None}
+use Rattle.std.specs.Prelude.{◌≡◌, ℕ, ◌+◌, ◌-◌, ◌||◌, if◌then◌else◌, List, [], ◌∷◌, ◌++◌, length, take, drop, Option, Some, None}
 use Rattle.rad_hmac.specs.Hmac.{hmac}
-use Rattle.rad_packet.specs.Attributes.{Attribute, count, has, has_len, integer_size, of_kind, size}
+use Rattle.rad_packet.specs.Attributes.{Attribute, count, has, has_len, integer_size, is_of, is_of_len, of_kind, size}
 use Rattle.rad_packet.specs.Types.{type_acct_status_type, type_eap_message, type_message_authenticator, type_proxy_state}
 use Rattle.rad_auth.specs.declared.summary.Summary.{Summary}
 use Rattle.rad_auth.specs.Authenticators.{holds_hmac, sixteen_zeros}
@@ -28,10 +28,14 @@ pub record IsSummary (list : List Attribute) (summary : Summary) : Type 0 where
   pub proxy_states : summary.proxy_states ≡ size (of_kind type_proxy_state list)
 
 -- how many octets follow the first attribute that can hold an HMAC, after one more attribute, which so many octets follow
-abbrev pub first_after : ℕ → List ℕ → ℕ → Option ℕ → Option ℕ
-first_after kind value after (Some n) = Some n
-first_after kind value after None = if (kind == type_message_authenticator) && (length value == 16) then Some after else None
+abbrev pub first_after : Attribute → ℕ → Option ℕ → Option ℕ
+first_after a after (Some n) = Some n
+first_after a after None = if holds_hmac a then Some after else None
 
--- the same of a summary before and after that attribute, by its Type and Value
-abbrev pub HasNextHmac : ℕ → List ℕ → ℕ → Summary → Summary → Type 0
-HasNextHmac kind value after old new = new.after_hmac ≡ first_after kind value after old.after_hmac
+-- the new summary says what the old one does and one more attribute, which so many octets follow
+pub record IsNextSummary (a : Attribute) (after : ℕ) (old new : Summary) : Type 0 where
+  pub message_authenticators : new.message_authenticators ≡ old.message_authenticators + (if is_of type_message_authenticator a then 1 else 0)
+  pub after_hmac : new.after_hmac ≡ first_after a after old.after_hmac
+  pub has_eap_message : new.has_eap_message ≡ (old.has_eap_message || is_of type_eap_message a)
+  pub has_status_type : new.has_status_type ≡ (old.has_status_type || is_of_len type_acct_status_type integer_size a)
+  pub proxy_states : new.proxy_states ≡ old.proxy_states + (if is_of type_proxy_state a then length a.value + 2 else 0)

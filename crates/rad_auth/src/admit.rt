@@ -2,7 +2,7 @@
 ghost use Rattle.std.specs.Prelude.{◌≡◌, ◌<◌, length, map, All, IfOk, Ok};
 ghost use Rattle.rad_packet.specs.Attributes.{has};
 ghost use Rattle.rad_packet.specs.Types.{type_message_authenticator};
-ghost use Rattle.rad_auth.specs.Admission.{HoldsAdmitted, IsAdmitted, IsAnswerable, admission, content_checks, has_bad_authenticator, has_bad_message_authenticator, has_right_message_authenticator, is_code_accepted, lane_admission, lacks_message_authenticator, lacks_status_type, own_datagram, request_in};
+ghost use Rattle.rad_auth.specs.Admission.{HoldsAdmitted, IsAdmitted, IsAnswerable, IsInOwnDatagram, admission, content_checks, has_bad_authenticator, has_bad_message_authenticator, has_right_message_authenticator, is_code_accepted, lane_admission, lacks_message_authenticator, lacks_status_type, request_in};
 ghost use Rattle.rad_auth.specs.Clients.{Client};
 ghost use Rattle.rad_auth.specs.Datagrams.{datagram_of};
 ghost use Rattle.rad_auth.specs.RequestLanes.{IsAccountingAuthenticator, IsCandidate, IsMessageAuthenticator, IsHmacUnder, OfCandidate, asked_of, verdict_on, verdict_on_lane};
@@ -76,7 +76,8 @@ fn read_lane<'a>(clients: &Clients, arrival: &Option<Arrival<'a>>) -> Lane<'a>
 
 #[tactic(auto, unfolding(crate::specs::Admission::admission))]
 fn read_candidate<'a>(clients: &Clients, arrival: &Arrival<'a>) -> Result<Candidate<'a>, Discard>
-    ensures verdict { admission clients.now (datagram_of arrival.now) ≡ verdict_on clients.now result }
+    ensures verdict { admission clients.now (datagram_of arrival.now)
+        ≡ verdict_on clients.now result }
     ensures candidate { IfOk result (IsCandidate clients.now) }
 {
     let request = read_request(clients, arrival)?;
@@ -89,7 +90,7 @@ fn read_candidate<'a>(clients: &Clients, arrival: &Arrival<'a>) -> Result<Candid
 fn read_request<'a>(clients: &Clients, arrival: &Arrival<'a>) -> Result<Request<'a>, Discard>
     ensures read { result ≡ request_in clients.now (datagram_of arrival.now) }
     ensures client { IfOk result (λ request. request.client < length clients.now) }
-    ensures held { IfOk result (λ request. request_in clients.now (own_datagram request) ≡ Ok request) }
+    ensures held { IfOk result (IsInOwnDatagram clients.now) }
 {
     let Some(client) = clients.find(arrival.source) else {
         return Err(Discard::UnknownClient);

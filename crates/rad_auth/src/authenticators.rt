@@ -1,9 +1,10 @@
 //! The digests and HMACs of requests and replies, and the octets that they run over.
-ghost use Rattle.std.specs.Prelude.{◌≡◌, ◌+◌, ◌-◌, ◌*◌, ◌<◌, ◌≤◌, ◌^◌, ◌++◌, length, take, drop};
+ghost use Rattle.std.specs.Prelude.{◌≡◌, ◌+◌, ◌-◌, ◌*◌, ◌<◌, ◌≤◌, ◌^◌, ◌++◌, length};
 ghost use Rattle.md5.specs.Md5.{md5};
 ghost use Rattle.rad_md5.specs.Pieces.{HasFreePiece, message};
 ghost use Rattle.rad_packet.specs.Bodies.{FitsPacket, body_octets};
 ghost use Rattle.rad_packet.specs.Packets.{header_size, length_max};
+ghost use Rattle.rad_auth.specs.RequestLanes.{with_zero_authenticator};
 ghost use Rattle.rad_auth.specs.Summaries.{with_hmac};
 ghost use Rattle.rad_auth.specs.Authenticators.{sixteen_zeros};
 
@@ -44,7 +45,7 @@ pub(crate) fn hmac_pieces<'a>(octets: &'a [u8], after: usize) -> Pieces<'a>
 pub(crate) fn accounting_pieces<'a>(octets: &'a [u8], secret: &'a [u8]) -> Pieces<'a>
     requires header { header_size ≤ length octets.now }
     requires short { length octets.now + length secret.now ≤ 2 * length_max }
-    ensures { message result ≡ take 4 octets.now ++ sixteen_zeros ++ drop header_size octets.now ++ secret.now }
+    ensures { message result ≡ with_zero_authenticator octets.now ++ secret.now }
 {
     Pieces::of([
         &octets[..4],

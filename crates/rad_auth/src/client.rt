@@ -30,16 +30,15 @@ pub struct Clients {
 }
 
 impl Model for Clients {
-    ghost use Rattle.std.specs.Prelude.{◌≡◌, ◌≤◌, List, length, map};
-    ghost use Rattle.rad_auth.specs.Clients.{Client, clients_max};
+    ghost use Rattle.std.specs.Prelude.{List};
+    ghost use Rattle.rad_auth.specs.Clients.{Client};
+    ghost use Rattle.rad_auth.specs.ClientRows.{KeepsClients, row_clients};
 
     ghost Value = { List Client };
 
-    ghost use Rattle.rad_auth.specs.ClientRows.{row_clients};
-
     ghost view = { λ a. row_clients a.rows.items };
 
-    ghost invariant = { λ a. (a.addresses.keys ≡ map (λ row. row.address) a.rows.items) × (length a.rows.items ≤ clients_max) };
+    ghost invariant = { λ a. KeepsClients a.addresses.keys a.rows.items };
 }
 
 impl Clients {

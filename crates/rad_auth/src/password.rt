@@ -1,10 +1,10 @@
 //! User-Passwords, hidden under a secret and opened again (RFC 2865, section 5.2).
-ghost use Rattle.std.specs.Prelude.{◌≡◌, ℕ, ◌+◌, ◌-◌, ◌*◌, ◌/◌, ◌%◌, ◌<◌, ◌≤◌, ◌++◌, [], length, take, drop, slice_index_or, IsTrue};
+ghost use Rattle.std.specs.Prelude.{◌≡◌, ◌+◌, ◌-◌, ◌*◌, ◌/◌, ◌%◌, ◌<◌, ◌≤◌, ◌++◌, length, take, drop, IsTrue};
 ghost use Rattle.md5.specs.Md5.{md5};
 ghost use Rattle.rad_hmac.specs.Hmac.{xor};
 ghost use Rattle.rad_md5.specs.Pieces.{message};
 ghost use Rattle.rad_auth.specs.Clients.{secret_max};
-ghost use Rattle.rad_auth.specs.PasswordLanes.{block_before};
+ghost use Rattle.rad_auth.specs.PasswordLanes.{AreBlockDigests};
 ghost use Rattle.rad_auth.specs.Passwords.{IsRevealed, hidden_password, hidden_text, padded_password, password_max, password_right, value_fits, value_length};
 
 use crate::authenticators::nothing;
@@ -41,7 +41,8 @@ pub fn hide(
 ) -> usize
     requires { length password.now ≤ password_max }
     ensures len { result ≡ value_length (length password.now) }
-    ensures hidden { take result value.new ≡ hidden_password secret.now request_authenticator.now password.now }
+    ensures hidden { take result value.new
+        ≡ hidden_password secret.now request_authenticator.now password.now }
     ensures rest { drop result value.new ≡ drop result value.old }
 {
     let len = value_length(password.len());
@@ -113,7 +114,8 @@ pub fn reveal(
 ) -> usize
     requires { IsTrue (value_fits value.now) }
     ensures len { result ≡ length value.now }
-    ensures revealed { IsRevealed secret.now request_authenticator.now value.now (take result text.new) }
+    ensures revealed { IsRevealed secret.now request_authenticator.now value.now
+        (take result text.new) }
     ensures rest { drop result text.new ≡ drop result text.old }
 {
     let digests = block_digests(secret.octets(), request_authenticator, value);
@@ -133,7 +135,7 @@ fn block_digests(
 ) -> [[u8; DIGEST_LEN]; LANES]
     requires secret { length secret.now ≤ secret_max }
     requires value { length value.now ≤ password_max }
-    ensures { (j : ℕ) → j < 8 → j * 16 < length value.now → slice_index_or result j [] ≡ md5 (secret.now ++ block_before request_authenticator.now value.now j) }
+    ensures { AreBlockDigests secret.now request_authenticator.now value.now result }
 {
     if value.len() == BLOCK_LEN {
         // A digest alone takes less time than a pass of eight.
@@ -158,7 +160,8 @@ fn digested_text<'x>(secret: &'x [u8], value: &'x [u8], block: usize) -> Pieces<
     requires secret { length secret.now ≤ secret_max }
     requires value { length value.now ≤ password_max }
     requires block { (1 ≤ block) × (block < 8) }
-    ensures { block * 16 < length value.now → message result ≡ secret.now ++ take 16 (drop (block * 16 - 16) value.now) }
+    ensures { block * 16 < length value.now
+        → message result ≡ secret.now ++ take 16 (drop (block * 16 - 16) value.now) }
 {
     let at = block * BLOCK_LEN;
     if at < value.len() {

@@ -1,8 +1,8 @@
 //! The Authenticators and Message-Authenticators that eight requests must have, computed side by side.
-ghost use Rattle.std.specs.Prelude.{◌≡◌, ℕ, ◌<◌, ◌^◌, ◌-◌, ◌==◌, ◌&&◌, [], length, All, None, slice_index_or};
+ghost use Rattle.std.specs.Prelude.{◌≡◌, ◌<◌, ◌^◌, ◌-◌, length, All};
 ghost use Rattle.rad_md5.specs.Pieces.{HasFreePiece, message};
 ghost use Rattle.rad_auth.specs.Admission.{checks_message_authenticator};
-ghost use Rattle.rad_auth.specs.RequestLanes.{HasAccountingText, HasKeyOf, HasHmacText, IsAccountingAuthenticator, IsCandidate, IsMessageAuthenticator, OfCandidate, is_accounting, has_hmac_to_check};
+ghost use Rattle.rad_auth.specs.RequestLanes.{AreAccountingAuthenticators, AreMessageAuthenticators, HasAccountingText, HasHmacText, HasKeyOf, IsCandidate, OfCandidate, is_accounting, has_hmac_to_check};
 
 use crate::authenticators::{accounting_pieces, hmac_pieces, nothing};
 use crate::candidate::{Candidate, Lane, checks_message_authenticator};
@@ -17,7 +17,7 @@ pub(crate) fn accounting_authenticators(
     lanes: &[Lane; LANES],
 ) -> [[u8; DIGEST_LEN]; LANES]
     requires { All (OfCandidate (IsCandidate clients.now)) lanes.now }
-    ensures { (j : ℕ) → j < 8 → OfCandidate (IsAccountingAuthenticator clients.now (slice_index_or result j [])) (slice_index_or lanes.now j None) }
+    ensures { AreAccountingAuthenticators clients.now lanes.now result }
 {
     if !lanes.iter().any(is_accounting) {
         return [[0; DIGEST_LEN]; LANES];
@@ -73,7 +73,7 @@ pub(crate) fn message_authenticators(
     lanes: &[Lane; LANES],
 ) -> [[u8; DIGEST_LEN]; LANES]
     requires { All (OfCandidate (IsCandidate clients.now)) lanes.now }
-    ensures { (j : ℕ) → j < 8 → OfCandidate (IsMessageAuthenticator clients.now (slice_index_or result j [])) (slice_index_or lanes.now j None) }
+    ensures { AreMessageAuthenticators clients.now lanes.now result }
 {
     if !lanes.iter().any(has_hmac_to_check) {
         return [[0; DIGEST_LEN]; LANES];

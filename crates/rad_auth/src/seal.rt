@@ -1,11 +1,11 @@
 //! Sealing: the octets of replies, and of requests, under a secret.
 ghost use Rattle.std.specs.Prelude.{◌≡◌, ◌↔◌, ◌+◌, ◌<◌, ◌≤◌, ◌^◌, ◌-◌, length, IsOk, IfSome, OnOk, OnErr};
-ghost use Rattle.rad_hmac.specs.Hmac.{hmac, mac_under};
+ghost use Rattle.rad_hmac.specs.Hmac.{mac_under};
 ghost use Rattle.rad_md5.specs.Pieces.{HasFreePiece, message};
 ghost use Rattle.rad_packet.specs.Bodies.{FitsPacket};
 ghost use Rattle.rad_auth.specs.Summaries.{hmac_before, with_hmac};
 ghost use Rattle.rad_auth.specs.ReplyLanes.{HasReplyDigest, HasReplyHmac, IsReplyDigest, IsReplyHmac};
-ghost use Rattle.rad_auth.specs.Authenticators.{response_authenticator, sixteen_zeros};
+ghost use Rattle.rad_auth.specs.Authenticators.{response_authenticator};
 ghost use Rattle.rad_auth.specs.Sealing.{AreJobs, BeginsOtherwise, IsJob, IsRequestCode, job_octets, lane_octets, request_octets, sealed};
 
 use crate::authenticators::{SIXTEEN_ZEROS, body_digest, hmac_pieces, nothing};
@@ -115,7 +115,8 @@ pub fn sign_request(
 // Computes the HMAC of the packet in a frame, and writes it before the last so many octets.
 fn put_hmac(frame: &mut Frame, after: usize, secret: &Secret)
     requires place { after + 16 ≤ length frame.old }
-    ensures written { frame.new ≡ with_hmac after (hmac_before after secret.now frame.old) frame.old }
+    ensures written { frame.new
+        ≡ with_hmac after (hmac_before after secret.now frame.old) frame.old }
     ensures long { length (hmac_before after secret.now frame.old) ≡ 16 }
 {
     let octets = frame.octets();

@@ -1,10 +1,10 @@
 //! What one walk over a packet's attributes finds for the checks.
-ghost use Rattle.std.specs.Prelude.{◌≡◌, ◌+◌, ◌==◌, ◌&&◌, ◌||◌, ◌<◌, ◌≤◌, ◌^◌, if◌then◌else◌, length};
+ghost use Rattle.std.specs.Prelude.{◌<◌, ◌≤◌, ◌^◌, length};
 ghost use Rattle.std.specs.List.{AllByRecursion};
-ghost use Rattle.rad_packet.specs.Attributes.{IsAttribute, integer_size, size, value_max};
+ghost use Rattle.rad_packet.specs.AttributeViews.{attribute_of};
+ghost use Rattle.rad_packet.specs.Attributes.{IsAttribute, size, value_max};
 ghost use Rattle.rad_packet.specs.Packets.{length_max};
-ghost use Rattle.rad_packet.specs.Types.{type_acct_status_type, type_eap_message, type_message_authenticator, type_proxy_state};
-ghost use Rattle.rad_auth.specs.Summaries.{IsSummary, HasNextHmac};
+ghost use Rattle.rad_auth.specs.Summaries.{IsNextSummary, IsSummary};
 
 use rad_packet::attribute::{ACCT_STATUS_TYPE, EAP_MESSAGE, MESSAGE_AUTHENTICATOR, PROXY_STATE};
 use rad_packet::{Attribute, Attributes};
@@ -49,11 +49,7 @@ impl Summary {
         requires few { self.old.message_authenticators < 2 ^ 32 }
         requires short { self.old.proxy_states < 2 ^ 32 }
         requires value { length attribute.now.value.now ≤ value_max }
-        ensures message_authenticators { self.new.message_authenticators ≡ self.old.message_authenticators + (if attribute.now.kind == type_message_authenticator then 1 else 0) }
-        ensures after_hmac { HasNextHmac attribute.now.kind attribute.now.value.now after self.old self.new }
-        ensures has_eap_message { self.new.has_eap_message ≡ (self.old.has_eap_message || attribute.now.kind == type_eap_message) }
-        ensures has_status_type { self.new.has_status_type ≡ (self.old.has_status_type || (attribute.now.kind == type_acct_status_type && length attribute.now.value.now == integer_size)) }
-        ensures proxy_states { self.new.proxy_states ≡ self.old.proxy_states + (if attribute.now.kind == type_proxy_state then length attribute.now.value.now + 2 else 0) }
+        ensures { IsNextSummary (attribute_of attribute.now) after self.old self.new }
     {
         let len = attribute.value.len();
         match attribute.kind {

@@ -1,4 +1,4 @@
-ghost use Rattle.std.specs.Prelude.{◌≡◌, ◌≤◌, length, IfOk, IfErr, IfSome, Ok, option_map};
+ghost use Rattle.std.specs.Prelude.{◌≡◌, ◌≤◌, length, IfOk, IfErr, IfSome, Ok};
 ghost use Rattle.std.specs.List.{AllByRecursion};
 ghost use Rattle.std.specs.Option.{option_copied};
 ghost use Rattle.rad_packet.specs.Attributes.{IsAttribute, first_value, first_value_of_len, count};
@@ -123,7 +123,7 @@ impl<'a> Packet<'a> {
 
     /// The Value of the first attribute of a Type.
     pub fn first(&self, kind: u8) -> Option<&'a [u8]>
-        ensures value { option_map (λ value. value.now) result ≡ first_value kind self.now.attributes }
+        ensures value { option_copied result ≡ first_value kind self.now.attributes }
     {
         let mut rest = self.attributes();
         while let Some(attribute) = rest.next() {

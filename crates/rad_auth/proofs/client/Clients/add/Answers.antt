@@ -15,4 +15,7 @@ invariant_of-self-2 c =
     let pushed : c.push.new.self.items ≡ rows ++ row ∷ [] = search rules in
     let new : is_some (client_place (row_clients rows) c.args.address) ≡ false = search rules in
     let inserted : c.insert.new.self.keys ≡ insert_key nat_eq c.self.inside.addresses.keys c.args.address = search rules in
-    (rw pushed (addresses-push c.self.inside.addresses.keys c.insert.new.self.keys rows row c.self.invariant.0 new inserted), rw (pushed, length_push) (omega (arith, c.requires.room, ap length c.self.view_is, length-map rows row_client)))
+    record {
+      in_order = rw pushed (addresses-push c.self.inside.addresses.keys c.insert.new.self.keys rows row c.self.invariant.in_order new inserted);
+      few = rw (pushed, length_push) (omega (arith, c.requires.room, ap length c.self.view_is, length-map rows row_client));
+    }

@@ -24,7 +24,7 @@ loop-attribute-preserved c =
     let counted = ap (count type_message_authenticator) e in
     record {
       message_authenticators = omega (arith, c.add.ensures.message_authenticators, known.message_authenticators, counted, count-cons type_message_authenticator a others);
-      after_hmac = ap (λ o. option_or o (after_hmac others)) (c.add.ensures.after_hmac ∙ ap (λ octets. first_after a.kind a.value (length octets) was.after_hmac) c.octets.ensures)
+      after_hmac = ap (λ o. option_or o (after_hmac others)) (c.add.ensures.after_hmac ∙ ap (λ octets. first_after a (length octets) was.after_hmac) c.octets.ensures)
           ∙ after_hmac-step was.after_hmac a others ∙ ap (λ list. option_or was.after_hmac (after_hmac list)) (sym e) ∙ known.after_hmac;
       has_eap_message = ap (λ so_far. so_far || has type_eap_message others) c.add.ensures.has_eap_message
           ∙ any-step (is_of type_eap_message) was.has_eap_message a others ∙ ap (λ list. was.has_eap_message || has type_eap_message list) (sym e) ∙ known.has_eap_message;
