@@ -46,7 +46,8 @@ unfolding request_in
 held_in_place clients datagram request e = in_place (client_place clients datagram.source) (packet_or_discard (packet_of datagram.octets)) datagram request e
 
 last_rungs : (a b c d e : Bool) (checked : Unit {0})
-    → (refuse_if a BadAuthenticator >>= λ _. (refuse_if b BadMessageAuthenticator >>= λ _. (refuse_if c NoMessageAuthenticator >>= λ _. (refuse_if d NoStatusType >>= λ _. refuse_if e ProxyStateTooLong)))) ≡ Ok checked
+    → (refuse_if a BadAuthenticator >>= λ _. (refuse_if b BadMessageAuthenticator >>= λ _.
+    (refuse_if c NoMessageAuthenticator >>= λ _. (refuse_if d NoStatusType >>= λ _. refuse_if e ProxyStateTooLong)))) ≡ Ok checked
     → (d ≡ false) × (e ≡ false)
 last_rungs true b c d e checked is = absurd (cc)
 last_rungs false true c d e checked is = absurd (cc)
@@ -60,7 +61,8 @@ content_fits : (client : Client) (p : Packet) (checked : Unit {0}) → content_c
 unfolding content_checks
 content_fits client p checked e =
     let last : (lacks_status_type p ≡ false) × (nat_lt proxy_states_max (proxy_states_size p) ≡ false)
-    = last_rungs (has_bad_authenticator client p) (has_bad_message_authenticator client p) (lacks_message_authenticator client p) (lacks_status_type p) (nat_lt proxy_states_max (proxy_states_size p)) checked e in
+    = last_rungs (has_bad_authenticator client p) (has_bad_message_authenticator client p) (lacks_message_authenticator client p)
+    (lacks_status_type p) (nat_lt proxy_states_max (proxy_states_size p)) checked e in
     (λ is. said (p.code == 4) (has_len 40 4 p.attributes) (eq-eqb p.code 4 is) last.0, ltb-false proxy_states_max (proxy_states_size p) last.1)
   where
     said : (accounting has_status : Bool) → accounting ≡ true → (accounting && not has_status) ≡ false → IsTrue has_status

@@ -71,7 +71,9 @@ attributes_hmac (a ∷ list) n e = at (holds_hmac a) refl e (attributes_hmac lis
 -- the size stays
 pub same_size : (octets : List ℕ) (made : List ℕ → List ℕ) (n : ℕ) (w : List ℕ) → HasHmac octets made n → length w ≡ 16 → length (made w) ≡ length octets
 same_size octets made n w has len =
-    omega (arith, ap length has.whole, ap length (has.with w len), length-append has.front (has.value ++ has.back), length-append has.front (w ++ has.back), length-append has.value has.back, length-append w has.back, len, has.long)
+    let all = length-append has.front (has.value ++ has.back) in
+    let changed = length-append has.front (w ++ has.back) in
+    omega (arith, ap length has.whole, ap length (has.with w len), all, changed, length-append has.value has.back, length-append w has.back, len, has.long)
 
 -- the packet with this Value in place of its HMAC
 abbrev pub packet_made : Packet → List ℕ → List ℕ
@@ -107,6 +109,7 @@ with_hmac-made octets made n w has len =
     let front : take (length octets - (n + 16)) octets ≡ has.front =
     ap (take (length octets - (n + 16))) has.whole ∙ take_at has.front (has.value ++ has.back) (length octets - (n + 16)) (omega (arith, all, last, whole, has.long, has.after)) in
     let back : drop (length octets - n) octets ≡ has.back =
-    ap (drop (length octets - n)) (has.whole ∙ sym (append_assoc has.front has.value has.back)) ∙ drop_at (has.front ++ has.value) has.back (length octets - n) (omega (arith, all, last, first, whole, has.long, has.after)) in
+    ap (drop (length octets - n)) (has.whole ∙ sym (append_assoc has.front has.value has.back))
+    ∙ drop_at (has.front ++ has.value) has.back (length octets - n) (omega (arith, all, last, first, whole, has.long, has.after)) in
     ap (λ (o : List ℕ). o ++ w ++ drop (length octets - n) octets) front ∙ ap (λ (o : List ℕ). has.front ++ w ++ o) back
     ∙ append_assoc has.front w has.back ∙ sym (has.with w len)

@@ -36,7 +36,8 @@ pub client-at_row : (rows : List ClientRow) (i : ℕ) (row : ClientRow) → i < 
 client-at_row rows i row within read = ap row_client read ∙ sym (get_or-map row_client rows i row _ within)
 
 -- the place of an address in the index is the place of its client
-pub client_place-addresses : (addresses : List ℕ) (rows : List ClientRow) (source : ℕ) → addresses ≡ map (λ row. row.address) rows → position (nat_eq source) addresses ≡ client_place (row_clients rows) source
+pub client_place-addresses : (addresses : List ℕ) (rows : List ClientRow) (source : ℕ) → addresses ≡ map (λ row. row.address) rows
+    → position (nat_eq source) addresses ≡ client_place (row_clients rows) source
 client_place-addresses addresses rows source same =
     ap (position (nat_eq source)) same ∙ position-map (nat_eq source) (λ row. row.address) rows
     ∙ (λ j. position (λ (row : ClientRow). nat_eq_equiv.symm source row.address j) rows)

@@ -10,7 +10,8 @@ use Rattle.rad_packet.specs.Attributes.{Attribute, IsAttribute, AreAttributes, I
 -- ---- what was spelled is read again
 
 -- two octets at the front, with a Length that fits, are the front of an attribute
-pub within-attribute : (most kind : ℕ) (value rest : List ℕ) → attributes_within (suc most) (kind ∷ (length value + 2) ∷ value ++ rest) ≡ option_map (λ list. record { kind = kind; value = value } ∷ list) (attributes_within most rest)
+pub within-attribute : (most kind : ℕ) (value rest : List ℕ)
+    → attributes_within (suc most) (kind ∷ (length value + 2) ∷ value ++ rest) ≡ option_map (λ list. record { kind = kind; value = value } ∷ list) (attributes_within most rest)
 unfolding attributes_within
 within-attribute most kind value rest =
     let low : ltb (length value + 2) 2 ≡ false = le-ltb _ _ (omega arith) in
@@ -159,7 +160,8 @@ first-at (kind ∷ len ∷ rest) le are = let f = first-is kind len rest are in 
 
 -- ---- whether octets are attributes
 
-pub are-at : (octets : List ℕ) → 2 ≤ length octets → 2 ≤ get_or octets 1 0 → get_or octets 1 0 ≤ length octets → is_some (attributes_of (drop (get_or octets 1 0) octets)) ≡ is_some (attributes_of octets)
+pub are-at : (octets : List ℕ) → 2 ≤ length octets → 2 ≤ get_or octets 1 0 → get_or octets 1 0 ≤ length octets
+    → is_some (attributes_of (drop (get_or octets 1 0) octets)) ≡ is_some (attributes_of octets)
 are-at [] le low high = absurd (omega arith)
 are-at (kind ∷ []) le low high = absurd (omega arith)
 are-at (kind ∷ len ∷ rest) le low high = are-cons kind len rest low (omega arith)
@@ -171,8 +173,9 @@ are-not (kind ∷ []) le h = absurd (omega arith)
 are-not (kind ∷ len ∷ rest) le (inl low) = let t : ltb len 2 ≡ true = lt-ltb _ _ low in rw t refl
 are-not (kind ∷ len ∷ rest) le (inr high) =
     let t : ltb (length rest + 2) len ≡ true = lt-ltb _ _ (omega arith) in
-    elim (ltb len 2) as (λ b. is_some (cond (b || ltb (length rest + 2) len) None (option_map (λ others. record { kind = kind; value = take (len - 2) rest } ∷ others) (attributes_within (suc (length rest)) (drop (len - 2) rest)))) ≡ false)
-    [ true ↦ refl | false ↦ rw t refl ]
+    let found : Option (List Attribute) =
+    option_map (λ others. record { kind = kind; value = take (len - 2) rest } ∷ others) (attributes_within (suc (length rest)) (drop (len - 2) rest)) in
+    elim (ltb len 2) as (λ b. is_some (cond (b || ltb (length rest + 2) len) None found) ≡ false) [ true ↦ refl | false ↦ rw t refl ]
 
 pub are-short : (octets : List ℕ) → length octets < 2 → is_some (attributes_of octets) ≡ eqb (length octets) 0
 unfolding attributes_within
@@ -211,7 +214,8 @@ in-push octets a are =
     in-spelled (octets ++ attribute_octets a) (attributes_in octets ++ a ∷ [])
     (ap (λ (xs : List ℕ). xs ++ attribute_octets a) are.spelled ∙ sym (spelled_push (attributes_in octets) a))
 
-pub are-push : (octets : List ℕ) (a : Attribute) → AreAttributes octets (attributes_in octets) → IsAttribute a → AreAttributes (octets ++ attribute_octets a) (attributes_in (octets ++ attribute_octets a))
+pub are-push : (octets : List ℕ) (a : Attribute) → AreAttributes octets (attributes_in octets) → IsAttribute a
+    → AreAttributes (octets ++ attribute_octets a) (attributes_in (octets ++ attribute_octets a))
 are-push octets a are is =
     rw (in-push octets a are) (record {
       spelled = ap (λ (xs : List ℕ). xs ++ attribute_octets a) are.spelled ∙ sym (spelled_push (attributes_in octets) a);

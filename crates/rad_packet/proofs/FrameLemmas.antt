@@ -18,10 +18,11 @@ front_written at len room part within le =
     let front : List ℕ = take at room ++ part in
     let long : length front ≡ end = omega (arith, length-append (take at room) part, length-take-le at room) in
     let sum : end + (len - end) ≡ len = omega arith in
-    let parted : drop end room ≡ take (len - end) (drop end room) ++ drop (len - end) (drop end room) = sym (take-append-drop (len - end) (drop end room)) in
-    let whole : front ++ drop end room ≡ (front ++ take (len - end) (drop end room)) ++ drop (len - end) (drop end room) =
-    ap (λ (l : List ℕ). front ++ l) parted ∙ sym (append_assoc front (take (len - end) (drop end room)) (drop (len - end) (drop end room))) in
+    let rest : List ℕ = take (len - end) (drop end room) in
+    let parted : drop end room ≡ rest ++ drop (len - end) (drop end room) = sym (take-append-drop (len - end) (drop end room)) in
+    let whole : front ++ drop end room ≡ (front ++ rest) ++ drop (len - end) (drop end room) =
+    ap (λ (l : List ℕ). front ++ l) parted ∙ sym (append_assoc front rest (drop (len - end) (drop end room))) in
     ap (take len) whole
-    ∙ take_at (front ++ take (len - end) (drop end room)) (drop (len - end) (drop end room)) len (omega (arith, length-append front (take (len - end) (drop end room)), length-take-le (len - end) (drop end room), length-drop end room))
-    ∙ ap (λ (l : List ℕ). l ++ part ++ take (len - end) (drop end room)) (sym (take-take at len room (omega arith)))
+    ∙ take_at (front ++ rest) (drop (len - end) (drop end room)) len (omega (arith, length-append front rest, length-take-le (len - end) (drop end room), length-drop end room))
+    ∙ ap (λ (l : List ℕ). l ++ part ++ rest) (sym (take-take at len room (omega arith)))
     ∙ ap (λ (l : List ℕ). take at (take len room) ++ part ++ l) (sym (drop-take end (len - end) room) ∙ ap (λ n. drop end (take n room)) sum)

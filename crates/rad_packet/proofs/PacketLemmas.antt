@@ -33,10 +33,13 @@ pub data Reads (datagram : List ℕ) : Result Packet ReadFault → Type 0 where
   bad : header_size ≤ length datagram → (length_field datagram < header_size) ⊎ (length_max < length_field datagram) → Reads datagram (Err BadLength)
   cut : HasLength datagram → length datagram < length_field datagram → Reads datagram (Err Truncated)
   odd : HasLength datagram → length_field datagram ≤ length datagram → attributes_of (attributes_field datagram) ≡ None → Reads datagram (Err BadAttributes)
-  whole : (list : List Attribute) → HasLength datagram → length_field datagram ≤ length datagram → attributes_of (attributes_field datagram) ≡ Some list → Reads datagram (Ok (packet_fields datagram list))
+  whole : (list : List Attribute) → HasLength datagram → length_field datagram ≤ length datagram
+      → attributes_of (attributes_field datagram) ≡ Some list → Reads datagram (Ok (packet_fields datagram list))
 
 abbrev behind_header : List ℕ → Result Packet ReadFault
-behind_header d = cond (ltb (length_field d) header_size || ltb length_max (length_field d)) (Err BadLength) (cond (ltb (length d) (length_field d)) (Err Truncated) (packet_with d (attributes_of (attributes_field d))))
+behind_header d =
+    cond (ltb (length_field d) header_size || ltb length_max (length_field d)) (Err BadLength)
+    (cond (ltb (length d) (length_field d)) (Err Truncated) (packet_with d (attributes_of (attributes_field d))))
 
 reads_attributes : (d : List ℕ) → HasLength d → length_field d ≤ length d → (found : Option (List Attribute)) → attributes_of (attributes_field d) ≡ found → Reads d (packet_with d found)
 reads_attributes d has long None e = odd has long e
@@ -93,7 +96,8 @@ reads-attributes d found has le e = has_length d has ∙ rw (le-ltb (length d) (
 
 -- ---- a packet, whole
 
-pub fields_spelled : (o : List ℕ) (list : List Attribute) → header_size ≤ length o → take 2 (drop 2 o) ≡ to_be_bytes w16 (length o) → drop header_size o ≡ attributes_octets list → o ≡ packet_octets (packet_fields o list)
+pub fields_spelled : (o : List ℕ) (list : List Attribute) → header_size ≤ length o → take 2 (drop 2 o) ≡ to_be_bytes w16 (length o)
+    → drop header_size o ≡ attributes_octets list → o ≡ packet_octets (packet_fields o list)
 fields_spelled [] list le field e = absurd (omega arith)
 fields_spelled (code ∷ []) list le field e = absurd (omega arith)
 fields_spelled (code ∷ identifier ∷ rest) list le field e =
@@ -130,7 +134,8 @@ front_fields d list has =
     let authenticator : take 16 (drop 4 (take (length_field d) d)) ≡ take 16 (drop 4 d) = front_take d 4 16 (omega (arith, has.low)) in
     rw (code, identifier, authenticator) refl
 
-pub front_whole : (d : List ℕ) (list : List Attribute) → IsOctets d → HasLength d → length_field d ≤ length d → attributes_of (attributes_field d) ≡ Some list → IsWhole (take (length_field d) d) × (packet_in (take (length_field d) d) ≡ packet_fields d list)
+pub front_whole : (d : List ℕ) (list : List Attribute) → IsOctets d → HasLength d → length_field d ≤ length d
+    → attributes_of (attributes_field d) ≡ Some list → IsWhole (take (length_field d) d) × (packet_in (take (length_field d) d) ≡ packet_fields d list)
 front_whole d list fits has le e =
     let are = within-spells _ (attributes_field d) list (IsOctets-drop header_size (take (length_field d) d) (IsOctets-take (length_field d) d fits)) e in
     let found : attributes_in (attributes_field d) ≡ list = ap (λ o. unwrap_or o []) e in (
@@ -188,7 +193,8 @@ module _ (p : Packet) (padding : List ℕ) (authenticator : length p.authenticat
 
   datagram_attributes : attributes_field (packet_octets p ++ padding) ≡ attributes_octets p.attributes
   datagram_attributes =
-      let front : take (packet_length p) (packet_octets p ++ padding) ≡ packet_octets p = take_at (packet_octets p) padding (packet_length p) (omega (arith, length-append p.authenticator (attributes_octets p.attributes))) in
+      let front : take (packet_length p) (packet_octets p ++ padding) ≡ packet_octets p =
+      take_at (packet_octets p) padding (packet_length p) (omega (arith, length-append p.authenticator (attributes_octets p.attributes))) in
       ap (λ (n : ℕ). drop header_size (take n (packet_octets p ++ padding))) datagram_field ∙ ap (drop header_size) front ∙ drop_at p.authenticator (attributes_octets p.attributes) 16 authenticator
 
 pub again : (d : List ℕ) (p : Packet) → IsPacket d p → packet_of d ≡ Ok p
@@ -198,7 +204,8 @@ again d p is =
     let field = datagram_field p padding is.authenticator is.fits in
     let long = datagram_long p padding is.authenticator is.fits in
     let has : HasLength (packet_octets p ++ padding) = record { header = omega arith; low = omega arith; high = omega (arith, is.fits) } in
-    let list : attributes_of (attributes_field (packet_octets p ++ padding)) ≡ Some p.attributes = ap attributes_of (datagram_attributes p padding is.authenticator is.fits) ∙ of-spelled p.attributes in
+    let list : attributes_of (attributes_field (packet_octets p ++ padding)) ≡ Some p.attributes =
+    ap attributes_of (datagram_attributes p padding is.authenticator is.fits) ∙ of-spelled p.attributes in
     ap packet_of e ∙ reads-attributes (packet_octets p ++ padding) (Some p.attributes) has (omega arith) list
     ∙ ap (λ (a : List ℕ). Ok (record { code = p.code; identifier = p.identifier; authenticator = a; attributes = p.attributes })) (datagram_authenticator p padding is.authenticator is.fits)
 

@@ -1,21 +1,64 @@
-use Rattle.std.proofs.Common.{None, ◌∙◌, sym, arith}
-use Rattle.std.specs.Prelude.{option_map}
-use Rattle.rad_auth.specs.Admission.{admission}
-use Rattle.rad_auth.specs.Datagrams.{datagram_of}
+use Rattle.std.proofs.Common.{ap, ◌∙◌, sym, arith}
+use Rattle.std.specs.Prelude.{map}
+use Rattle.rad_auth.specs.Admission.{lane_admission}
 use Rattle.rad_auth.proofs.LaneLemmas.{eight_lanes}
 use Rattle.rad_auth.proofs.admit.check8.Goals as goal
 
-pub judge-requires-2-clause-mac : goal.judge-requires-2-clause-mac
-judge-requires-2-clause-mac c = c.message_authenticators-macs.ensures 1 (omega arith)
+pub judge-requires : goal.judge-requires
+judge-requires c = record {
+  candidate = c.read_lane.ensures.candidate;
+  digest = c.accounting_authenticators-digests.ensures 0 (omega arith);
+  mac = c.message_authenticators-macs.ensures 0 (omega arith);
+}
 
-pub judge-requires-3-clause-mac : goal.judge-requires-3-clause-mac
-judge-requires-3-clause-mac c = c.message_authenticators-macs.ensures 2 (omega arith)
+pub judge-requires-2 : goal.judge-requires-2
+judge-requires-2 c = record {
+  candidate = c.read_lane-2.ensures.candidate;
+  digest = c.accounting_authenticators-digests.ensures 1 (omega arith);
+  mac = c.message_authenticators-macs.ensures 1 (omega arith);
+}
 
-pub judge-requires-4-clause-mac : goal.judge-requires-4-clause-mac
-judge-requires-4-clause-mac c = c.message_authenticators-macs.ensures 3 (omega arith)
+pub judge-requires-3 : goal.judge-requires-3
+judge-requires-3 c = record {
+  candidate = c.read_lane-3.ensures.candidate;
+  digest = c.accounting_authenticators-digests.ensures 2 (omega arith);
+  mac = c.message_authenticators-macs.ensures 2 (omega arith);
+}
 
-pub judge-requires-6-clause-mac : goal.judge-requires-6-clause-mac
-judge-requires-6-clause-mac c = c.message_authenticators-macs.ensures 5 (omega arith)
+pub judge-requires-4 : goal.judge-requires-4
+judge-requires-4 c = record {
+  candidate = c.read_lane-4.ensures.candidate;
+  digest = c.accounting_authenticators-digests.ensures 3 (omega arith);
+  mac = c.message_authenticators-macs.ensures 3 (omega arith);
+}
+
+pub judge-requires-5 : goal.judge-requires-5
+judge-requires-5 c = record {
+  candidate = c.read_lane-5.ensures.candidate;
+  digest = c.accounting_authenticators-digests.ensures 4 (omega arith);
+  mac = c.message_authenticators-macs.ensures 4 (omega arith);
+}
+
+pub judge-requires-6 : goal.judge-requires-6
+judge-requires-6 c = record {
+  candidate = c.read_lane-6.ensures.candidate;
+  digest = c.accounting_authenticators-digests.ensures 5 (omega arith);
+  mac = c.message_authenticators-macs.ensures 5 (omega arith);
+}
+
+pub judge-requires-7 : goal.judge-requires-7
+judge-requires-7 c = record {
+  candidate = c.read_lane-7.ensures.candidate;
+  digest = c.accounting_authenticators-digests.ensures 6 (omega arith);
+  mac = c.message_authenticators-macs.ensures 6 (omega arith);
+}
+
+pub judge-requires-8 : goal.judge-requires-8
+judge-requires-8 c = record {
+  candidate = c.read_lane-8.ensures.candidate;
+  digest = c.accounting_authenticators-digests.ensures 7 (omega arith);
+  mac = c.message_authenticators-macs.ensures 7 (omega arith);
+}
 
 pub returns-clause-verdicts : goal.returns-clause-verdicts
 returns-clause-verdicts c =
@@ -29,4 +72,4 @@ returns-clause-verdicts c =
       c.judge-7.ensures.verdict ∙ sym c.read_lane-7.ensures.verdict,
       c.judge-8.ensures.verdict ∙ sym c.read_lane-8.ensures.verdict,
     )
-    (eight_lanes (option_map (λ arrival. admission c.args.clients.now (datagram_of arrival))) c.args.arrivals.now None None None None None None None None c.told-arrivals)
+    (ap (map (lane_admission c.args.clients.now)) (eight_lanes c.args.arrivals.now _ _ _ _ _ _ _ _ c.told-arrivals))

@@ -22,6 +22,7 @@ blocks-2-preserved c =
     let before : List ℕ = block_before c.args.request_authenticator.now c.args.value.now c.blocks-2.block in
     let fits : length c.args.value.now ≤ 128 = fits_room c.args.value.now c.requires in
     let room : at + 16 ≤ length c.blocks-2.text = omega (arith, c.blocks-2-test.true, c.blocks-2.invariant.long, fits) in
+    let mid = mid_len at (at + 16) c.blocks-2.text room in
     let padded : get_or c.block_digests-digests.result c.blocks-2.block [] ≡ md5 (c.args.secret.now ++ before) =
     c.block_digests-digests.ensures c.blocks-2.block (omega (arith, c.blocks-2-test.true, fits)) (omega (arith, c.blocks-2-test.true))
     ∙ ap (λ (secret : List ℕ). md5 (secret ++ before)) c.octets.ensures.value in
@@ -31,7 +32,7 @@ blocks-2-preserved c =
           rw (c.copy_from_slice.ensures.after, before_next c.args.request_authenticator.now c.args.value.now c.blocks-2.block c.told-request_authenticator)
           (opened_more _ _ _ _ _ _ _ _ _ _ (omega arith) c.blocks-2-test.true (omega arith) (omega (arith, c.blocks-2.invariant.long, fits)) c.xor-opened.ensures padded c.blocks-2.invariant.text);
       rest =
-          drop-put_mid at (at + 16 - at) c.blocks-2.text _ (length c.args.value.now) (omega (arith, c.blocks-2-test.true)) (omega (arith, room)) (c.copy_from_slice.ensures.len ∙ mid_len at (at + 16) c.blocks-2.text room)
+          drop-put_mid at (at + 16 - at) c.blocks-2.text _ (length c.args.value.now) (omega (arith, c.blocks-2-test.true)) (omega (arith, room)) (c.copy_from_slice.ensures.len ∙ mid)
           ∙ c.blocks-2.invariant.rest;
     }
 
@@ -42,9 +43,10 @@ returns-clause-revealed c =
     let whole = whole_blocks c.args.value.now c.requires in
     let done : n - c.blocks-2.block ≡ 0 = omega (arith, c.blocks-2-test.false) in
     let end : c.blocks-2.block * 16 ≡ length c.args.value.now = omega (arith, whole, c.blocks-2-test.false, c.blocks-2.auto.block-end) in
+    let before : List ℕ = block_before c.args.request_authenticator.now c.args.value.now c.blocks-2.block in
     let opened_is : take (length c.args.value.now) c.blocks-2.text ≡ opened c.args.secret.now c.args.request_authenticator.now n c.args.value.now =
     ap (λ k. take k c.blocks-2.text) (sym end)
     ∙ sym (append-nil (take (c.blocks-2.block * 16) c.blocks-2.text))
-    ∙ ap (λ k. take (c.blocks-2.block * 16) c.blocks-2.text ++ opened c.args.secret.now (block_before c.args.request_authenticator.now c.args.value.now c.blocks-2.block) k (drop (c.blocks-2.block * 16) c.args.value.now)) (sym done)
+    ∙ ap (λ k. take (c.blocks-2.block * 16) c.blocks-2.text ++ opened c.args.secret.now before k (drop (c.blocks-2.block * 16) c.args.value.now)) (sym done)
     ∙ c.blocks-2.invariant.text in
     subst (IsRevealed c.args.secret.now c.args.request_authenticator.now c.args.value.now) (sym opened_is) (reveals c.args.secret.now c.args.request_authenticator.now n c.args.value.now whole)

@@ -1,15 +1,17 @@
-use Rattle.std.proofs.Common.{List, ℕ, [], get_or, ap, arith}
-use Rattle.rad_auth.proofs.LaneLemmas.{below_eight, reply_hmac_at}
+use Rattle.std.proofs.Common.{List, ℕ, [], get_or, None, ap}
+use Rattle.rad_auth.specs.ReplyLanes.{IsReplyHmac}
+use Rattle.rad_auth.proofs.LaneLemmas.{each_lane, reply_hmac}
 use Rattle.rad_auth.proofs.reply_authenticators.reply_hmacs.Goals as goal
 
 pub returns : goal.returns
 returns c =
-    below_eight _
-    (reply_hmac_at c.args.jobs.now 0 _ _ _ _ c.told-jobs (omega arith) c.index-jobs-0.is c.key.ensures c.hmac_text.ensures.text (ap (λ (macs : List (List ℕ)). get_or macs 0 []) c.hmac8.ensures))
-    (reply_hmac_at c.args.jobs.now 1 _ _ _ _ c.told-jobs (omega arith) c.index-jobs-1.is c.key-2.ensures c.hmac_text-2.ensures.text (ap (λ (macs : List (List ℕ)). get_or macs 1 []) c.hmac8.ensures))
-    (reply_hmac_at c.args.jobs.now 2 _ _ _ _ c.told-jobs (omega arith) c.index-jobs-2.is c.key-3.ensures c.hmac_text-3.ensures.text (ap (λ (macs : List (List ℕ)). get_or macs 2 []) c.hmac8.ensures))
-    (reply_hmac_at c.args.jobs.now 3 _ _ _ _ c.told-jobs (omega arith) c.index-jobs-3.is c.key-4.ensures c.hmac_text-4.ensures.text (ap (λ (macs : List (List ℕ)). get_or macs 3 []) c.hmac8.ensures))
-    (reply_hmac_at c.args.jobs.now 4 _ _ _ _ c.told-jobs (omega arith) c.index-jobs-4.is c.key-5.ensures c.hmac_text-5.ensures.text (ap (λ (macs : List (List ℕ)). get_or macs 4 []) c.hmac8.ensures))
-    (reply_hmac_at c.args.jobs.now 5 _ _ _ _ c.told-jobs (omega arith) c.index-jobs-5.is c.key-6.ensures c.hmac_text-6.ensures.text (ap (λ (macs : List (List ℕ)). get_or macs 5 []) c.hmac8.ensures))
-    (reply_hmac_at c.args.jobs.now 6 _ _ _ _ c.told-jobs (omega arith) c.index-jobs-6.is c.key-7.ensures c.hmac_text-7.ensures.text (ap (λ (macs : List (List ℕ)). get_or macs 6 []) c.hmac8.ensures))
-    (reply_hmac_at c.args.jobs.now 7 _ _ _ _ c.told-jobs (omega arith) c.index-jobs-7.is c.key-8.ensures c.hmac_text-8.ensures.text (ap (λ (macs : List (List ℕ)). get_or macs 7 []) c.hmac8.ensures))
+    let mac = λ (j : ℕ). ap (λ (macs : List (List ℕ)). get_or macs j []) c.hmac8.ensures in
+    each_lane c.args.jobs.now (λ j lane. IsReplyHmac lane (get_or c.hmac8.result j [])) None _ _ _ _ _ _ _ _ c.told-jobs
+    (reply_hmac _ _ _ _ c.key.ensures c.hmac_text.ensures.text (mac 0))
+    (reply_hmac _ _ _ _ c.key-2.ensures c.hmac_text-2.ensures.text (mac 1))
+    (reply_hmac _ _ _ _ c.key-3.ensures c.hmac_text-3.ensures.text (mac 2))
+    (reply_hmac _ _ _ _ c.key-4.ensures c.hmac_text-4.ensures.text (mac 3))
+    (reply_hmac _ _ _ _ c.key-5.ensures c.hmac_text-5.ensures.text (mac 4))
+    (reply_hmac _ _ _ _ c.key-6.ensures c.hmac_text-6.ensures.text (mac 5))
+    (reply_hmac _ _ _ _ c.key-7.ensures c.hmac_text-7.ensures.text (mac 6))
+    (reply_hmac _ _ _ _ c.key-8.ensures c.hmac_text-8.ensures.text (mac 7))

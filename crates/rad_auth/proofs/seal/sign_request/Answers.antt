@@ -37,4 +37,5 @@ returns-in_default-clause-signed c =
     let other : (c.args.body.now.code == 4) ≡ false = ne_eqb c.args.body.now.code 4 (λ e. c.if-code-eq-ACCOUNTING_REQUEST.false (c.code.ensures ∙ e)) in
     let none : after_hmac p.attributes ≡ None = ap after_hmac (sym c.attributes.ensures) ∙ sym c.of.ensures.after_hmac ∙ c.in_default.is in
     let frame : c.write-2.new.frame ≡ packet_octets p = c.in_ok-write.ensures.written in
-    rw other (frame ∙ ap (λ (body : Body). packet_octets (packet_of_body body c.args.id c.args.authenticator.now)) (sym (hmac_same c.args.body.now c.args.id c.args.authenticator.now c.args.secret.now none)))
+    let same = hmac_same c.args.body.now c.args.id c.args.authenticator.now c.args.secret.now none in
+    rw other (frame ∙ ap (λ (body : Body). packet_octets (packet_of_body body c.args.id c.args.authenticator.now)) (sym same))
