@@ -17,7 +17,7 @@ prefix_len-map p f (x ∷ xs) = rw (prefix_len-map p f xs)
 position-map : {A B : Type 0} (p : B → Bool) (f : A → B) (xs : List A) → position p (map f xs) ≡ position (λ x. p (f x)) xs
 position-map p f xs = rw (prefix_len-map (λ y. not (p y)) f xs, length-map xs f)
 
--- a mapped list with one more behind it
+-- a mapped list with one more after it
 map-push : {A B : Type 0} (f : A → B) (xs : List A) (x : A) → map f (xs ++ x ∷ []) ≡ map f xs ++ f x ∷ []
 map-push f [] x = refl
 map-push f (y ∷ ys) x = ap (λ zs. f y ∷ zs) (map-push f ys x)

@@ -160,7 +160,7 @@ before_next request_authenticator value j e =
     let place : (j + 1) * 16 ≡ length request_authenticator + j * 16 = omega (arith, e) in
     ap (λ k. take 16 (drop k (request_authenticator ++ value))) place ∙ ap (take 16) (drop-append-add request_authenticator value (j * 16))
 
--- a password with zeros behind it
+-- a password with zeros after it
 pub length-padded : (len : ℕ) (password : List ℕ) → length password ≤ len → length (padded_password len password) ≡ len
 length-padded len password le =
     length-append password (replicate (len - length password) 0) ∙ omega (arith, le, length-replicate {A = ℕ} (len - length password) 0)

@@ -41,7 +41,7 @@ first_after (a ∷ list) begins =
     let place : size list ≡ size (a ∷ list) - 18 = omega (arith, size-cons a list, begins.1) in
     rw (first_holds a begins) (ap Some place)
 
--- the octets of a reply with this Value in the first attribute, part by part, and others behind them
+-- the octets of a reply with this Value in the first attribute, part by part, and others after them
 pub reply_parts : (code identifier : ℕ) (authenticator : List ℕ) (list : List Attribute) (w after : List ℕ) → BeginsWithMessageAuthenticator list → length w ≡ 16
     → (code ∷ identifier ∷ to_be_bytes w16 (20 + size list) ++ authenticator) ++ ((80 ∷ 18 ∷ []) ++ (w ++ (drop 18 (attributes_octets list) ++ after)))
     ≡ packet_octets (record { code = code; identifier = identifier; authenticator = authenticator; attributes = with_message_authenticator w list }) ++ after
@@ -77,7 +77,7 @@ reply_overwritten p w authenticator begins len =
     large [] begins = absurd begins
     large (a ∷ list) begins = omega (arith, size-cons a list, begins.1)
 
--- what stands behind so many octets
+-- what follows so many octets
 pub rest_of : (n : ℕ) (octets : List ℕ) → take (length octets - n) (drop n octets) ≡ drop n octets
 rest_of n octets = take_all (length octets - n) (drop n octets) (omega (arith, length-drop n octets))
 
