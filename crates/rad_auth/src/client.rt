@@ -116,26 +116,26 @@ impl Clients {
     /// The place of the client with this address.
     pub fn find(&self, source: u32) -> Option<u32>
         ensures value { result ≡ client_place self.now source }
-        ensures within { IfSome result (λ index. index < length self.now) }
+        ensures within { IfSome result (λ place. place < length self.now) }
     {
         let place = self.addresses.get_index_of(&source)?;
         Some(place as u32)
     }
 
     /// The secret of the client at this place.
-    pub fn secret(&self, index: u32) -> &Secret
-        requires { index < length self.now }
-        ensures { result.now ≡ secret_at self.now index }
+    pub fn secret(&self, place: u32) -> &Secret
+        requires { place < length self.now }
+        ensures { result.now ≡ secret_at self.now place }
     {
-        &self.rows[index as usize].secret
+        &self.rows[place as usize].secret
     }
 
     /// Whether Access-Requests of the client at this place need a Message-Authenticator.
-    pub fn require_message_authenticator(&self, index: u32) -> bool
-        requires { index < length self.now }
-        ensures { result ≡ (client_of self.now index).require_message_authenticator }
+    pub fn require_message_authenticator(&self, place: u32) -> bool
+        requires { place < length self.now }
+        ensures { result ≡ (client_of self.now place).require_message_authenticator }
     {
-        self.rows[index as usize].require_message_authenticator
+        self.rows[place as usize].require_message_authenticator
     }
 }
 

@@ -22,15 +22,16 @@ use rad_packet::{Body, Frame, HEADER_SIZE, LENGTH_MAX, TooLong, code, write};
 /// The reply has at most 4,096 octets, and its first attribute is no Message-Authenticator. Source: RFC 2865, section 3.
 pub fn response_authenticator(
     body: &Body,
-    id: u8,
+    identifier: u8,
     request_authenticator: &[u8; 16],
     secret: &Secret,
 ) -> [u8; 16]
     requires fits { FitsPacket body.now }
     requires begins { BeginsOtherwise body.now.attributes }
-    ensures { result ≡ response_authenticator body.now id request_authenticator.now secret.now }
+    ensures { result
+        ≡ response_authenticator body.now identifier request_authenticator.now secret.now }
 {
-    body_digest(body, id, request_authenticator, secret.octets())
+    body_digest(body, identifier, request_authenticator, secret.octets())
 }
 
 /// Writes each job's reply into the frame of its lane, and leaves the other frames.
@@ -87,7 +88,7 @@ fn seal(job: &Job, mac: &[u8; DIGEST_LEN], authenticator: &[u8; DIGEST_LEN], fra
 /// section 3; RFC 3579, section 3.2; RFC 5997, section 3.
 pub fn sign_request(
     body: &Body,
-    id: u8,
+    identifier: u8,
     authenticator: &[u8; 16],
     secret: &Secret,
     frame: &mut Frame,
@@ -95,17 +96,17 @@ pub fn sign_request(
     requires code { IsRequestCode body.now.code }
     ensures fits { IsOk result ↔ FitsPacket body.now }
     ensures signed { OnOk result
-        (frame.new ≡ request_octets body.now id authenticator.now secret.now) }
+        (frame.new ≡ request_octets body.now identifier authenticator.now secret.now) }
     ensures unchanged { OnErr result (frame.new ≡ frame.old) }
 {
     if body.size() > LENGTH_MAX - HEADER_SIZE {
         return Err(TooLong);
     }
     if body.code() == code::ACCOUNTING_REQUEST {
-        let authenticator = body_digest(body, id, &SIXTEEN_ZEROS, secret.octets());
-        return write(body, id, &authenticator, frame);
+        let authenticator = body_digest(body, identifier, &SIXTEEN_ZEROS, secret.octets());
+        return write(body, identifier, &authenticator, frame);
     }
-    write(body, id, authenticator, frame)?;
+    write(body, identifier, authenticator, frame)?;
     if let Some(after) = Summary::of(body.attributes()).after_hmac {
         put_hmac(frame, after, secret);
     }

@@ -11,14 +11,14 @@ use Rattle.rad_auth.proofs.seal.sign_request.Goals as goal
 
 pub put_hmac-requires : goal.put_hmac-requires
 put_hmac-requires c =
-    let p : Packet = packet_of_body c.args.body.now c.args.id c.args.authenticator.now in
+    let p : Packet = packet_of_body c.args.body.now c.args.identifier c.args.authenticator.now in
     let is : after_hmac p.attributes ≡ Some c.in-Some.after = ap after_hmac (sym c.attributes.ensures) ∙ sym c.of.ensures.after_hmac ∙ c.in-Some.is in
     let frame : c.write-2.new.frame ≡ packet_octets p = c.in_ok-write.ensures.written in
     record { place = omega (arith, hmac_within (packet_octets p) (packet_made p) c.in-Some.after (packet_hmac p c.in-Some.after is), ap length frame) }
 
 pub returns-in-Some-clause-signed : goal.returns-in-Some-clause-signed
 returns-in-Some-clause-signed c =
-    let p : Packet = packet_of_body c.args.body.now c.args.id c.args.authenticator.now in
+    let p : Packet = packet_of_body c.args.body.now c.args.identifier c.args.authenticator.now in
     let n = c.in-Some.after in
     let secret : List ℕ = c.args.secret.now in
     let mac : List ℕ = message_authenticator p secret in
@@ -33,9 +33,9 @@ returns-in-Some-clause-signed c =
 
 pub returns-in_default-clause-signed : goal.returns-in_default-clause-signed
 returns-in_default-clause-signed c =
-    let p : Packet = packet_of_body c.args.body.now c.args.id c.args.authenticator.now in
+    let p : Packet = packet_of_body c.args.body.now c.args.identifier c.args.authenticator.now in
     let other : (c.args.body.now.code == 4) ≡ false = ne_eqb c.args.body.now.code 4 (λ e. c.if-code-eq-ACCOUNTING_REQUEST.false (c.code.ensures ∙ e)) in
     let none : after_hmac p.attributes ≡ None = ap after_hmac (sym c.attributes.ensures) ∙ sym c.of.ensures.after_hmac ∙ c.in_default.is in
     let frame : c.write-2.new.frame ≡ packet_octets p = c.in_ok-write.ensures.written in
-    let same = hmac_same c.args.body.now c.args.id c.args.authenticator.now c.args.secret.now none in
-    rw other (frame ∙ ap (λ (body : Body). packet_octets (packet_of_body body c.args.id c.args.authenticator.now)) (sym same))
+    let same = hmac_same c.args.body.now c.args.identifier c.args.authenticator.now c.args.secret.now none in
+    rw other (frame ∙ ap (λ (body : Body). packet_octets (packet_of_body body c.args.identifier c.args.authenticator.now)) (sym same))
