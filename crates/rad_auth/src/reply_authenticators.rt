@@ -1,8 +1,7 @@
 //! The HMACs and digests of eight replies, computed side by side.
-ghost use Rattle.std.specs.Prelude.{◌≡◌, ℕ, ◌+◌, ◌<◌, ◌^◌, ◌-◌, List, [], length, map, slice_index_or, None, IfSome};
-ghost use Rattle.rad_hmac.specs.Hmac.{hmac, mac_under};
+ghost use Rattle.std.specs.Prelude.{◌≡◌, ◌<◌, ◌^◌, ◌-◌, length, map, IfSome};
 ghost use Rattle.rad_md5.specs.Pieces.{HasFreePiece, message};
-ghost use Rattle.rad_auth.specs.ReplyLanes.{AreReplyDigests, AreReplyHmacs, IsKeyOf, HasDigestedText, HasReplyHmac, HasReplyHmacText, IsReplyDigest, IsReplyHmac, has_hmac, header_octets, lane_header};
+ghost use Rattle.rad_auth.specs.ReplyLanes.{AreReplyDigests, AreReplyHmacs, IsKeyOf, HasDigestedText, HasReplyHmac, HasReplyHmacText, IsReplyHmac, has_hmac, header_octets, lane_header};
 ghost use Rattle.rad_packet.specs.Bodies.{FitsPacket};
 ghost use Rattle.rad_auth.specs.Sealing.{AreJobs, IsJob};
 
