@@ -233,7 +233,7 @@ fn sign(
     rt: &impl Abort,
     frame: &mut Frame,
     body: &Body,
-    (id, authenticator): (u8, &[u8; 16]),
+    (identifier, authenticator): (u8, &[u8; 16]),
     secret: &Secret,
 ) -> Result<(), TooLong> {
     let code = body.code();
@@ -242,5 +242,5 @@ fn sign(
             || code == code::ACCOUNTING_REQUEST
             || code == code::STATUS_SERVER
     );
-    sign_request(body, id, authenticator, secret, frame)
+    sign_request(body, identifier, authenticator, secret, frame)
 }

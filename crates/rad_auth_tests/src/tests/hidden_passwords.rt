@@ -9,7 +9,7 @@ use std::process::Abort;
 // What a room holds before a value or a text is written into it.
 const FILLED: [u8; PASSWORD_MAX] = [7; PASSWORD_MAX];
 
-// A value or a text that was written into a room.
+/// A value or a text that was written into a room.
 #[derive(Clone, Copy)]
 pub(crate) struct Written {
     room: [u8; PASSWORD_MAX],
@@ -25,14 +25,14 @@ impl Written {
     }
 }
 
-// The value of a password, after which the room is unchanged.
+/// The value of a password, after which the room is unchanged.
 pub(crate) fn hidden(rt: &impl Abort, secret: &Secret, password: &[u8]) -> Written
     requires { length password.now ≤ 128 }
 {
     hidden_with(rt, secret, REQUEST_AUTHENTICATOR, password)
 }
 
-// The same with this Request Authenticator.
+/// The same with this Request Authenticator.
 pub(crate) fn hidden_with(
     rt: &impl Abort,
     secret: &Secret,
@@ -56,7 +56,7 @@ fn opened(rt: &impl Abort, secret: &Secret, value: &[u8]) -> Written {
     Written { room, len }
 }
 
-// The User-Password of RFC 2865, section 7.1.
+/// The User-Password of RFC 2865, section 7.1.
 pub(crate) const RFC_VALUE: &[u8; 16] =
     b"\x0d\xbe\x70\x8d\x93\xd4\x13\xce\x31\x96\xe4\x3f\x78\x2a\x0a\xee";
 
@@ -211,7 +211,7 @@ const LAST_BLOCKS: &[u8; 2064] = b"\
     \xe3\xc3\x23\xe1\xfa\xa7\xa3\x5a\xc9\x97\x40\xc5\x03\x47\xd7\xb6\
     \xcd\x2a\xc2\xb9\x32\xec\xe7\x9e\x7c\x3f\x88\x10\xc6\x2a\xef\x14";
 
-// The password of this many octets, none of them zero, padded with zeros.
+/// The password of this many octets, none of them zero, padded with zeros.
 pub(crate) fn password_of(len: usize) -> [u8; PASSWORD_MAX]
     requires { len ≤ 128 }
 {

@@ -318,13 +318,13 @@ fn eight_lanes(door: Door, shift: usize) -> [Lane; 8]
     let mut lanes = [None; 8];
     for lane in 0..8 {
         let (_, access, accounting) = of_eight(lane);
-        let (octets, id, discard) = match door {
+        let (octets, identifier, discard) = match door {
             Auth => (access, 32, BadMessageAuthenticator),
             Acct => (accounting, 40, BadAuthenticator),
         };
         let place = ((lane + shift) % 8) as u32;
         let want = if shift == 0 {
-            Ok((place, id + lane as u8))
+            Ok((place, identifier + lane as u8))
         } else {
             Err(discard)
         };

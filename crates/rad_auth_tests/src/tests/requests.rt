@@ -204,10 +204,10 @@ fn is_signed(
     rt: &impl Abort,
     alloc: Global,
     frame: &mut Frame,
-    (name, (code, id, authenticator, pairs), want): Signed,
+    (name, (code, identifier, authenticator, pairs), want): Signed,
 ) -> Result<(), Fail> {
     let body = body_of(rt, alloc, code, pairs)?;
-    has_octets(rt, frame, &body, (id, authenticator), want, name)
+    has_octets(rt, frame, &body, (identifier, authenticator), want, name)
 }
 
 fn are_signed(
