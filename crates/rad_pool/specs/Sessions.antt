@@ -32,7 +32,7 @@ pub record AreSame (table other : Table) : Type 0 where
 
 -- ---- life
 
--- Whether a session in this phase, made then, is live at a moment. An ended one lives until the window after its Access-Accept,
+-- Whether a session in this phase, granted at `made`, is live at a moment. An ended one lives until the window after its Access-Accept,
 -- not after its Stop: for that long a repeated request gets the stored reply, which names its address (RFC 5080, section 2.2.2).
 abbrev pub lives : Spans → ℕ → Phase → ℕ → Bool
 lives spans now Pending made = nat_lt now (made + spans.hold)
@@ -46,7 +46,7 @@ is_live spans now session = lives spans now session.phase session.made
 abbrev pub live_sessions : Spans → ℕ → List Session → List Session
 live_sessions spans now sessions = filter (is_live spans now) sessions
 
--- the table at a moment: with its live sessions alone
+-- the table with only the sessions that are live at a moment
 abbrev pub cut : ℕ → Table → Table
 cut now table = record table { sessions = live_sessions table.spans now table.sessions }
 
@@ -68,8 +68,8 @@ after_stop phase = Ended
 
 -- a session, in its next phase if it has this number
 abbrev pub with_phase : (Phase → Phase) → ℕ → Session → Session
-with_phase next number session =
-    if session.number == number then record session { phase = next session.phase } else session
+with_phase change number session =
+    if session.number == number then record session { phase = change session.phase } else session
 
 -- the table after a Start of the session of this number, if there is one
 abbrev pub started : ℕ → Table → Table

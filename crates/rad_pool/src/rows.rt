@@ -4,7 +4,7 @@ ghost use Rattle.std.specs.Vec.{vec_capacity};
 ghost use Rattle.rad_config.specs.Ranges.{IsPool};
 ghost use Rattle.rad_config.specs.Spans.{moment_max};
 ghost use Rattle.rad_pool.specs.Grants.{has_address, is_held, least_free, open_sessions};
-ghost use Rattle.rad_pool.specs.Meant.{agrees, is_meant, meant};
+ghost use Rattle.rad_pool.specs.Meant.{is_meant, meant, name_agrees};
 ghost use Rattle.rad_pool.specs.Sessions.{after_start, after_stop, is_live, is_open, live_sessions, with_phase};
 
 use crate::session::{Phase, Session};
@@ -136,15 +136,17 @@ fn is_meant(
     match (number, address) {
         (Some(number), _) => session.number == number,
         (None, Some(address)) => {
-            is_open(session.phase) && has_address(session, address) && agrees(name, session.user)
+            is_open(session.phase)
+                && has_address(session, address)
+                && name_agrees(name, session.user)
         }
         (None, None) => false,
     }
 }
 
 // Whether a User-Name that was sent, if one was, may go with a session of this user.
-fn agrees(name: Option<Option<u32>>, user: u32) -> bool
-    ensures { result ≡ agrees name user }
+fn name_agrees(name: Option<Option<u32>>, user: u32) -> bool
+    ensures { result ≡ name_agrees name user }
 {
     match name {
         None => true,

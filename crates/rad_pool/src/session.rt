@@ -4,12 +4,12 @@
 ///
 /// ```text
 ///   grant        Start          Stop
-///  -------> Pending -----> Active -----> Ended ------> gone, window after it was made or at once if that is past
+///  -------> Pending -----> Active -----> Ended ------> gone, window after the grant, or at the next expiry if that has passed
 ///              |                           ^
 ///              |            Stop           |
 ///              '---------------------------'
 ///              |
-///              '-----> gone, hold after it was made
+///              '-----> gone, hold after the grant
 /// ```
 ///
 /// Source: RFC 2866, section 5.1.

@@ -18,8 +18,8 @@ pub const SESSIONS_MAX: usize = 4_096;
 
 /// The sessions, oldest first, and the number of the next one.
 ///
-/// Contracts see them as a list, and whether memory is ready for one more. Moments are in milliseconds, at most
-/// `MOMENT_MAX`, and need not rise.
+/// Contracts see the list, the next number, how long sessions are remembered, and whether memory is ready for one more. Moments
+/// are in milliseconds, at most `MOMENT_MAX`, and need not rise.
 #[derive(Drop)]
 pub struct Sessions {
     rows: Vec<Session>,
@@ -53,7 +53,7 @@ impl Sessions {
         })
     }
 
-    /// The sessions, oldest first.
+    /// The sessions, oldest first; also those that are no longer live, until `expire`.
     pub fn rows(&self) -> Rows<'_>
         ensures { result ≡ self.now.table.sessions }
     {
@@ -64,7 +64,7 @@ impl Sessions {
     pub fn expire(&mut self, now: u64)
         requires { now ≤ moment_max }
         ensures cut { self.new.table ≡ cut now self.old.table }
-        // To remove them once more at that moment changes nothing.
+        // Expiring again at the same moment changes nothing.
         ensures settled { cut now self.new.table ≡ self.new.table }
         ensures room { self.old.has_room ≡ true → self.new.has_room ≡ true }
     {
@@ -127,8 +127,9 @@ impl Sessions {
     ) -> Result<Grant, Refusal>
         requires user { user < length config.now.users }
         requires moment { now ≤ moment_max }
-        ensures outcome { IsGranted config.now client user now self.old.table result self.new.table }
-        ensures roomy { self.old.has_room ≡ true → IsErrOf result Refusal.NoMemory → ⊥ }
+        ensures outcome { IsGranted config.now client user now
+            self.old.table result self.new.table }
+        ensures after_room { self.old.has_room ≡ true → IsErrOf result Refusal.NoMemory → ⊥ }
     {
         let grant = match self.peek(config, client, user, now) {
             Ok(grant) => grant,
