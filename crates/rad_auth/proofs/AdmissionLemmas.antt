@@ -7,7 +7,7 @@ use Rattle.rad_packet.specs.Attributes.{has_len}
 use Rattle.rad_packet.specs.Ladders.{◌>>=◌, refuse_if}
 use Rattle.rad_packet.specs.Packets.{Packet, packet_of}
 use Rattle.rad_auth.specs.Admission.{IsAdmitted, IsAnswerable, IsInOwnDatagram, admission, content_checks, has_bad_authenticator, has_bad_message_authenticator, is_code_accepted, lacks_message_authenticator, lacks_status_type, own_datagram, packet_or_discard, proxy_states_max, proxy_states_size, request_in, request_of}
-use Rattle.rad_auth.specs.Clients.{Client, client_place, client_of}
+use Rattle.rad_auth.specs.Clients.{Client, client_place, client_at}
 use Rattle.rad_auth.specs.Datagrams.{Datagram}
 use Rattle.rad_auth.specs.declared.arrival.Request.{Request}
 use Rattle.rad_auth.specs.declared.discard.Discard.{Discard}
@@ -20,7 +20,7 @@ refused_not false refusal u e = refl
 -- ---- a request that is held by its own octets
 
 pub admitted_again : (clients : List Client) (request : Request) (checked : Unit {0}) → IsInOwnDatagram clients request
-    → content_checks (client_of clients request.client) request.packet ≡ Ok checked → IsAdmitted clients request
+    → content_checks (client_at clients request.client) request.packet ≡ Ok checked → IsAdmitted clients request
 unfolding admission
 admitted_again clients request checked held content = rw (held, content) refl
 
@@ -71,26 +71,26 @@ content_fits client p checked e =
     said false has_status is lacks = absurd (cc)
 
 both : (clients : List Client) (read : Result Request Discard) (request : Request)
-    → (read >>= λ r. (content_checks (client_of clients r.client) r.packet >>= λ checked. Ok r)) ≡ Ok request
-    → (read ≡ Ok request) × (content_checks (client_of clients request.client) request.packet ≡ Ok tt)
+    → (read >>= λ r. (content_checks (client_at clients r.client) r.packet >>= λ checked. Ok r)) ≡ Ok request
+    → (read ≡ Ok request) × (content_checks (client_at clients request.client) request.packet ≡ Ok tt)
 both clients (Err discard) request e = absurd (cc)
-both clients (Ok r) request e = let parts = at (content_checks (client_of clients r.client) r.packet) refl e in (ap Ok parts.0, parts.1)
+both clients (Ok r) request e = let parts = at (content_checks (client_at clients r.client) r.packet) refl e in (ap Ok parts.0, parts.1)
   where
-    at : (content : Result (Unit {0}) Discard) → content_checks (client_of clients r.client) r.packet ≡ content → (content >>= λ checked. Ok r) ≡ Ok request
-        → (r ≡ request) × (content_checks (client_of clients request.client) request.packet ≡ Ok tt)
+    at : (content : Result (Unit {0}) Discard) → content_checks (client_at clients r.client) r.packet ≡ content → (content >>= λ checked. Ok r) ≡ Ok request
+        → (r ≡ request) × (content_checks (client_at clients request.client) request.packet ≡ Ok tt)
     at (Err discard) is e = absurd (cc)
     at (Ok checked) is e =
         let same : r ≡ request = cc in
-        (same, subst (λ (q : Request). content_checks (client_of clients q.client) q.packet ≡ Ok tt) same is)
+        (same, subst (λ (q : Request). content_checks (client_at clients q.client) q.packet ≡ Ok tt) same is)
 
 pub answerable : (clients : List Client) (request : Request) → IsAdmitted clients request → IsAnswerable clients request
 unfolding admission
 answerable clients request e =
     let parts = both clients (request_in clients (own_datagram request)) request e in
     let place = held_in_place clients (own_datagram request) request parts.0 in
-    let content = content_fits (client_of clients request.client) request.packet tt parts.1 in
+    let content = content_fits (client_at clients request.client) request.packet tt parts.1 in
     record {
-      client = (position-Some _ clients request.client (client_of clients 0) place.0).0;
+      client = (position-Some _ clients request.client (client_at clients 0) place.0).0;
       taken = place.1;
       status = content.0;
       proxy_states = content.1;

@@ -5,8 +5,8 @@ use Rattle.std.proofs.lemmas.Bool.{eqb-true}
 use Rattle.std.proofs.lemmas.List.{take_at, drop_at, append_assoc, length-append}
 use Rattle.rad_packet.specs.Attributes.{Attribute, attribute_octets, attributes_octets, size}
 use Rattle.rad_packet.specs.Packets.{Packet, packet_octets}
-use Rattle.rad_auth.specs.Summaries.{after_hmac, with_hmac}
-use Rattle.rad_auth.specs.Authenticators.{holds_hmac, sixteen_zeros, with_message_authenticator}
+use Rattle.rad_auth.specs.Summaries.{octets_after_hmac, with_hmac}
+use Rattle.rad_auth.specs.Authenticators.{can_hold_hmac, sixteen_zeros, with_message_authenticator}
 
 -- ---- an Accounting-Request with zeros in the Authenticator's place
 
@@ -43,19 +43,19 @@ in_front head octets made n has = record {
 }
 
 -- the Value has 16 octets if it may hold an HMAC
-pub value_long : (a : Attribute) → holds_hmac a ≡ true → length a.value ≡ 16
+pub value_long : (a : Attribute) → can_hold_hmac a ≡ true → length a.value ≡ 16
 value_long a e = at (eqb a.kind 80) e
   where
     at : (b : Bool) → (b && eqb (length a.value) 16) ≡ true → length a.value ≡ 16
     at true e = eqb-true (length a.value) 16 e
     at false e = cc
 
-pub attributes_hmac : (list : List Attribute) (n : ℕ) → after_hmac list ≡ Some n → HasHmac (attributes_octets list) (λ w. attributes_octets (with_message_authenticator w list)) n
+pub attributes_hmac : (list : List Attribute) (n : ℕ) → octets_after_hmac list ≡ Some n → HasHmac (attributes_octets list) (λ w. attributes_octets (with_message_authenticator w list)) n
 attributes_hmac [] n e = cc
-attributes_hmac (a ∷ list) n e = at (holds_hmac a) refl e (attributes_hmac list n)
+attributes_hmac (a ∷ list) n e = at (can_hold_hmac a) refl e (attributes_hmac list n)
   where
-    at : (b : Bool) → holds_hmac a ≡ b → cond b (Some (size list)) (after_hmac list) ≡ Some n
-        → (after_hmac list ≡ Some n → HasHmac (attributes_octets list) (λ w. attributes_octets (with_message_authenticator w list)) n)
+    at : (b : Bool) → can_hold_hmac a ≡ b → cond b (Some (size list)) (octets_after_hmac list) ≡ Some n
+        → (octets_after_hmac list ≡ Some n → HasHmac (attributes_octets list) (λ w. attributes_octets (with_message_authenticator w list)) n)
         → HasHmac (attributes_octets (a ∷ list)) (λ w. attributes_octets (cond b (record a { value = w } ∷ list) (a ∷ with_message_authenticator w list))) n
     at true is e others = record {
       front = a.kind ∷ (length a.value + 2) ∷ [];
@@ -79,7 +79,7 @@ same_size octets made n w has len =
 abbrev pub packet_made : Packet → List ℕ → List ℕ
 packet_made p w = packet_octets (record p { attributes = with_message_authenticator w p.attributes })
 
-pub packet_hmac : (p : Packet) (n : ℕ) → after_hmac p.attributes ≡ Some n → HasHmac (packet_octets p) (packet_made p) n
+pub packet_hmac : (p : Packet) (n : ℕ) → octets_after_hmac p.attributes ≡ Some n → HasHmac (packet_octets p) (packet_made p) n
 packet_hmac p n e =
     let inner = attributes_hmac p.attributes n e in
     let head : List ℕ = p.code ∷ p.identifier ∷ to_be_bytes w16 (20 + size p.attributes) ++ p.authenticator in

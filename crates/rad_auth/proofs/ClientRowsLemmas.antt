@@ -4,7 +4,7 @@ use Rattle.std.specs.Prelude.{is_some, if◌then◌else◌}
 use Rattle.std.specs.Cmp.{nat_eq_equiv}
 use Rattle.std.specs.List.{position, prefix_len, list_any}
 use Rattle.std.proofs.lemmas.List.{length-map, get_or-map}
-use Rattle.rad_auth.specs.Clients.{Client, client_place, client_of}
+use Rattle.rad_auth.specs.Clients.{Client, client_place, client_at}
 use Rattle.rad_auth.specs.ClientRows.{row_client, row_clients}
 use Rattle.rad_auth.specs.declared.client.ClientRow.{ClientRow}
 
@@ -32,7 +32,7 @@ is_some-position p [] = refl
 is_some-position p (x ∷ xs) = is_some-step p x xs (p x) refl (is_some-position p xs)
 
 -- the client at a row's place
-pub client-at_row : (rows : List ClientRow) (i : ℕ) (row : ClientRow) → i < length rows → row ≡ get_or rows i row → row_client row ≡ client_of (row_clients rows) i
+pub client-at_row : (rows : List ClientRow) (i : ℕ) (row : ClientRow) → i < length rows → row ≡ get_or rows i row → row_client row ≡ client_at (row_clients rows) i
 client-at_row rows i row within read = ap row_client read ∙ sym (get_or-map row_client rows i row _ within)
 
 -- the place of an address in the index is the place of its client

@@ -1,6 +1,7 @@
 -- Eight lanes, one by one and as a list.
 use Rattle.std.proofs.Common.{◌≡◌, ℕ, zero, suc, ◌<◌, List, [], ◌∷◌, length, get_or, Option, Some, None, Result, Ok, Err, refl, subst, ◌∙◌, arith}
 use Rattle.std.specs.Prelude.{IfSome}
+use Rattle.rad_md5.proofs.LaneLemmas.{below_eight}
 use Rattle.rad_hmac.specs.Hmac.{hmac, mac_under}
 use Rattle.rad_auth.specs.Clients.{Client, secret_at}
 use Rattle.rad_auth.specs.RequestLanes.{HasKeyOf, HasHmacText, IsMessageAuthenticator, OfCandidate}
@@ -19,18 +20,6 @@ pub eight_lanes : {A : Type 0} (xs : List A) (d0 d1 d2 d3 d4 d5 d6 d7 : A) → l
 eight_lanes (x0 ∷ x1 ∷ x2 ∷ x3 ∷ x4 ∷ x5 ∷ x6 ∷ x7 ∷ []) d0 d1 d2 d3 d4 d5 d6 d7 long = refl
 eight_lanes xs d0 d1 d2 d3 d4 d5 d6 d7 long = absurd (omega arith)
 
--- what holds at each number below eight
-pub below_eight : (P : ℕ → Type 0) → P 0 → P 1 → P 2 → P 3 → P 4 → P 5 → P 6 → P 7 → (j : ℕ) → j < 8 → P j
-below_eight P p0 p1 p2 p3 p4 p5 p6 p7 zero h = p0
-below_eight P p0 p1 p2 p3 p4 p5 p6 p7 (suc zero) h = p1
-below_eight P p0 p1 p2 p3 p4 p5 p6 p7 (suc (suc zero)) h = p2
-below_eight P p0 p1 p2 p3 p4 p5 p6 p7 (suc (suc (suc zero))) h = p3
-below_eight P p0 p1 p2 p3 p4 p5 p6 p7 (suc (suc (suc (suc zero)))) h = p4
-below_eight P p0 p1 p2 p3 p4 p5 p6 p7 (suc (suc (suc (suc (suc zero))))) h = p5
-below_eight P p0 p1 p2 p3 p4 p5 p6 p7 (suc (suc (suc (suc (suc (suc zero)))))) h = p6
-below_eight P p0 p1 p2 p3 p4 p5 p6 p7 (suc (suc (suc (suc (suc (suc (suc zero))))))) h = p7
-below_eight P p0 p1 p2 p3 p4 p5 p6 p7 (suc (suc (suc (suc (suc (suc (suc (suc n)))))))) h = absurd (omega arith)
-
 -- what holds of each of the eight lanes of a list
 pub each_lane : {A : Type 0} (xs : List A) (P : ℕ → A → Type 0) (d d0 d1 d2 d3 d4 d5 d6 d7 : A) → length xs ≡ 8
     → P 0 (get_or xs 0 d0) → P 1 (get_or xs 1 d1) → P 2 (get_or xs 2 d2) → P 3 (get_or xs 3 d3)
@@ -45,7 +34,7 @@ pub lane_hmac : (clients : List Client) (key text mac : List ℕ) (lane : Option
     → OfCandidate (IsMessageAuthenticator clients mac) lane
 lane_hmac clients key text mac None keyed signed e = tt
 lane_hmac clients key text mac (Some (Err discard)) keyed signed e = tt
-lane_hmac clients key text mac (Some (Ok candidate)) keyed signed e = λ taken. at candidate.summary.after_hmac signed
+lane_hmac clients key text mac (Some (Ok candidate)) keyed signed e = λ taken. at candidate.summary.octets_after_hmac signed
   where
     at : (o : Option ℕ) → IfSome o (λ after. (secret : List ℕ) → hmac secret text ≡ message_authenticator candidate.request.packet secret)
         → IfSome o (λ after. mac ≡ message_authenticator candidate.request.packet (secret_at clients candidate.request.client))

@@ -6,36 +6,36 @@ use Rattle.std.proofs.lemmas.List.{append_assoc, drop_at, take_all, length-appen
 use Rattle.rad_packet.specs.Attributes.{Attribute, attributes_octets, count, size}
 use Rattle.rad_packet.specs.Bodies.{Body, packet_of_body}
 use Rattle.rad_packet.specs.Packets.{Packet, packet_octets}
-use Rattle.rad_auth.specs.Summaries.{after_hmac}
+use Rattle.rad_auth.specs.Summaries.{octets_after_hmac}
 use Rattle.rad_auth.specs.Sealing.{BeginsWithMessageAuthenticator, IsReply}
-use Rattle.rad_auth.specs.Authenticators.{holds_hmac, message_authenticator, signed_body, with_message_authenticator}
+use Rattle.rad_auth.specs.Authenticators.{can_hold_hmac, message_authenticator, signed_body, with_message_authenticator}
 use Rattle.rad_auth.proofs.AttributeLemmas.{count-cons, size-cons}
 use Rattle.rad_auth.proofs.AuthenticatorLemmas.{packet_made, packet_hmac, with_hmac-made}
 
 -- if no attribute holds an HMAC, none is written
-pub no_hmac : (list : List Attribute) (w : List ℕ) → after_hmac list ≡ None → with_message_authenticator w list ≡ list
+pub no_hmac : (list : List Attribute) (w : List ℕ) → octets_after_hmac list ≡ None → with_message_authenticator w list ≡ list
 no_hmac [] w e = refl
-no_hmac (a ∷ list) w e = at (holds_hmac a) e (no_hmac list w)
+no_hmac (a ∷ list) w e = at (can_hold_hmac a) e (no_hmac list w)
   where
-    at : (b : Bool) → cond b (Some (size list)) (after_hmac list) ≡ None → (after_hmac list ≡ None → with_message_authenticator w list ≡ list)
+    at : (b : Bool) → cond b (Some (size list)) (octets_after_hmac list) ≡ None → (octets_after_hmac list ≡ None → with_message_authenticator w list ≡ list)
         → cond b (record a { value = w } ∷ list) (a ∷ with_message_authenticator w list) ≡ a ∷ list
     at true e others = cc
     at false e others = ap (λ l. a ∷ l) (others e)
 
 -- where there is no Message-Authenticator, no attribute holds an HMAC
-pub none_after : (list : List Attribute) → count 80 list ≡ 0 → after_hmac list ≡ None
+pub none_after : (list : List Attribute) → count 80 list ≡ 0 → octets_after_hmac list ≡ None
 none_after [] e = refl
 none_after (a ∷ list) e = at (eqb a.kind 80) (sym (count-cons 80 a list) ∙ e) (none_after list)
   where
-    at : (b : Bool) → cond b 1 0 + count 80 list ≡ 0 → (count 80 list ≡ 0 → after_hmac list ≡ None) → cond (b && eqb (length a.value) 16) (Some (size list)) (after_hmac list) ≡ None
+    at : (b : Bool) → cond b 1 0 + count 80 list ≡ 0 → (count 80 list ≡ 0 → octets_after_hmac list ≡ None) → cond (b && eqb (length a.value) 16) (Some (size list)) (octets_after_hmac list) ≡ None
     at true e others = absurd (omega (arith, e))
     at false e others = others (omega (arith, e))
 
 -- the first attribute holds the HMAC
-first_holds : (a : Attribute) → (a.kind ≡ 80) × (length a.value ≡ 16) → holds_hmac a ≡ true
+first_holds : (a : Attribute) → (a.kind ≡ 80) × (length a.value ≡ 16) → can_hold_hmac a ≡ true
 first_holds a begins = rw (eq-eqb a.kind 80 begins.0, eq-eqb (length a.value) 16 begins.1) refl
 
-pub first_after : (list : List Attribute) → BeginsWithMessageAuthenticator list → after_hmac list ≡ Some (size list - 18)
+pub first_after : (list : List Attribute) → BeginsWithMessageAuthenticator list → octets_after_hmac list ≡ Some (size list - 18)
 first_after [] begins = absurd begins
 first_after (a ∷ list) begins =
     let place : size list ≡ size (a ∷ list) - 18 = omega (arith, size-cons a list, begins.1) in
@@ -86,7 +86,7 @@ pub begins_with_hmac : (body : Body) → IsReply body → (body.code ≡ 5 → �
 begins_with_hmac body is other = elim is.kind [ inl response ↦ absurd (other response.code) | inr reply ↦ reply.first ]
 
 -- an Accounting-Response has none
-pub has_no_hmac : (body : Body) → IsReply body → body.code ≡ 5 → after_hmac body.attributes ≡ None
+pub has_no_hmac : (body : Body) → IsReply body → body.code ≡ 5 → octets_after_hmac body.attributes ≡ None
 has_no_hmac body is five =
     elim is.kind [
       | inl response ↦ none_after body.attributes response.none
@@ -99,7 +99,7 @@ has_no_hmac body is five =
     other (inr (inr e)) = omega (arith, e, five)
 
 -- and stays as it is
-pub hmac_same : (body : Body) (identifier : ℕ) (authenticator secret : List ℕ) → after_hmac body.attributes ≡ None → signed_body body identifier authenticator secret ≡ body
+pub hmac_same : (body : Body) (identifier : ℕ) (authenticator secret : List ℕ) → octets_after_hmac body.attributes ≡ None → signed_body body identifier authenticator secret ≡ body
 hmac_same body identifier authenticator secret e =
     ap (λ list. record { code = body.code; attributes = list }) (no_hmac body.attributes (message_authenticator (packet_of_body body identifier authenticator) secret) e)
 

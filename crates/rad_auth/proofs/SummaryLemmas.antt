@@ -8,29 +8,29 @@ use Rattle.std.specs.List.{list_any}
 use Rattle.std.specs.Option.{option_or}
 use Rattle.rad_packet.specs.Attributes.{Attribute, count, first_value, is_of, size}
 use Rattle.rad_auth.proofs.AttributeLemmas.{count-cons}
-use Rattle.rad_auth.specs.Summaries.{after_hmac, first_after}
-use Rattle.rad_auth.specs.Authenticators.{holds_hmac}
+use Rattle.rad_auth.specs.Summaries.{octets_after_hmac, first_after}
+use Rattle.rad_auth.specs.Authenticators.{can_hold_hmac}
 
 pub any-step : {A : Type 0} (p : A → Bool) (so_far : Bool) (x : A) (xs : List A) → ((so_far || p x) || list_any p xs) ≡ (so_far || list_any p (x ∷ xs))
 any-step p true x xs = refl
 any-step p false x xs = refl
 
-pub after_hmac-step : (so_far : Option ℕ) (a : Attribute) (list : List Attribute)
-    → option_or (first_after a (size list) so_far) (after_hmac list) ≡ option_or so_far (after_hmac (a ∷ list))
-after_hmac-step (Some n) a list = refl
-after_hmac-step None a list =
-    elim (holds_hmac a) as (λ b. option_or (cond b (Some (size list)) None) (after_hmac list) ≡ cond b (Some (size list)) (after_hmac list)) [ true ↦ refl | false ↦ refl ]
+pub octets_after_hmac-step : (so_far : Option ℕ) (a : Attribute) (list : List Attribute)
+    → option_or (first_after a (size list) so_far) (octets_after_hmac list) ≡ option_or so_far (octets_after_hmac (a ∷ list))
+octets_after_hmac-step (Some n) a list = refl
+octets_after_hmac-step None a list =
+    elim (can_hold_hmac a) as (λ b. option_or (cond b (Some (size list)) None) (octets_after_hmac list) ≡ cond b (Some (size list)) (octets_after_hmac list)) [ true ↦ refl | false ↦ refl ]
 
 -- ---- the HMAC that occurs once
 
 -- the first Message-Authenticator, where it has 16 octets, holds the HMAC
-first_holds : (list : List Attribute) (value : List ℕ) → first_value 80 list ≡ Some value → length value ≡ 16 → (n : ℕ) × (after_hmac list ≡ Some n)
+first_holds : (list : List Attribute) (value : List ℕ) → first_value 80 list ≡ Some value → length value ≡ 16 → (n : ℕ) × (octets_after_hmac list ≡ Some n)
 first_holds [] value e len = cc
 first_holds (a ∷ list) value e len = at (eqb a.kind 80) e (first_holds list value)
   where
     at : (b : Bool) → option_map (λ x. x.value) (cond b (Some a) (find (λ x. x.kind == 80) list)) ≡ Some value
-        → (first_value 80 list ≡ Some value → length value ≡ 16 → (n : ℕ) × (after_hmac list ≡ Some n))
-        → (n : ℕ) × (cond (b && (length a.value == 16)) (Some (size list)) (after_hmac list) ≡ Some n)
+        → (first_value 80 list ≡ Some value → length value ≡ 16 → (n : ℕ) × (octets_after_hmac list ≡ Some n))
+        → (n : ℕ) × (cond (b && (length a.value == 16)) (Some (size list)) (octets_after_hmac list) ≡ Some n)
     at false e others = others e len
     at true e others =
         let same : a.value ≡ value = cc in
@@ -49,7 +49,7 @@ other_length xs ys n other long = at (pointwise nat_eq xs ys) refl
     at true e = sym (ap (λ (v : List ℕ). length v == n) (same_text xs ys (sym e)) ∙ (ap (λ m. m == n) long ∙ same_number n)) ∙ other
 
 -- a Value that is compared with the HMAC, which is the right one if the Value holds it
-pub right_hmac : (list : List Attribute) (value mac right : List ℕ) → first_value 80 list ≡ Some value → IfSome (after_hmac list) (λ n. mac ≡ right) → length mac ≡ 16
+pub right_hmac : (list : List Attribute) (value mac right : List ℕ) → first_value 80 list ≡ Some value → IfSome (octets_after_hmac list) (λ n. mac ≡ right) → length mac ≡ 16
     → pointwise nat_eq value mac ≡ ((length value == 16) && pointwise nat_eq value right)
 right_hmac list value mac right first same long = at (length value == 16) refl
   where

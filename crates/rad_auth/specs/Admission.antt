@@ -14,7 +14,7 @@ use Rattle.rad_auth.specs.declared.arrival.Door.TheVariants.{Auth, Acct}
 use Rattle.rad_auth.specs.declared.arrival.Request.{Request}
 use Rattle.rad_auth.specs.declared.discard.Discard.{Discard}
 use Rattle.rad_auth.specs.declared.discard.Discard.TheVariants.{UnknownClient, WrongCode, BadAuthenticator, BadMessageAuthenticator, NoMessageAuthenticator, NoStatusType, ProxyStateTooLong}
-use Rattle.rad_auth.specs.Clients.{Client, client_place, client_of}
+use Rattle.rad_auth.specs.Clients.{Client, client_place, client_at}
 use Rattle.rad_auth.specs.Datagrams.{Datagram, datagram_of}
 use Rattle.rad_auth.specs.Discards.{discard_of_fault}
 use Rattle.rad_auth.specs.Authenticators.{accounting_authenticator, message_authenticator}
@@ -28,8 +28,8 @@ is_code_accepted Auth code = (code == code_access_request) || (code == code_stat
 is_code_accepted Acct code = (code == code_accounting_request) || (code == code_status_server)
 
 -- whether a Code is one whose Message-Authenticator is looked at: Access-Request and Status-Server
-abbrev pub checks_message_authenticator : ℕ → Bool
-checks_message_authenticator code = (code == code_access_request) || (code == code_status_server)
+abbrev pub is_message_authenticator_checked : ℕ → Bool
+is_message_authenticator_checked code = (code == code_access_request) || (code == code_status_server)
 
 -- whether the Request Authenticator is the digest that an Accounting-Request must have
 abbrev pub has_accounting_authenticator : Client → Packet → Bool
@@ -51,7 +51,7 @@ has_right_message_authenticator client p =
 -- Whether there is a Message-Authenticator, but not one that is right. That of an Accounting-Request is not looked at.
 abbrev pub has_bad_message_authenticator : Client → Packet → Bool
 has_bad_message_authenticator client p =
-    checks_message_authenticator p.code
+    is_message_authenticator_checked p.code
     && (has type_message_authenticator p.attributes && not (has_right_message_authenticator client p))
 
 -- whether a packet must have a Message-Authenticator: each Status-Server (RFC 5997, section 3), and an Access-Request with
@@ -116,7 +116,7 @@ content_checks client p = do
 unfoldable pub admission : List Client → Datagram → Result Request Discard
 admission clients datagram = do
   request ← request_in clients datagram
-  checked ← content_checks (client_of clients request.client) request.packet
+  checked ← content_checks (client_at clients request.client) request.packet
   Ok request
 
 -- the verdict on what came in a lane

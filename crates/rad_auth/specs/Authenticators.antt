@@ -18,14 +18,14 @@ abbrev pub accounting_authenticator : Packet → List ℕ → List ℕ
 accounting_authenticator p secret = md5 (packet_octets (record p { authenticator = sixteen_zeros }) ++ secret)
 
 -- an attribute that can hold an HMAC: a Message-Authenticator with a Value of 16 octets
-abbrev pub holds_hmac : Attribute → Bool
-holds_hmac a = is_of_len type_message_authenticator 16 a
+abbrev pub can_hold_hmac : Attribute → Bool
+can_hold_hmac a = is_of_len type_message_authenticator 16 a
 
 -- the attributes with this Value in the first of them that can hold an HMAC, if there is one
 abbrev pub with_message_authenticator : List ℕ → List Attribute → List Attribute
 with_message_authenticator value [] = []
 with_message_authenticator value (a ∷ list) =
-    if holds_hmac a then record a { value = value } ∷ list else a ∷ with_message_authenticator value list
+    if can_hold_hmac a then record a { value = value } ∷ list else a ∷ with_message_authenticator value list
 
 -- The Message-Authenticator of a packet (RFC 3579, section 3.2): under the secret, over the packet with zeros in its
 -- Message-Authenticator.

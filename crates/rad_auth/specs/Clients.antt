@@ -33,8 +33,8 @@ abbrev pub client_place : List Client → ℕ → Option ℕ
 client_place clients source = position (λ client. client.address == source) clients
 
 -- the client at this place, if there is one
-abbrev pub client_of : List Client → ℕ → Client
-client_of clients place = slice_index_or clients place (record { address = 0; secret = []; require_message_authenticator = false })
+abbrev pub client_at : List Client → ℕ → Client
+client_at clients place = slice_index_or clients place (record { address = 0; secret = []; require_message_authenticator = false })
 
 abbrev pub secret_at : List Client → ℕ → List ℕ
-secret_at clients place = (client_of clients place).secret
+secret_at clients place = (client_at clients place).secret

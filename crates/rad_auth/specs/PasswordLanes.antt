@@ -1,6 +1,7 @@
 -- Eight lanes that open the blocks of a User-Password's value side by side (RFC 2865, section 5.2).
 use Rattle.std.specs.Prelude.{◌≡◌, ℕ, ◌*◌, ◌<◌, List, [], ◌++◌, length, slice_index_or, take, drop}
 use Rattle.md5.specs.Md5.{md5}
+use Rattle.rad_md5.specs.Lanes.{EachLane}
 
 -- what precedes block j of a value, counted from 0: the Request Authenticator, which has 16 octets, or a block
 abbrev pub block_before : List ℕ → List ℕ → ℕ → List ℕ
@@ -13,4 +14,4 @@ block_digest secret request_authenticator value j = md5 (secret ++ block_before 
 -- each lane has the digest that hides its block, if the value has that block
 abbrev pub AreBlockDigests : List ℕ → List ℕ → List ℕ → List (List ℕ) → Type 0
 AreBlockDigests secret request_authenticator value digests =
-    (j : ℕ) → j < 8 → j * 16 < length value → slice_index_or digests j [] ≡ block_digest secret request_authenticator value j
+    EachLane (λ j. j * 16 < length value → slice_index_or digests j [] ≡ block_digest secret request_authenticator value j)

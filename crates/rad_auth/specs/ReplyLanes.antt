@@ -2,6 +2,7 @@
 use Rattle.std.specs.Prelude.{◌≡◌, ℕ, ◌+◌, ◌<◌, ◌==◌, not, Bool, false, List, [], ◌∷◌, ◌++◌, replicate, slice_index_or, Option, Some, None, IfSome, IsTrue}
 use Rattle.std.specs.Int.{w16, to_be_bytes}
 use Rattle.md5.specs.Md5.{md5}
+use Rattle.rad_md5.specs.Lanes.{EachLane}
 use Rattle.rad_hmac.specs.Hmac.{hmac, mac_under}
 use Rattle.rad_packet.specs.Attributes.{size}
 use Rattle.rad_packet.specs.Bodies.{packet_of_body}
@@ -45,10 +46,10 @@ IsReplyDigest lane digest = IfSome lane (HasReplyDigest digest)
 
 -- the same of eight lanes
 abbrev pub AreReplyHmacs : List (Option Job) → List (List ℕ) → Type 0
-AreReplyHmacs jobs macs = (j : ℕ) → j < 8 → IsReplyHmac (slice_index_or jobs j None) (slice_index_or macs j [])
+AreReplyHmacs jobs macs = EachLane (λ j. IsReplyHmac (slice_index_or jobs j None) (slice_index_or macs j []))
 
 abbrev pub AreReplyDigests : List (Option Job) → List (List ℕ) → Type 0
-AreReplyDigests jobs digests = (j : ℕ) → j < 8 → IsReplyDigest (slice_index_or jobs j None) (slice_index_or digests j [])
+AreReplyDigests jobs digests = EachLane (λ j. IsReplyDigest (slice_index_or jobs j None) (slice_index_or digests j []))
 
 -- a key whose HMACs are those under the secret of a reply
 abbrev pub IsKeyOf : List ℕ → Job → Type 0

@@ -8,7 +8,7 @@ ghost use Rattle.rad_auth.specs.Datagrams.{datagram_of};
 ghost use Rattle.rad_auth.specs.RequestLanes.{IsAccountingAuthenticator, IsCandidate, IsMessageAuthenticator, IsHmacUnder, OfCandidate, asked_of, verdict_on, verdict_on_lane};
 
 use crate::arrival::{Arrival, Door, Request};
-use crate::candidate::{Candidate, Lane, checks_message_authenticator};
+use crate::candidate::{Candidate, Lane, is_message_authenticator_checked};
 use crate::client::Clients;
 use crate::discard::Discard;
 use crate::request_authenticators::{accounting_authenticators, message_authenticators};
@@ -221,7 +221,7 @@ fn has_bad_message_authenticator(
     requires { IsMessageAuthenticator clients.now mac.now candidate.now }
     ensures { result ≡ asked_of has_bad_message_authenticator clients.now candidate.now }
 {
-    checks_message_authenticator(candidate.request.packet.code())
+    is_message_authenticator_checked(candidate.request.packet.code())
         && has_message_authenticator(candidate)
         && !has_right_message_authenticator(candidate, mac)
 }

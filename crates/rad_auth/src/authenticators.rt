@@ -1,8 +1,9 @@
 //! The digests and HMACs of requests and replies, and the octets that they run over.
 ghost use Rattle.std.specs.Prelude.{◌≡◌, ◌+◌, ◌-◌, ◌*◌, ◌<◌, ◌≤◌, ◌^◌, ◌++◌, length};
 ghost use Rattle.md5.specs.Md5.{md5};
+ghost use Rattle.rad_hmac.specs.Hmac.{text_limit};
 ghost use Rattle.rad_md5.specs.Pieces.{HasFreePiece, message};
-ghost use Rattle.rad_packet.specs.Bodies.{FitsPacket, body_octets};
+ghost use Rattle.rad_packet.specs.Bodies.{FitsPacket, packet_octets_of};
 ghost use Rattle.rad_packet.specs.Packets.{header_size, length_max};
 ghost use Rattle.rad_auth.specs.RequestLanes.{with_zero_authenticator};
 ghost use Rattle.rad_auth.specs.Summaries.{with_hmac};
@@ -18,7 +19,7 @@ pub(crate) const SIXTEEN_ZEROS: [u8; 16] = [0; 16];
 /// An empty message.
 pub(crate) fn nothing<'a>() -> Pieces<'a>
     ensures free { HasFreePiece result }
-    ensures short { length (message result) < 2 ^ 32 - 64 }
+    ensures short { length (message result) < text_limit }
 {
     Pieces::of([&[], &[], &[], &[], &[]])
 }
@@ -29,7 +30,7 @@ pub(crate) fn hmac_pieces<'a>(octets: &'a [u8], after: usize) -> Pieces<'a>
     requires short { length octets.now ≤ length_max }
     ensures message { message result ≡ with_hmac after sixteen_zeros octets.now }
     ensures free { HasFreePiece result }
-    ensures short { length (message result) < 2 ^ 32 - 64 }
+    ensures short { length (message result) < text_limit }
 {
     let end = octets.len() - after;
     Pieces::of([
@@ -64,7 +65,7 @@ pub(crate) fn body_digest(
     secret: &[u8],
 ) -> [u8; 16]
     requires { FitsPacket body.now }
-    ensures { result ≡ md5 (body_octets body.now identifier authenticator.now ++ secret.now) }
+    ensures { result ≡ md5 (packet_octets_of body.now identifier authenticator.now ++ secret.now) }
 {
     let [high, low] = ((HEADER_SIZE + body.size()) as u16).to_be_bytes();
     let mut digest = Md5::new();

@@ -1,6 +1,6 @@
 //! Requests whose Code the server's port accepts, and whose content is still to be checked.
 ghost use Rattle.std.specs.Prelude.{◌≡◌};
-ghost use Rattle.rad_auth.specs.Admission.{checks_message_authenticator};
+ghost use Rattle.rad_auth.specs.Admission.{is_message_authenticator_checked};
 ghost use Rattle.rad_auth.specs.Summaries.{IsSummary};
 
 use crate::arrival::Request;
@@ -20,8 +20,8 @@ pub(crate) struct Candidate<'a> {
 pub(crate) type Lane<'a> = Option<Result<Candidate<'a>, Discard>>;
 
 /// Whether the Message-Authenticator is checked in a packet of this Code.
-pub(crate) fn checks_message_authenticator(code: u8) -> bool
-    ensures { result ≡ checks_message_authenticator code }
+pub(crate) fn is_message_authenticator_checked(code: u8) -> bool
+    ensures { result ≡ is_message_authenticator_checked code }
 {
     code == code::ACCESS_REQUEST || code == code::STATUS_SERVER
 }

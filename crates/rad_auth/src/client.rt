@@ -43,7 +43,7 @@ impl Model for Clients {
 
 impl Clients {
     ghost use Rattle.std.specs.Prelude.{◌≡◌, ◌<◌, ◌≤◌, ◌==◌, ◌↔◌, [], length, OnOk, OnErr, IsErrOf, IsSome, IfSome};
-    ghost use Rattle.rad_auth.specs.Clients.{Client, IsSecret, clients_max, client_place, client_of, secret_at, with_client};
+    ghost use Rattle.rad_auth.specs.Clients.{Client, IsSecret, clients_max, client_place, client_at, secret_at, with_client};
     ghost use Rattle.rad_auth.specs.declared.client.ClientFault.TheVariants.{Doubled};
 
     /// An empty list of clients.
@@ -133,7 +133,7 @@ impl Clients {
     /// Whether Access-Requests of the client at this place need a Message-Authenticator.
     pub fn require_message_authenticator(&self, place: u32) -> bool
         requires { place < length self.now }
-        ensures { result ≡ (client_of self.now place).require_message_authenticator }
+        ensures { result ≡ (client_at self.now place).require_message_authenticator }
     {
         self.rows[place as usize].require_message_authenticator
     }

@@ -1,5 +1,6 @@
 //! The HMACs and digests of eight replies, computed side by side.
 ghost use Rattle.std.specs.Prelude.{◌≡◌, ◌<◌, ◌^◌, ◌-◌, length, map, IfSome};
+ghost use Rattle.rad_hmac.specs.Hmac.{text_limit};
 ghost use Rattle.rad_md5.specs.Pieces.{HasFreePiece, message};
 ghost use Rattle.rad_auth.specs.ReplyLanes.{AreReplyDigests, AreReplyHmacs, IsKeyOf, HasDigestedText, HasReplyHmac, HasReplyHmacText, IsReplyHmac, has_hmac, header_octets, lane_header};
 ghost use Rattle.rad_packet.specs.Bodies.{FitsPacket};
@@ -109,7 +110,7 @@ fn hmac_text<'x>(job: &'x Option<Job<'x>>, header: &'x [u8; HEADER_SIZE]) -> Pie
     requires header { header.now ≡ lane_header job.now }
     ensures text { IfSome job.now (HasReplyHmacText (message result)) }
     ensures free { HasFreePiece result }
-    ensures short { length (message result) < 2 ^ 32 - 64 }
+    ensures short { length (message result) < text_limit }
 {
     match job {
         None => nothing(),
@@ -123,7 +124,7 @@ fn hmac_reply<'x>(job: &'x Job<'x>, header: &'x [u8; HEADER_SIZE]) -> Pieces<'x>
     requires header { header.now ≡ header_octets job.now }
     ensures text { HasReplyHmacText (message result) job.now }
     ensures free { HasFreePiece result }
-    ensures short { length (message result) < 2 ^ 32 - 64 }
+    ensures short { length (message result) < text_limit }
 {
     if job.body.code() == code::ACCOUNTING_RESPONSE {
         return nothing();

@@ -1,11 +1,12 @@
 //! The Authenticators and Message-Authenticators that eight requests must have, computed side by side.
 ghost use Rattle.std.specs.Prelude.{◌≡◌, ◌<◌, ◌^◌, ◌-◌, length, All};
+ghost use Rattle.rad_hmac.specs.Hmac.{text_limit};
 ghost use Rattle.rad_md5.specs.Pieces.{HasFreePiece, message};
-ghost use Rattle.rad_auth.specs.Admission.{checks_message_authenticator};
+ghost use Rattle.rad_auth.specs.Admission.{is_message_authenticator_checked};
 ghost use Rattle.rad_auth.specs.RequestLanes.{AreAccountingAuthenticators, AreMessageAuthenticators, HasAccountingText, HasHmacText, HasKeyOf, IsCandidate, OfCandidate, is_accounting, has_hmac_to_check};
 
 use crate::authenticators::{accounting_pieces, hmac_pieces, nothing};
-use crate::candidate::{Candidate, Lane, checks_message_authenticator};
+use crate::candidate::{Candidate, Lane, is_message_authenticator_checked};
 use crate::client::Clients;
 use rad_hmac::{Key, hmac8};
 use rad_md5::{DIGEST_LEN, LANES, Pieces, digest8};
@@ -97,8 +98,8 @@ fn has_hmac_to_check(lane: &Lane) -> bool
 {
     match lane {
         Some(Ok(candidate)) => {
-            checks_message_authenticator(candidate.request.packet.code())
-                && candidate.summary.after_hmac.is_some()
+            is_message_authenticator_checked(candidate.request.packet.code())
+                && candidate.summary.octets_after_hmac.is_some()
         }
         _ => false,
     }
@@ -119,7 +120,7 @@ fn key<'x>(clients: &'x Clients, no_key: &'x Key, lane: &Lane) -> &'x Key
 fn hmac_text<'x>(lane: &Lane<'x>) -> Pieces<'x>
     ensures text { OfCandidate (HasHmacText (message result)) lane.now }
     ensures free { HasFreePiece result }
-    ensures short { length (message result) < 2 ^ 32 - 64 }
+    ensures short { length (message result) < text_limit }
 {
     match lane {
         Some(Ok(candidate)) => hmac_packet(candidate),
@@ -131,9 +132,9 @@ fn hmac_text<'x>(lane: &Lane<'x>) -> Pieces<'x>
 fn hmac_packet<'x>(candidate: &Candidate<'x>) -> Pieces<'x>
     ensures text { HasHmacText (message result) candidate.now }
     ensures free { HasFreePiece result }
-    ensures short { length (message result) < 2 ^ 32 - 64 }
+    ensures short { length (message result) < text_limit }
 {
-    match candidate.summary.after_hmac {
+    match candidate.summary.octets_after_hmac {
         Some(after) => hmac_pieces(candidate.request.packet.octets(), after),
         None => nothing(),
     }

@@ -1,6 +1,6 @@
 //! Sealing: the octets of replies, and of requests, under a secret.
 ghost use Rattle.std.specs.Prelude.{◌≡◌, ◌↔◌, ◌+◌, ◌<◌, ◌≤◌, ◌^◌, ◌-◌, length, IsOk, IfSome, OnOk, OnErr};
-ghost use Rattle.rad_hmac.specs.Hmac.{mac_under};
+ghost use Rattle.rad_hmac.specs.Hmac.{mac_under, text_limit};
 ghost use Rattle.rad_md5.specs.Pieces.{HasFreePiece, message};
 ghost use Rattle.rad_packet.specs.Bodies.{FitsPacket};
 ghost use Rattle.rad_auth.specs.Summaries.{hmac_before, with_hmac};
@@ -107,7 +107,7 @@ pub fn sign_request(
         return write(body, identifier, &authenticator, frame);
     }
     write(body, identifier, authenticator, frame)?;
-    if let Some(after) = Summary::of(body.attributes()).after_hmac {
+    if let Some(after) = Summary::of(body.attributes()).octets_after_hmac {
         put_hmac(frame, after, secret);
     }
     Ok(())
@@ -129,7 +129,7 @@ fn put_hmac(frame: &mut Frame, after: usize, secret: &Secret)
 // One HMAC.
 fn mac(key: &Key, text: Pieces) -> [u8; DIGEST_LEN]
     requires free { HasFreePiece text }
-    requires short { length (message text) < 2 ^ 32 - 64 }
+    requires short { length (message text) < text_limit }
     ensures { result ≡ mac_under key.now (message text.entry) }
 {
     let [mac, ..] = hmac8(&[

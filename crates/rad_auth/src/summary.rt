@@ -15,7 +15,7 @@ pub(crate) struct Summary {
     /// How many Message-Authenticators there are, of whatever length.
     pub message_authenticators: usize,
     /// How many octets follow the first one of 16 octets.
-    pub after_hmac: Option<usize>,
+    pub octets_after_hmac: Option<usize>,
     pub has_eap_message: bool,
     /// Whether there is an Acct-Status-Type of 4 octets.
     pub has_status_type: bool,
@@ -32,7 +32,7 @@ impl Summary {
     {
         let mut summary = Summary {
             message_authenticators: 0,
-            after_hmac: None,
+            octets_after_hmac: None,
             has_eap_message: false,
             has_status_type: false,
             proxy_states: 0,
@@ -55,8 +55,8 @@ impl Summary {
         match attribute.kind {
             MESSAGE_AUTHENTICATOR => {
                 self.message_authenticators += 1;
-                if self.after_hmac.is_none() && len == 16 {
-                    self.after_hmac = Some(after);
+                if self.octets_after_hmac.is_none() && len == 16 {
+                    self.octets_after_hmac = Some(after);
                 }
             }
             EAP_MESSAGE => self.has_eap_message = true,

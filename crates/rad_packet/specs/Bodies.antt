@@ -25,8 +25,8 @@ abbrev pub FitsPacket : Body → Type 0
 FitsPacket body = header_size + size body.attributes ≤ length_max
 
 -- the octets of a body's packet
-abbrev pub body_octets : Body → ℕ → List ℕ → List ℕ
-body_octets body identifier authenticator = packet_octets (packet_of_body body identifier authenticator)
+abbrev pub packet_octets_of : Body → ℕ → List ℕ → List ℕ
+packet_octets_of body identifier authenticator = packet_octets (packet_of_body body identifier authenticator)
 
 -- octets that are read as the packet of a body, whatever follows them
 abbrev pub AreReadAs : List ℕ → Body → ℕ → List ℕ → Type 0

@@ -1,7 +1,7 @@
 //! Frames: room for the octets of one packet, and the one place that spells a packet.
 ghost use Rattle.std.specs.Prelude.{◌≡◌, [], ◌++◌, ◌+◌, ◌≤◌, ◌↔◌, length, take, IsOk, IfOk, OnOk, OnErr};
 ghost use Rattle.rad_packet.specs.Packets.{length_max};
-ghost use Rattle.rad_packet.specs.Bodies.{AreReadAs, FitsPacket, body_octets};
+ghost use Rattle.rad_packet.specs.Bodies.{AreReadAs, FitsPacket, packet_octets_of};
 ghost use Rattle.rad_packet.specs.Frames.{overwritten};
 
 use crate::body::Body;
@@ -70,7 +70,8 @@ pub fn write(
     frame: &mut Frame,
 ) -> Result<(), TooLong>
     ensures fits { IsOk result ↔ FitsPacket body.now }
-    ensures written { OnOk result (frame.new ≡ body_octets body.now identifier authenticator.now) }
+    ensures written { OnOk result
+        (frame.new ≡ packet_octets_of body.now identifier authenticator.now) }
     ensures read_again { OnOk result (AreReadAs frame.new body.now identifier authenticator.now) }
     ensures unchanged { OnErr result (frame.new ≡ frame.old) }
 {

@@ -5,7 +5,7 @@ use Rattle.std.proofs.lemmas.Bool.{cases_Bool, eqb-true, eq-eqb, ne_eqb, or_case
 use Rattle.std.proofs.lemmas.List.{append_assoc, append-nil, length_push}
 use Rattle.rad_config.specs.Configurations.{Configuration}
 use Rattle.rad_replay.specs.declared.step.State.{State}
-use Rattle.rad_replay.specs.DatagramLines.{TimedDatagram, timed_datagram_of}
+use Rattle.rad_replay.specs.DatagramLines.{TimedDatagram, datagram_of_line}
 use Rattle.rad_replay.specs.Steps.{opening}
 use Rattle.rad_replay.specs.Transcripts.{AnswersLines, datagrams_of, first_malformed, until_malformed, number_if_malformed, is_among, line_of, replay, written}
 
@@ -70,7 +70,7 @@ begins configuration lines = record {
 }
 
 pub goes_on : (configuration : Configuration) (lines left : List (List ℕ)) (line : List ℕ) (number : ℕ) (old new : State) (text more : List ℕ) (timed : TimedDatagram)
-    → Progress configuration lines (line ∷ left) number old text → timed_datagram_of line ≡ Some timed → (has_memory : Bool) × (line_of configuration has_memory (number + 1) old timed ≡ (more, new))
+    → Progress configuration lines (line ∷ left) number old text → datagram_of_line line ≡ Some timed → (has_memory : Bool) × (line_of configuration has_memory (number + 1) old timed ≡ (more, new))
     → Progress configuration lines left (number + 1) new (text ++ more)
 goes_on configuration lines left line number old new text more timed so_far found is = by_memory is.0 is.1
   where
@@ -130,7 +130,7 @@ ends configuration lines left number state text before now so_far nothing wrote 
     (so_far.without, first, subst (Appends before now) (sym text_is) wrote)
 
 pub ends_malformed : (configuration : Configuration) (lines left : List (List ℕ)) (line : List ℕ) (number : ℕ) (state : State) (text : List ℕ) (before now : Option (List ℕ)) → Progress configuration lines (line ∷ left) number state text
-    → timed_datagram_of line ≡ None → Appends before now text → AnswersLines configuration lines (Appends before now) (Some (number + 1))
+    → datagram_of_line line ≡ None → Appends before now text → AnswersLines configuration lines (Appends before now) (Some (number + 1))
 ends_malformed configuration lines left line number state text before now so_far malformed wrote =
     let all : datagrams_of lines ≡ so_far.answered = so_far.all ∙ ap (λ (o : Option TimedDatagram). so_far.answered ++ until_malformed o (datagrams_of left)) malformed ∙ append-nil so_far.answered in
     let first : first_malformed 1 lines ≡ Some (number + 1) = so_far.first ∙ ap (λ (o : Option TimedDatagram). number_if_malformed (number + 1) o (first_malformed (number + 1 + 1) left)) malformed in

@@ -36,8 +36,8 @@ octets_of text =
     else if nat_lt (length text) 2 || nat_lt (2 * length_max) (length text) then None
     else result_ok (decode_of text)
 
-unfoldable pub timed_datagram_of : List ℕ → Option TimedDatagram
-timed_datagram_of line = do
+unfoldable pub datagram_of_line : List ℕ → Option TimedDatagram
+datagram_of_line line = do
   moment ← split_once 32 line
   door ← split_once 32 moment.1
   source ← split_once 32 door.1

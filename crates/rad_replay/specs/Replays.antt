@@ -30,8 +30,8 @@ abbrev pub IsLineOf : ℕ → TimedDatagram → Replay → Replay → Type 0
 IsLineOf number timed old new = (has_memory : Bool) × (line_of old.configuration has_memory number old.state timed ≡ (new.line, new.state))
 
 -- an arrival and its moment
-abbrev pub timed_of : ℕ → Arrival → TimedDatagram
-timed_of moment arrival = record { moment = moment; datagram = datagram_of arrival }
+abbrev pub datagram_arrived : ℕ → Arrival → TimedDatagram
+datagram_arrived moment arrival = record { moment = moment; datagram = datagram_of arrival }
 
 -- what the answering of datagram lines may end with
 abbrev pub EndsLines : Configuration → List (List ℕ) → (List ℕ → Type 0) → Result Unit RunFault → Type 0

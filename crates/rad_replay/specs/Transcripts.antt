@@ -20,7 +20,7 @@ use Rattle.rad_replay.specs.declared.step.Answer.{Answer}
 use Rattle.rad_replay.specs.declared.step.Answer.TheVariants.{Send, Busy}
 use Rattle.rad_replay.specs.declared.step.State.{State}
 use Rattle.rad_replay.specs.Configuration.{configuration_of_octets}
-use Rattle.rad_replay.specs.DatagramLines.{TimedDatagram, timed_datagram_of}
+use Rattle.rad_replay.specs.DatagramLines.{TimedDatagram, datagram_of_line}
 use Rattle.rad_replay.specs.Lines.{line_feed, lines_of, divided, text_of, datagram_lines}
 use Rattle.rad_replay.specs.Steps.{opening, step}
 
@@ -98,7 +98,7 @@ until_malformed (Some timed) others = timed ∷ others
 -- the datagrams of the lines before the first malformed one
 abbrev pub datagrams_of : List (List ℕ) → List TimedDatagram
 datagrams_of [] = []
-datagrams_of (text ∷ lines) = until_malformed (timed_datagram_of text) (datagrams_of lines)
+datagrams_of (text ∷ lines) = until_malformed (datagram_of_line text) (datagrams_of lines)
 
 -- a line's number if it is malformed, and otherwise the later one
 abbrev pub number_if_malformed : ℕ → Option TimedDatagram → Option ℕ → Option ℕ
@@ -108,7 +108,7 @@ number_if_malformed number (Some timed) later = later
 -- the number of the first malformed line, where the first line has this number
 abbrev pub first_malformed : ℕ → List (List ℕ) → Option ℕ
 first_malformed number [] = None
-first_malformed number (text ∷ lines) = number_if_malformed number (timed_datagram_of text) (first_malformed (number + 1) lines)
+first_malformed number (text ∷ lines) = number_if_malformed number (datagram_of_line text) (first_malformed (number + 1) lines)
 
 -- the most octets of a transcript
 abbrev pub text_max : ℕ

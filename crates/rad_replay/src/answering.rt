@@ -5,7 +5,7 @@ ghost use Rattle.rad_auth.specs.Datagrams.{datagram_of};
 ghost use Rattle.rad_auth.specs.Sealing.{IsReply};
 ghost use Rattle.rad_config.specs.Spans.{moment_max};
 ghost use Rattle.rad_replay.specs.Steps.{opening};
-ghost use Rattle.rad_replay.specs.Replays.{IsFirstOf, IsLineOf, IsLineOfRequest, timed_of};
+ghost use Rattle.rad_replay.specs.Replays.{IsFirstOf, IsLineOf, IsLineOfRequest, datagram_arrived};
 ghost use Rattle.rad_replay.specs.Transcripts.{draw_of, sealed_reply};
 
 use crate::output_line::OutputLine;
@@ -69,7 +69,7 @@ impl<'a> Replay<'a> {
     /// Makes the line for a datagram, and goes on to the next state.
     pub fn answer(&mut self, alloc: Global, number: u64, moment: u64, arrival: Arrival)
         requires { moment ≤ moment_max }
-        ensures line { IsLineOf number (timed_of moment arrival.entry) self.old self.new }
+        ensures line { IsLineOf number (datagram_arrived moment arrival.entry) self.old self.new }
         ensures configuration { self.new.configuration ≡ self.old.configuration }
     {
         match admit(self.config.clients(), arrival) {

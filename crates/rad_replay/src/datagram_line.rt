@@ -2,8 +2,8 @@
 ghost use Rattle.std.specs.Prelude.{◌≡◌, ◌≤◌, length, take, IfSome, option_map};
 ghost use Rattle.rad_packet.specs.Packets.{length_max};
 ghost use Rattle.rad_config.specs.Spans.{moment_max};
-ghost use Rattle.rad_replay.specs.DatagramLines.{moment_of, port_of, door_of, octets_of, timed_datagram_of};
-ghost use Rattle.rad_replay.specs.ReadLines.{timed_datagram};
+ghost use Rattle.rad_replay.specs.DatagramLines.{moment_of, port_of, door_of, octets_of, datagram_of_line};
+ghost use Rattle.rad_replay.specs.ReadLines.{datagram_found};
 
 use rad_auth::Door;
 use rad_config::MOMENT_MAX;
@@ -74,10 +74,10 @@ fn decode_octets(text: &[u8], octets: &mut [u8]) -> Option<usize>
 }
 
 /// Reads a datagram line, and decodes the datagram into the front of `octets`.
-#[tactic(auto, unfolding(crate::specs::DatagramLines::timed_datagram_of))]
+#[tactic(auto, unfolding(crate::specs::DatagramLines::datagram_of_line))]
 pub fn read_datagram_line(line: &[u8], octets: &mut [u8]) -> Option<DatagramLine>
     requires { length octets.old ≡ length_max }
-    ensures datagram { timed_datagram_of line.now ≡ option_map (timed_datagram octets.new) result }
+    ensures datagram { datagram_of_line line.now ≡ option_map (datagram_found octets.new) result }
     ensures len { IfSome result (λ found. found.len ≤ length_max) }
     ensures moment { IfSome result (λ found. found.moment ≤ moment_max) }
 {

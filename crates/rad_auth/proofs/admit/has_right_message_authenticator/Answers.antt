@@ -13,5 +13,5 @@ returns-in-Some c = λ client same.
     let summary = c.args.candidate.now.is_summary in
     let once : (count 80 p.attributes == 1) ≡ true = eq-eqb (count 80 p.attributes) 1 (sym summary.message_authenticators ∙ c.if-not-occurs_once.false) in
     let first : first_value 80 p.attributes ≡ Some c.in-Some.value.now = sym c.in-Some.ensures.value in
-    let held = subst (λ o. IfSome o (λ n. c.args.mac.now ≡ message_authenticator p client.secret)) summary.after_hmac same in
+    let held = subst (λ o. IfSome o (λ n. c.args.mac.now ≡ message_authenticator p client.secret)) summary.octets_after_hmac same in
     rw (once, first) (c.same_octets.ensures ∙ right_hmac p.attributes c.in-Some.value.now c.args.mac.now (message_authenticator p client.secret) first held c.told-mac)

@@ -2,7 +2,7 @@ use Rattle.std.proofs.Common.{◌∷◌, ◌++◌, List, ℕ, [], get_or, ap, sy
 use Rattle.std.proofs.lemmas.List.{append-nil}
 use Rattle.md5.specs.Md5.{md5}
 use Rattle.rad_md5.specs.Pieces.{message}
-use Rattle.rad_auth.proofs.LaneLemmas.{below_eight}
+use Rattle.rad_md5.proofs.LaneLemmas.{below_eight}
 use Rattle.rad_auth.specs.Authenticators.{sixteen_zeros}
 use Rattle.rad_auth.specs.PasswordLanes.{block_digest}
 use Rattle.rad_auth.proofs.PasswordLemmas.{before_first, only_block, pad_next}

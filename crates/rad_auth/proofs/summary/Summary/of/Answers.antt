@@ -3,9 +3,9 @@ use Rattle.std.specs.List.{AllByRecursion}
 use Rattle.std.specs.Option.{option_or}
 use Rattle.rad_packet.specs.Attributes.{Attribute, IsAttribute, count, has, has_len, integer_size, is_of, is_of_len, of_kind, size}
 use Rattle.rad_packet.specs.Types.{type_acct_status_type, type_eap_message, type_message_authenticator, type_proxy_state}
-use Rattle.rad_auth.specs.Summaries.{after_hmac, first_after}
+use Rattle.rad_auth.specs.Summaries.{octets_after_hmac, first_after}
 use Rattle.rad_auth.proofs.AttributeLemmas.{count-cons, count-size, size-of_kind, size-of_kind-cons}
-use Rattle.rad_auth.proofs.SummaryLemmas.{any-step, after_hmac-step}
+use Rattle.rad_auth.proofs.SummaryLemmas.{any-step, octets_after_hmac-step}
 use Rattle.rad_auth.proofs.summary.Summary.of.Goals as goal
 
 pub add-requires-clause-few : goal.add-requires-clause-few
@@ -24,8 +24,8 @@ loop-attribute-preserved c =
     let counted = ap (count type_message_authenticator) e in
     record {
       message_authenticators = omega (arith, c.add.ensures.message_authenticators, known.message_authenticators, counted, count-cons type_message_authenticator a others);
-      after_hmac = ap (λ o. option_or o (after_hmac others)) (c.add.ensures.after_hmac ∙ ap (λ octets. first_after a (length octets) was.after_hmac) c.octets.ensures)
-          ∙ after_hmac-step was.after_hmac a others ∙ ap (λ list. option_or was.after_hmac (after_hmac list)) (sym e) ∙ known.after_hmac;
+      octets_after_hmac = ap (λ o. option_or o (octets_after_hmac others)) (c.add.ensures.octets_after_hmac ∙ ap (λ octets. first_after a (length octets) was.octets_after_hmac) c.octets.ensures)
+          ∙ octets_after_hmac-step was.octets_after_hmac a others ∙ ap (λ list. option_or was.octets_after_hmac (octets_after_hmac list)) (sym e) ∙ known.octets_after_hmac;
       has_eap_message = ap (λ so_far. so_far || has type_eap_message others) c.add.ensures.has_eap_message
           ∙ any-step (is_of type_eap_message) was.has_eap_message a others ∙ ap (λ list. was.has_eap_message || has type_eap_message list) (sym e) ∙ known.has_eap_message;
       has_status_type = ap (λ so_far. so_far || has_len type_acct_status_type integer_size others) c.add.ensures.has_status_type
