@@ -12,16 +12,16 @@ pub record KeepsUsers (names : List (Vec ℕ Global)) (users : List User) : Type
   pub few : length users ≤ users_max
   pub apart : AreNamedApart users
 
--- who may enter
+-- equal in who may enter
 abbrev pub HaveSameAccess : User → User → Type 0
 HaveSameAccess user other =
     (user.name ≡ other.name) × (user.password ≡ other.password) × (user.pool ≡ other.pool) × (user.sessions ≡ other.sessions)
 
--- what an Access-Accept says
+-- equal in what an Access-Accept says
 abbrev pub HaveSameAttributes : User → User → Type 0
 HaveSameAttributes user other =
     (user.service ≡ other.service) × (user.protocol ≡ other.protocol) × (user.timeout ≡ other.timeout) × (user.message ≡ other.message)
 
--- what an Access-Challenge asks
+-- equal in what an Access-Challenge asks
 abbrev pub HaveSameChallenge : User → User → Type 0
 HaveSameChallenge user other = (user.challenge ≡ other.challenge) × (user.answer ≡ other.answer)
