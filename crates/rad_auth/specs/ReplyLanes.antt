@@ -1,5 +1,5 @@
 -- Eight lanes of replies on their way to their frames: the header, the HMAC and the digest of each.
-use Rattle.std.specs.Prelude.{◌≡◌, ℕ, ◌+◌, ◌<◌, ◌==◌, not, Bool, false, List, [], ◌∷◌, ◌++◌, replicate, slice_index_or, Option, Some, None, IfSome, IsTrue}
+use Rattle.std.specs.Prelude.{◌≡◌, ℕ, ◌+◌, ◌==◌, not, Bool, false, List, [], ◌∷◌, ◌++◌, replicate, slice_index_or, Option, Some, None, IfSome, IsTrue}
 use Rattle.std.specs.Int.{w16, to_be_bytes}
 use Rattle.md5.specs.Md5.{md5}
 use Rattle.rad_md5.specs.Lanes.{EachLane}
