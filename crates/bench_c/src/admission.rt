@@ -36,24 +36,24 @@ const HMAC_END: usize = HMAC_AT + 16;
 
 fn check_in_lanes(alloc: Global, kind: u32, rounds: u32) -> Result<usize, AllocError> {
     let lot = Lot::new(alloc, Kind::of(kind))?;
-    let mut let_in: usize = 0;
+    let mut admitted: usize = 0;
     for _ in 0..rounds {
         for group in 0..GROUPS {
             let verdicts = check8(&lot.clients, &lot.arrivals(group));
-            let_in = let_in.wrapping_add(count_let_in(&verdicts));
+            admitted = admitted.wrapping_add(count_admitted(&verdicts));
         }
     }
-    Ok(let_in)
+    Ok(admitted)
 }
 
-fn count_let_in(verdicts: &Verdicts) -> usize {
-    let mut let_in: usize = 0;
+fn count_admitted(verdicts: &Verdicts) -> usize {
+    let mut admitted: usize = 0;
     for verdict in verdicts {
         if let Some(Ok(_)) = verdict {
-            let_in = let_in.wrapping_add(1);
+            admitted = admitted.wrapping_add(1);
         }
     }
-    let_in
+    admitted
 }
 
 fn seal_in_lanes(

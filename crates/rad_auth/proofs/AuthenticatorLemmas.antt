@@ -30,9 +30,9 @@ pub record HasHmac (octets : List ℕ) (made : List ℕ → List ℕ) (n : ℕ) 
   pub whole : octets ≡ front ++ (value ++ back)
   pub with : (w : List ℕ) → length w ≡ 16 → made w ≡ front ++ (w ++ back)
 
--- with the same octets in front of each
-pub in_front : (head octets : List ℕ) (made : List ℕ → List ℕ) (n : ℕ) → HasHmac octets made n → HasHmac (head ++ octets) (λ w. head ++ made w) n
-in_front head octets made n has = record {
+-- with the same octets before each
+pub after_head : (head octets : List ℕ) (made : List ℕ → List ℕ) (n : ℕ) → HasHmac octets made n → HasHmac (head ++ octets) (λ w. head ++ made w) n
+after_head head octets made n has = record {
   front = head ++ has.front;
   value = has.value;
   back = has.back;
@@ -66,7 +66,7 @@ attributes_hmac (a ∷ list) n e = at (can_hold_hmac a) refl e (attributes_hmac 
       whole = refl;
       with = λ w len. ap (λ n. a.kind ∷ (n + 2) ∷ (w ++ attributes_octets list)) (len ∙ sym (value_long a is));
     }
-    at false is e others = in_front (attribute_octets a) (attributes_octets list) (λ w. attributes_octets (with_message_authenticator w list)) n (others e)
+    at false is e others = after_head (attribute_octets a) (attributes_octets list) (λ w. attributes_octets (with_message_authenticator w list)) n (others e)
 
 -- the size stays
 pub same_size : (octets : List ℕ) (made : List ℕ → List ℕ) (n : ℕ) (w : List ℕ) → HasHmac octets made n → length w ≡ 16 → length (made w) ≡ length octets
@@ -83,7 +83,7 @@ pub packet_hmac : (p : Packet) (n : ℕ) → octets_after_hmac p.attributes ≡ 
 packet_hmac p n e =
     let inner = attributes_hmac p.attributes n e in
     let head : List ℕ = p.code ∷ p.identifier ∷ to_be_bytes w16 (20 + size p.attributes) ++ p.authenticator in
-    let same = in_front head (attributes_octets p.attributes) (λ w. attributes_octets (with_message_authenticator w p.attributes)) n inner in
+    let same = after_head head (attributes_octets p.attributes) (λ w. attributes_octets (with_message_authenticator w p.attributes)) n inner in
     record {
       front = same.front;
       value = same.value;

@@ -106,7 +106,7 @@ reveals secret before n value e = record {
     blocks : (t : List ℕ) → length t ≡ length value → block_count (length t) ≡ n
     blocks t h = omega (arith, h, e)
 
--- one block more is hidden where it stands
+-- one block more is hidden in its place
 pub hidden_more : (secret before : List ℕ) (n i k : ℕ) (text pad ys whole : List ℕ) → k ≡ 16 → i < n → n * 16 ≤ length text
     → ys ≡ xor (take k (drop (i * 16) text)) pad → pad ≡ md5 (secret ++ before)
     → take (i * 16) text ++ hidden secret before (n - i) (drop (i * 16) text) ≡ whole
@@ -151,7 +151,7 @@ opened_more secret before n i k value text pad ys whole size lt within room made
     ∙ ap (λ (o : List ℕ). take (i * 16) text ++ o) (sym turn)
     ∙ so_far
 
--- what stands before a value's first block, and before the next one
+-- what precedes a value's first block, and the next one
 pub before_first : (request_authenticator value : List ℕ) → length request_authenticator ≡ 16 → block_before request_authenticator value 0 ≡ request_authenticator
 before_first request_authenticator value e = take_at request_authenticator value 16 e
 

@@ -28,7 +28,7 @@ with_message_authenticator value (a ∷ list) =
     if can_hold_hmac a then record a { value = value } ∷ list else a ∷ with_message_authenticator value list
 
 -- The Message-Authenticator of a packet (RFC 3579, section 3.2): under the secret, over the packet with zeros in its
--- Message-Authenticator.
+-- Message-Authenticator. A reply has the Request Authenticator in its Authenticator field then (`signed_body`).
 abbrev pub message_authenticator : Packet → List ℕ → List ℕ
 message_authenticator p secret = hmac secret (packet_octets (record p { attributes = with_message_authenticator sixteen_zeros p.attributes }))
 

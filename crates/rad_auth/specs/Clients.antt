@@ -32,7 +32,7 @@ IsSecret secret = (1 ≤ length secret) × (length secret ≤ secret_max)
 abbrev pub client_place : List Client → ℕ → Option ℕ
 client_place clients source = position (λ client. client.address == source) clients
 
--- the client at this place, if there is one
+-- the client at this place; where there is none, one of whom nothing is used
 abbrev pub client_at : List Client → ℕ → Client
 client_at clients place = slice_index_or clients place (record { address = 0; secret = []; require_message_authenticator = false })
 

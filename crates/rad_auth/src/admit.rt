@@ -45,14 +45,14 @@ pub fn check8<'a>(
     let digests = accounting_authenticators(clients, &lanes);
     let macs = message_authenticators(clients, &lanes);
     [
-        judge(clients, &lanes[0], &digests[0], &macs[0]),
-        judge(clients, &lanes[1], &digests[1], &macs[1]),
-        judge(clients, &lanes[2], &digests[2], &macs[2]),
-        judge(clients, &lanes[3], &digests[3], &macs[3]),
-        judge(clients, &lanes[4], &digests[4], &macs[4]),
-        judge(clients, &lanes[5], &digests[5], &macs[5]),
-        judge(clients, &lanes[6], &digests[6], &macs[6]),
-        judge(clients, &lanes[7], &digests[7], &macs[7]),
+        verdict_on_lane(clients, &lanes[0], &digests[0], &macs[0]),
+        verdict_on_lane(clients, &lanes[1], &digests[1], &macs[1]),
+        verdict_on_lane(clients, &lanes[2], &digests[2], &macs[2]),
+        verdict_on_lane(clients, &lanes[3], &digests[3], &macs[3]),
+        verdict_on_lane(clients, &lanes[4], &digests[4], &macs[4]),
+        verdict_on_lane(clients, &lanes[5], &digests[5], &macs[5]),
+        verdict_on_lane(clients, &lanes[6], &digests[6], &macs[6]),
+        verdict_on_lane(clients, &lanes[7], &digests[7], &macs[7]),
     ]
 }
 
@@ -119,7 +119,7 @@ fn is_code_accepted(door: Door, code: u8) -> bool
 }
 
 // The verdict on a lane, given the digest and the HMAC that were computed for it.
-fn judge<'a>(
+fn verdict_on_lane<'a>(
     clients: &Clients,
     lane: &Lane<'a>,
     digest: &[u8; DIGEST_LEN],

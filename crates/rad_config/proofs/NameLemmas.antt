@@ -22,10 +22,10 @@ found-more p (y ∷ ys) x i found = at (p y) (position p ys) (found-more p ys x)
   where
     at : (b : Bool) (rest : Option ℕ) → ((j : ℕ) → position p ys ≡ Some j → position p (ys ++ x ∷ []) ≡ Some j)
         → p y ≡ b → position p ys ≡ rest → position p (y ∷ ys ++ x ∷ []) ≡ Some i
-    at true rest later here behind = position-step p y (ys ++ x ∷ []) true here ∙ sym (position-step p y ys true here) ∙ found
-    at false None later here behind = absurd (none-some (sym found ∙ position-step p y ys false here ∙ ap (option_map suc) behind))
-    at false (Some j) later here behind =
-        position-step p y (ys ++ x ∷ []) false here ∙ ap (option_map suc) (later j behind) ∙ sym (ap (option_map suc) behind) ∙ sym (position-step p y ys false here) ∙ found
+    at true rest later here found_after = position-step p y (ys ++ x ∷ []) true here ∙ sym (position-step p y ys true here) ∙ found
+    at false None later here found_after = absurd (none-some (sym found ∙ position-step p y ys false here ∙ ap (option_map suc) found_after))
+    at false (Some j) later here found_after =
+        position-step p y (ys ++ x ∷ []) false here ∙ ap (option_map suc) (later j found_after) ∙ sym (ap (option_map suc) found_after) ∙ sym (position-step p y ys false here) ∙ found
 
 -- the last one is found where no other is
 found-last : {A : Type 0} (p : A → Bool) (xs : List A) (x : A) → position p xs ≡ None → p x ≡ true → position p (xs ++ x ∷ []) ≡ Some (length xs)
@@ -34,9 +34,9 @@ found-last p (y ∷ ys) x none here = at (p y) (position p ys) (λ rest. found-l
   where
     at : (b : Bool) (rest : Option ℕ) → (position p ys ≡ None → position p (ys ++ x ∷ []) ≡ Some (length ys))
         → p y ≡ b → position p ys ≡ rest → position p (y ∷ ys ++ x ∷ []) ≡ Some (length (y ∷ ys))
-    at true rest later first behind = absurd (none-some (sym (position-step p y ys true first) ∙ none))
-    at false None later first behind = position-step p y (ys ++ x ∷ []) false first ∙ ap (option_map suc) (later behind)
-    at false (Some j) later first behind = absurd (none-some (sym (ap (option_map suc) behind) ∙ sym (position-step p y ys false first) ∙ none))
+    at true rest later first found_after = absurd (none-some (sym (position-step p y ys true first) ∙ none))
+    at false None later first found_after = position-step p y (ys ++ x ∷ []) false first ∙ ap (option_map suc) (later found_after)
+    at false (Some j) later first found_after = absurd (none-some (sym (ap (option_map suc) found_after) ∙ sym (position-step p y ys false first) ∙ none))
 
 -- an element of a longer list is one of the shorter, or the last
 get-push : {A : Type 0} (xs : List A) (x : A) (i : ℕ) (u : A) → slice_get (xs ++ x ∷ []) i ≡ Some u → (slice_get xs i ≡ Some u) ⊎ ((i ≡ length xs) × (x ≡ u))

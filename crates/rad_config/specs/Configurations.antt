@@ -54,11 +54,11 @@ spot e key = record { part = e.part; index = e.index; key = key }
 abbrev pub at_key : EntryData → Key → Option Data
 at_key e key = get_member (key_name key) e.members
 
--- whether data stands at the key
+-- whether the key is present
 abbrev pub has_key : EntryData → Key → Bool
 has_key e key = is_some (at_key e key)
 
--- data that is there fits, or is a bad value; an absent key stands for a value, or is missing
+-- data that is there fits, or is a bad value; an absent key has a default, or is missing
 abbrev pub value_at : {A : Type 0} → Spot → Row A → Option Data → Result A ConfigFault
 value_at at row (Some d) = ok_or (row.fit d) (BadValue at)
 value_at at row None = ok_or row.absent (Missing at)
@@ -124,10 +124,11 @@ pool_in earlier e = do
   last ← value e (rows.pool_last first)
   Ok (record { name = name; first = first; last = last })
 
--- two pools share an address
+-- whether two pools share an address
 abbrev pub share : Pool → Pool → Bool
 share p q = nat_le p.first q.last && nat_le q.first p.last
 
+-- whether some two pools of a list do
 abbrev pub overlap : List Pool → Bool
 overlap [] = false
 overlap (pool ∷ pools) = list_any (share pool) pools || overlap pools

@@ -22,7 +22,7 @@ number_of most_digits greatest text =
     if length text == 0 || nat_lt most_digits (length text) then None
     else (digits_from 0 text >>= λ number. if nat_le number greatest then Some number else None)
 
--- whether a zero stands before another digit
+-- whether a zero precedes another digit
 abbrev pub has_leading_zero : List ℕ → Bool
 has_leading_zero [] = false
 has_leading_zero (octet ∷ []) = false

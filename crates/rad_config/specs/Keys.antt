@@ -1,4 +1,4 @@
--- The table of keys of a configuration: what may stand at each, and what is meant where it is absent. The text is TOML, whose
+-- The table of keys of a configuration: what may be at each, and what is meant where it is absent. The text is TOML, whose
 -- values are toml's `Data`. A text is a list of octets, which are numbers below 256; an address is a number below 2 ^ 32, most
 -- significant octet first.
 use Rattle.std.specs.Prelude.{ℕ, ◌+◌, ℤ, pos, negsuc, min, nat_le, nat_eq, ◌&&◌, Bool, false, if◌then◌else◌, List, length, position, Option, Some, None, option_map, option_and_then}
@@ -15,8 +15,8 @@ use Rattle.rad_config.specs.declared.pool.Pool.{Pool}
 
 -- ---- rows
 
--- A row of the table: a key, the value of the data that stands there where it fits, and the value that an absent key stands
--- for, if the key may be absent.
+-- A row of the table: a key, the value of the data at it where that fits, and the value that is meant where the key is absent, if it
+-- may be.
 pub record Row (A : Type 0) : Type 0 where
   pub key : Key
   pub fit : Data → Option A
@@ -81,7 +81,7 @@ named_pool pools d = option_and_then (pool_place pools) (as_str d)
 abbrev pub address_max : ℕ
 address_max = 4294967293
 
--- how far the last address of a pool may lie above its first
+-- how far the last address of a pool may be above its first
 abbrev pub above_first_max : ℕ
 above_first_max = 65535
 

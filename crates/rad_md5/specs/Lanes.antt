@@ -25,7 +25,7 @@ IsLanewise3 f x y z new = EachLane (λ j. slice_index new j ≡ f (slice_index x
 abbrev pub message_at : List (List (List ℕ)) → ℕ → List ℕ
 message_at messages j = message (slice_index_or messages j [])
 
--- the message of lane j, where `places` tells the place of each lane's message
+-- the message of lane j, where `places` gives the place of each lane's message
 abbrev pub lane_message : List (List (List ℕ)) → List ℕ → ℕ → List ℕ
 lane_message messages places j = message_at messages (slice_index places j)
 

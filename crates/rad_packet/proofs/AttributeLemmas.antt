@@ -67,17 +67,17 @@ within-spells (suc most) (kind ∷ len ∷ rest) list fits e =
     let low : 2 ≤ len = ltb-false _ _ tests.0 in
     let high : len ≤ length rest + 2 = ltb-false _ _ tests.1 in
     let others = mapped (λ others. record { kind = kind; value = take (len - 2) rest } ∷ others) (attributes_within most (drop (len - 2) rest)) list tests.2 in
-    let behind = within-spells most (drop (len - 2) rest) others.0 (IsOctets-drop (suc (suc (len - 2))) (kind ∷ len ∷ rest) fits) others.1 in
+    let later = within-spells most (drop (len - 2) rest) others.0 (IsOctets-drop (suc (suc (len - 2))) (kind ∷ len ∷ rest) fits) others.1 in
     let small : len < 256 = fits 1 in
     let kind_fits : kind < 256 = fits 0 in
     let value_len : length (take (len - 2) rest) ≡ len - 2 = omega (arith, length-take (len - 2) rest) in
     let len_is : length (take (len - 2) rest) + 2 ≡ len = omega arith in
     let first : Attribute = record { kind = kind; value = take (len - 2) rest } in
     let spelled : kind ∷ len ∷ rest ≡ attributes_octets (first ∷ others.0) =
-    ap (λ (xs : List ℕ). kind ∷ len ∷ xs) (sym (take-append-drop (len - 2) rest)) ∙ ap (λ (xs : List ℕ). kind ∷ len ∷ take (len - 2) rest ++ xs) behind.spelled
+    ap (λ (xs : List ℕ). kind ∷ len ∷ xs) (sym (take-append-drop (len - 2) rest)) ∙ ap (λ (xs : List ℕ). kind ∷ len ∷ take (len - 2) rest ++ xs) later.spelled
     ∙ ap (λ (n : ℕ). kind ∷ n ∷ take (len - 2) rest ++ attributes_octets others.0) (sym len_is) in
     subst (λ (l : List Attribute). AreAttributes (kind ∷ len ∷ rest) l) others.2
-    (record { spelled = spelled; each = (record { kind = kind_fits; value = omega arith }, behind.each) })
+    (record { spelled = spelled; each = (record { kind = kind_fits; value = omega arith }, later.each) })
 
 -- ---- how many attributes are allowed makes no difference, where there may be one for each octet
 
@@ -104,7 +104,7 @@ within-all most octets le =
 
 -- ---- the first attribute
 
--- whether octets are attributes is told behind the first of them
+-- whether octets are attributes depends on those after the first of them
 pub are-cons : (kind len : ℕ) (rest : List ℕ) → 2 ≤ len → len ≤ length rest + 2 → is_some (attributes_of (drop len (kind ∷ len ∷ rest))) ≡ is_some (attributes_of (kind ∷ len ∷ rest))
 unfolding attributes_within
 are-cons kind zero rest low high = absurd (omega arith)
@@ -127,7 +127,7 @@ first-nil octets are short = nil (attributes_in octets) are
     nil [] are = refl
     nil (a ∷ list) are = absurd (omega (arith, ap length are.spelled))
 
--- the Value of the first attribute, and the octets behind it
+-- the Value of the first attribute, and the octets after it
 pub first-is : (kind len : ℕ) (rest : List ℕ) → AreAttributes (kind ∷ len ∷ rest) (attributes_in (kind ∷ len ∷ rest))
     → (2 ≤ len) × (len ≤ length rest + 2) × IsFirst (kind ∷ len ∷ rest) (record { kind = kind; value = drop 2 (take len (kind ∷ len ∷ rest)) }) (drop len (kind ∷ len ∷ rest))
 first-is kind len rest are = first (attributes_in (kind ∷ len ∷ rest)) refl are
@@ -141,14 +141,14 @@ first-is kind len rest are = first (attributes_in (kind ∷ len ∷ rest)) refl 
         let rest_is : rest ≡ a.value ++ attributes_octets list = ap (λ (xs : List ℕ). drop 2 xs) are.spelled in
         let value_is : drop 2 (take len (kind ∷ len ∷ rest)) ≡ a.value = rw (len_is, rest_is) (take_at a.value (attributes_octets list) (length a.value) refl) in
         let others_is : drop len (kind ∷ len ∷ rest) ≡ attributes_octets list = rw (len_is, rest_is) (drop_at a.value (attributes_octets list) (length a.value) refl) in
-        let behind : attributes_in (drop len (kind ∷ len ∷ rest)) ≡ list = in-spelled _ list others_is in
+        let later : attributes_in (drop len (kind ∷ len ∷ rest)) ≡ list = in-spelled _ list others_is in
         let list_is : attributes_in (kind ∷ len ∷ rest) ≡ record { kind = kind; value = drop 2 (take len (kind ∷ len ∷ rest)) } ∷ attributes_in (drop len (kind ∷ len ∷ rest)) =
         e ∙ ap (λ (k : ℕ). record { kind = k; value = a.value } ∷ list) (sym kind_is)
         ∙ ap (λ (v : List ℕ). record { kind = kind; value = v } ∷ list) (sym value_is)
-        ∙ ap (λ (others : List Attribute). record { kind = kind; value = drop 2 (take len (kind ∷ len ∷ rest)) } ∷ others) (sym behind) in (
+        ∙ ap (λ (others : List Attribute). record { kind = kind; value = drop 2 (take len (kind ∷ len ∷ rest)) } ∷ others) (sym later) in (
           omega arith,
           omega (arith, ap length rest_is, length-append a.value (attributes_octets list)),
-          record { list = list_is; others = record { spelled = rw behind others_is; each = rw behind are.each.1 } },
+          record { list = list_is; others = record { spelled = rw later others_is; each = rw later are.each.1 } },
         )
 
 pub first-at : (octets : List ℕ) → 2 ≤ length octets → AreAttributes octets (attributes_in octets)

@@ -36,8 +36,8 @@ pub data Reads (datagram : List ℕ) : Result Packet ReadFault → Type 0 where
   whole : (list : List Attribute) → HasLength datagram → length_field datagram ≤ length datagram
       → attributes_of (attributes_field datagram) ≡ Some list → Reads datagram (Ok (packet_fields datagram list))
 
-abbrev behind_header : List ℕ → Result Packet ReadFault
-behind_header d =
+abbrev after_header : List ℕ → Result Packet ReadFault
+after_header d =
     cond (ltb (length_field d) header_size || ltb length_max (length_field d)) (Err BadLength)
     (cond (ltb (length d) (length_field d)) (Err Truncated) (packet_with d (attributes_of (attributes_field d))))
 
@@ -52,7 +52,7 @@ reads_length d has =
       | inr le ↦ rw (le-ltb (length d) (length_field d) le) (reads_attributes d has le (attributes_of (attributes_field d)) refl)
     ]
 
-reads_header : (d : List ℕ) → header_size ≤ length d → Reads d (behind_header d)
+reads_header : (d : List ℕ) → header_size ≤ length d → Reads d (after_header d)
 reads_header d le =
     elim (cases_lt (length_field d) header_size) [
       | inl low ↦ rw (lt-ltb (length_field d) header_size low) (bad le (inl low))
@@ -101,11 +101,11 @@ pub fields_spelled : (o : List ℕ) (list : List Attribute) → header_size ≤ 
 fields_spelled [] list le field e = absurd (omega arith)
 fields_spelled (code ∷ []) list le field e = absurd (omega arith)
 fields_spelled (code ∷ identifier ∷ rest) list le field e =
-    let behind : drop 18 rest ≡ attributes_octets list = e in
-    let len : length (code ∷ identifier ∷ rest) ≡ 20 + length (attributes_octets list) = omega (arith, ap length behind, length-drop 18 rest) in
+    let octets_after : drop 18 rest ≡ attributes_octets list = e in
+    let len : length (code ∷ identifier ∷ rest) ≡ 20 + length (attributes_octets list) = omega (arith, ap length octets_after, length-drop 18 rest) in
     let parts : rest ≡ take 2 rest ++ (take 16 (drop 2 rest) ++ drop 16 (drop 2 rest)) =
     sym (take-append-drop 2 rest) ∙ ap (λ (xs : List ℕ). take 2 rest ++ xs) (sym (take-append-drop 16 (drop 2 rest))) in
-    let last : drop 16 (drop 2 rest) ≡ attributes_octets list = drop-drop 16 2 rest ∙ behind in
+    let last : drop 16 (drop 2 rest) ≡ attributes_octets list = drop-drop 16 2 rest ∙ octets_after in
     let length_is : take 2 rest ≡ to_be_bytes w16 (20 + length (attributes_octets list)) = field ∙ ap (to_be_bytes w16) len in
     ap (λ (xs : List ℕ). code ∷ identifier ∷ xs)
     (parts ∙ ap (λ (xs : List ℕ). xs ++ (take 16 (drop 2 rest) ++ drop 16 (drop 2 rest))) length_is
@@ -148,7 +148,7 @@ front_whole d list fits has le e =
       ap (packet_fields (take (length_field d) d)) found ∙ front_fields d list has,
     )
 
--- ---- what was read stands there, and what stands there is read
+-- ---- what was read is there, and what is there is read
 
 pub found : (d : List ℕ) (r : Result Packet ReadFault) → IsOctets d → Reads d r → IfOk r (IsPacket d)
 found d (Err Short) fits (short lt) = tt
@@ -179,8 +179,8 @@ refused d (Ok _) (whole list has le e) = tt
 
 -- a packet's octets, part by part
 module _ (p : Packet) (padding : List ℕ) (authenticator : length p.authenticator ≡ 16) (fits : packet_length p ≤ length_max) where
-  datagram_behind : drop 4 (packet_octets p ++ padding) ≡ p.authenticator ++ (attributes_octets p.attributes ++ padding)
-  datagram_behind = append_assoc p.authenticator (attributes_octets p.attributes) padding
+  after_length : drop 4 (packet_octets p ++ padding) ≡ p.authenticator ++ (attributes_octets p.attributes ++ padding)
+  after_length = append_assoc p.authenticator (attributes_octets p.attributes) padding
 
   datagram_field : length_field (packet_octets p ++ padding) ≡ packet_length p
   datagram_field = from_be_bytes-to_be_bytes_2 (packet_length p) (omega arith)
@@ -189,7 +189,7 @@ module _ (p : Packet) (padding : List ℕ) (authenticator : length p.authenticat
   datagram_long = omega (arith, length-append (packet_octets p) padding, length-append p.authenticator (attributes_octets p.attributes))
 
   datagram_authenticator : take 16 (drop 4 (packet_octets p ++ padding)) ≡ p.authenticator
-  datagram_authenticator = ap (take 16) datagram_behind ∙ take_at p.authenticator (attributes_octets p.attributes ++ padding) 16 authenticator
+  datagram_authenticator = ap (take 16) after_length ∙ take_at p.authenticator (attributes_octets p.attributes ++ padding) 16 authenticator
 
   datagram_attributes : attributes_field (packet_octets p ++ padding) ≡ attributes_octets p.attributes
   datagram_attributes =

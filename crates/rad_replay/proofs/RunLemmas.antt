@@ -23,14 +23,14 @@ length-onto_first octet (line ∷ lines) = omega arith
 length-lines_of : (text : List ℕ) → length (lines_of text) ≤ length text
 length-lines_of [] = omega arith
 length-lines_of (octet ∷ text) =
-    let behind = length-lines_of text in
+    let later = length-lines_of text in
     let front = length-onto_first octet (lines_of text) in
     elim (eqb octet line_feed) as (λ b. length (cond b ([] ∷ lines_of text) (onto_first octet (lines_of text))) ≤ length (octet ∷ text)) [ true ↦ omega arith | false ↦ omega arith ]
 
 length-filter : {A : Type 0} (test : A → Bool) (xs : List A) → length (filter test xs) ≤ length xs
 length-filter test [] = omega arith
 length-filter test (x ∷ xs) =
-    let behind = length-filter test xs in
+    let later = length-filter test xs in
     elim (test x) as (λ b. length (cond b (x ∷ filter test xs) (filter test xs)) ≤ length (x ∷ xs)) [ true ↦ omega arith | false ↦ omega arith ]
 
 length-datagram_lines : (lines : List (List ℕ)) → length (datagram_lines lines) ≤ length lines
@@ -45,9 +45,9 @@ length-divided (line ∷ lines) before after e = at (is_divider line) (divided l
   where
     at : (b : Bool) (parts : Option (List (List ℕ) × List (List ℕ))) → ((before after : List (List ℕ)) → parts ≡ Some (before, after) → length after ≤ length lines)
         → cond {A = Option (List (List ℕ) × List (List ℕ))} b (Some ([], lines)) (option_map (λ found. (line ∷ found.0, found.1)) parts) ≡ Some (before, after) → length after ≤ length (line ∷ lines)
-    at true parts behind e = omega (arith, ap length (second e))
-    at false None behind e = absurd cc
-    at false (Some found) behind e = omega (arith, ap length (second e), behind found.0 found.1 refl)
+    at true parts later e = omega (arith, ap length (second e))
+    at false None later e = absurd cc
+    at false (Some found) later e = omega (arith, ap length (second e), later found.0 found.1 refl)
 
 pub few_lines : (text before after : List ℕ) → Divides text before after → length (datagram_lines (lines_of after)) ≤ length text
 few_lines text before after d =

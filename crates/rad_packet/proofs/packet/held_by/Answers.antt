@@ -20,21 +20,21 @@ returns-then-datagram-len c =
 
 pub returns-then-not-are_attributes : goal.returns-then-not-are_attributes
 returns-then-not-are_attributes c =
-    let told = rw (take_rest, c.length_field-len.ensures) at c.are_attributes.ensures in
-    let none = none_from (attributes_of (attributes_field c.args.datagram.now)) (sym told ∙ c.if-not-are_attributes.true) in
+    let decided = rw (take_rest, c.length_field-len.ensures) at c.are_attributes.ensures in
+    let none = none_from (attributes_of (attributes_field c.args.datagram.now)) (sym decided ∙ c.if-not-are_attributes.true) in
     sym (reads-attributes c.args.datagram.now _ (record { header = omega arith; low = omega arith; high = omega arith }) (omega arith) none)
 
 pub invariant_of-result : goal.invariant_of-result
 invariant_of-result c =
-    let told = rw (take_rest, c.length_field-len.ensures) at c.are_attributes.ensures in
-    let some = some_from (attributes_of (attributes_field c.args.datagram.now)) (sym told ∙ c.if-not-are_attributes.false) in
+    let decided = rw (take_rest, c.length_field-len.ensures) at c.are_attributes.ensures in
+    let some = some_from (attributes_of (attributes_field c.args.datagram.now)) (sym decided ∙ c.if-not-are_attributes.false) in
     let whole = front_whole c.args.datagram.now some.0 (λ i. omega (arith, c.type_inv.datagram i)) (record { header = omega arith; low = omega arith; high = omega arith }) (omega arith) some.1 in
     rw c.length_field-len.ensures (whole.0)
 
 pub returns : goal.returns
 returns c =
-    let told = rw (take_rest, c.length_field-len.ensures) at c.are_attributes.ensures in
-    let some = some_from (attributes_of (attributes_field c.args.datagram.now)) (sym told ∙ c.if-not-are_attributes.false) in
+    let decided = rw (take_rest, c.length_field-len.ensures) at c.are_attributes.ensures in
+    let some = some_from (attributes_of (attributes_field c.args.datagram.now)) (sym decided ∙ c.if-not-are_attributes.false) in
     let has : HasLength c.args.datagram.now = record { header = omega arith; low = omega arith; high = omega arith } in
     let whole = front_whole c.args.datagram.now some.0 (λ i. omega (arith, c.type_inv.datagram i)) has (omega arith) some.1 in
     ap (λ (n : ℕ). Ok (packet_in (take n c.args.datagram.now))) c.length_field-len.ensures ∙ ap Ok whole.1 ∙ sym (reads-attributes c.args.datagram.now _ has (omega arith) some.1)

@@ -6,7 +6,7 @@ use Rattle.rad_packet.specs.Types.{type_acct_status_type, type_eap_message, type
 use Rattle.rad_auth.specs.Summaries.{octets_after_hmac}
 use Rattle.rad_auth.proofs.summary.Summary.of.Given as goal
 
--- what is noted of the attributes so far, with what those that are left say, is what all say
+-- what is found in the attributes so far, with what those that are left say, is what all say
 abbrev pub invariant-loop-attribute : goal.invariant-loop-attribute
 invariant-loop-attribute l = record {
   message_authenticators : l.summary.message_authenticators + count type_message_authenticator l.rest ≡ count type_message_authenticator l.fn.attributes;
