@@ -21,14 +21,35 @@ pub const NAS_IP_ADDRESS: u8 = 4;
 /// RFC 2865, section 5.5.
 pub const NAS_PORT: u8 = 5;
 
+/// RFC 2865, section 5.6.
+pub const SERVICE_TYPE: u8 = 6;
+
+/// RFC 2865, section 5.7.
+pub const FRAMED_PROTOCOL: u8 = 7;
+
+/// RFC 2865, section 5.8.
+pub const FRAMED_IP_ADDRESS: u8 = 8;
+
 /// RFC 2865, section 5.18.
 pub const REPLY_MESSAGE: u8 = 18;
+
+/// RFC 2865, section 5.24.
+pub const STATE: u8 = 24;
+
+/// RFC 2865, section 5.25.
+pub const CLASS: u8 = 25;
+
+/// RFC 2865, section 5.27.
+pub const SESSION_TIMEOUT: u8 = 27;
 
 /// RFC 2865, section 5.33.
 pub const PROXY_STATE: u8 = 33;
 
 /// RFC 2866, section 5.1.
 pub const ACCT_STATUS_TYPE: u8 = 40;
+
+/// RFC 2865, section 5.40.
+pub const CHAP_CHALLENGE: u8 = 60;
 
 /// RFC 3579, section 3.1.
 pub const EAP_MESSAGE: u8 = 79;
