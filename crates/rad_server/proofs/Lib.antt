@@ -1,0 +1,3 @@
+mod OccurrenceLemmas
+mod ReplyLemmas
+mod ReportLemmas

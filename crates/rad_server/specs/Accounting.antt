@@ -1,0 +1,69 @@
+-- What an Accounting-Request reports of a session (RFC 2866, sections 4.1 and 5.1). It is recorded in the table of sessions, and
+-- is always answered (section 4.2).
+use Rattle.std.specs.Prelude.{ℕ, ◌==◌, ◌&&◌, Bool, if◌then◌else◌, List, length, drop, find, take, Option, Some, None, option_map}
+use Rattle.std.specs.Int.{w32, w64, from_be_bytes}
+use lib.Pointwise.{pointwise}
+use Rattle.rad_packet.specs.Attributes.{Attribute, first_value, first_value_of_len, integer_size, is_of_len}
+use Rattle.rad_packet.specs.Bodies.{Body}
+use Rattle.rad_packet.specs.Types.{type_acct_status_type, type_class, type_framed_ip_address, type_user_name}
+use Rattle.rad_auth.specs.declared.arrival.Request.{Request}
+use Rattle.rad_config.specs.Configurations.{Configuration, user_place}
+use Rattle.rad_pool.specs.Meant.{meant}
+use Rattle.rad_pool.specs.Sessions.{Table, started, stopped}
+use Rattle.rad_server.specs.Replies.{accounting_response, class_prefix}
+use Rattle.rad_server.specs.States.{State}
+
+-- values of Acct-Status-Type (RFC 2866, section 5.1)
+abbrev pub status_start : ℕ
+status_start = 1
+
+abbrev pub status_stop : ℕ
+status_stop = 2
+
+-- the integer of the first attribute of a Type that has four octets
+abbrev pub first_integer : ℕ → List Attribute → Option ℕ
+first_integer kind list = option_map (λ value. from_be_bytes w32 value) (first_value_of_len kind integer_size list)
+
+-- the octets of a session's Class: those that it begins with, and the number
+abbrev pub class_size : ℕ
+class_size = 12
+
+-- whether an attribute is the Class of a session
+abbrev pub is_class : Attribute → Bool
+is_class a = is_of_len type_class class_size a && pointwise ◌==◌ (take (length class_prefix) a.value) class_prefix
+
+-- the number in the first Class of a session
+abbrev pub class_number : List Attribute → Option ℕ
+class_number list = option_map (λ a. from_be_bytes w64 (drop (length class_prefix) a.value)) (find is_class list)
+
+-- the user whose name was sent, if one was sent; it may be nobody's
+abbrev pub named_user : Configuration → List Attribute → Option (Option ℕ)
+named_user configuration list = option_map (user_place configuration.users) (first_value type_user_name list)
+
+-- the number of the session that a request means, if it means one
+abbrev pub session_meant : Configuration → Request → Table → Option ℕ
+session_meant configuration request table =
+    let list = request.packet.attributes in
+    meant request.client (class_number list) (first_integer type_framed_ip_address list) (named_user configuration list) table.sessions
+
+-- the table after a change of the session of this number, if there is one
+abbrev pub changed : (ℕ → Table → Table) → Option ℕ → Table → Table
+changed change None table = table
+changed change (Some number) table = change number table
+
+-- the table after a status of a session was reported: every other status changes nothing
+abbrev pub reported : Option ℕ → Option ℕ → Table → Table
+reported None session table = table
+reported (Some status) session table =
+    if status == status_start then changed started session table
+    else if status == status_stop then changed stopped session table
+    else table
+
+-- the reply to an Accounting-Request, and the state after it
+abbrev pub account : Configuration → State → Request → Body × State
+account configuration state request = (
+  accounting_response request.packet,
+  record state {
+    table = reported (first_integer type_acct_status_type request.packet.attributes) (session_meant configuration request state.table) state.table;
+  },
+)

@@ -1,0 +1,11 @@
+pub mod Access
+pub mod Accounting
+pub mod Credentials
+pub mod Denials
+pub mod Lawful
+pub mod Occurrences
+pub mod Plans
+pub mod Replies
+pub mod Servers
+pub mod States
+pub mod Steps

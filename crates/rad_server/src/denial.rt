@@ -1,0 +1,56 @@
+//! Why access is denied.
+ghost use Rattle.std.specs.Prelude.{◌≡◌};
+ghost use Rattle.rad_server.specs.Denials.{denial_of, denial_text};
+
+use rad_pool::Refusal;
+
+/// Why access is denied: the first reason that applies.
+#[derive(Clone, Copy, Debug, PartialEq, Eq)]
+pub enum Denial {
+    /// The request has an EAP-Message.
+    EapNotSupported,
+    /// The request has no credentials, too many, or ones of a wrong length.
+    MalformedRequest,
+    /// The State is of no challenge that waits for an answer of this client.
+    StateUnknown,
+    /// The State is of a challenge for another user.
+    WrongState,
+    /// No user has the name, or the password is wrong.
+    AccessDenied,
+    /// The user has as many sessions as the configuration allows.
+    SessionLimit,
+    /// Each address of the user's pool belongs to a session.
+    NoAddressLeft,
+    /// There are as many sessions or challenges as there may be, or no number is left.
+    ServerFull,
+}
+
+impl Denial {
+    /// The text that is sent as the Reply-Message.
+    pub fn text(self) -> &'static str
+        ensures { result.now ≡ denial_text self }
+    {
+        match self {
+            Denial::EapNotSupported => "eap not supported",
+            Denial::MalformedRequest => "malformed request",
+            Denial::StateUnknown => "state unknown",
+            Denial::WrongState => "wrong state",
+            Denial::AccessDenied => "access denied",
+            Denial::SessionLimit => "session limit",
+            Denial::NoAddressLeft => "no address left",
+            Denial::ServerFull => "server full",
+        }
+    }
+}
+
+impl From<Refusal> for Denial {
+    ghost from_gives = { λ refusal denial. denial ≡ denial_of refusal };
+
+    fn from(refusal: Refusal) -> Denial {
+        match refusal {
+            Refusal::SessionLimit => Denial::SessionLimit,
+            Refusal::NoAddress => Denial::NoAddressLeft,
+            Refusal::Full | Refusal::NoMemory => Denial::ServerFull,
+        }
+    }
+}

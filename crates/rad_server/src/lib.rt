@@ -1,0 +1,23 @@
+//! The server of one thread: from a state, an admitted request and its moment to the answer and the next state (RFC 2865, RFC 2866,
+//! RFC 5997).
+//!
+//! `Server::step` plans first: `plan` only reads, and makes the reply's body. Then memory is made ready, and then `commit`, which
+//! can't fail, changes the state. So without memory the state is the one before. Nothing here reads a clock or a socket.
+//!
+//! Other crates rest on this: an answer and the state after it are those of `specs/Steps.antt`, and an answer that is sent can be
+//! sealed.
+#![tactic(auto)]
+
+mod access;
+mod accounting;
+mod answer;
+mod credentials;
+mod denial;
+mod occurrence;
+mod plan;
+mod reply;
+mod server;
+
+pub use answer::Answer;
+pub use denial::Denial;
+pub use server::Server;

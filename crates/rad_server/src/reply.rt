@@ -1,0 +1,152 @@
+//! What replies say.
+ghost use Rattle.std.specs.Prelude.{◌≡◌, ◌≤◌, [], IfOk, IfSome, OnOk, length, option_map};
+ghost use Rattle.rad_packet.specs.Attributes.{of_kind, value_max};
+ghost use Rattle.rad_packet.specs.Codes.{code_access_accept};
+ghost use Rattle.rad_packet.specs.Types.{type_proxy_state};
+ghost use Rattle.rad_auth.specs.Admission.{proxy_states_max, proxy_states_size};
+ghost use Rattle.rad_auth.specs.Sealing.{IsReply};
+ghost use Rattle.rad_server.specs.Plans.{access_front, with_attributes};
+ghost use Rattle.rad_server.specs.Replies.{accept_attributes, access_accept, access_reject, access_reply, accounting_response, attribute_if_any, class_of, four_octets, status_reply};
+
+use crate::denial::Denial;
+use rad_auth::Door;
+use rad_config::User;
+use rad_packet::attribute::{
+    CLASS, FRAMED_IP_ADDRESS, FRAMED_PROTOCOL, MESSAGE_AUTHENTICATOR, PROXY_STATE, REPLY_MESSAGE,
+    SERVICE_TYPE, SESSION_TIMEOUT,
+};
+use rad_packet::code::{ACCESS_ACCEPT, ACCESS_REJECT, ACCOUNTING_RESPONSE};
+use rad_packet::{Body, Packet};
+use rad_pool::Grant;
+use std::alloc::{AllocError, Global};
+
+/// The Access-Accept of a session.
+#[tactic(auto, using(crate::proofs::ReplyLemmas::accept_is_reply))]
+pub(crate) fn access_accept(
+    alloc: Global,
+    user: &User,
+    grant: Grant,
+    packet: &Packet,
+) -> Result<Body, AllocError>
+    requires message { IfSome user.now.message (λ message. length message ≤ value_max) }
+    requires proxy_states { proxy_states_size packet.now ≤ proxy_states_max }
+    ensures value { IfOk result (λ body. body ≡ access_accept user.now grant packet.now) }
+    ensures reply { IfOk result IsReply }
+{
+    let mut body = grant_body(alloc, user, grant)?;
+    copy_proxy_states(packet, &mut body)?;
+    Ok(body)
+}
+
+/// The Access-Reject of a denial.
+#[tactic(auto, using(crate::proofs::ReplyLemmas::reject_is_reply))]
+pub(crate) fn access_reject(
+    alloc: Global,
+    denial: Denial,
+    packet: &Packet,
+) -> Result<Body, AllocError>
+    requires { proxy_states_size packet.now ≤ proxy_states_max }
+    ensures value { IfOk result (λ body. body ≡ access_reject denial packet.now) }
+    ensures reply { IfOk result IsReply }
+{
+    let mut body = access_body(alloc, ACCESS_REJECT)?;
+    body.push(REPLY_MESSAGE, denial.text().as_bytes())?;
+    copy_proxy_states(packet, &mut body)?;
+    Ok(body)
+}
+
+/// The Accounting-Response.
+#[tactic(auto, using(crate::proofs::ReplyLemmas::accounting_is_reply))]
+pub(crate) fn accounting_response(alloc: Global, packet: &Packet) -> Result<Body, AllocError>
+    requires { proxy_states_size packet.now ≤ proxy_states_max }
+    ensures value { IfOk result (λ body. body ≡ accounting_response packet.now) }
+    ensures reply { IfOk result IsReply }
+{
+    let mut body = Body::new(alloc, ACCOUNTING_RESPONSE);
+    copy_proxy_states(packet, &mut body)?;
+    Ok(body)
+}
+
+/// The reply to a Status-Server, by the server's port.
+pub(crate) fn status_reply(alloc: Global, door: Door, packet: &Packet) -> Result<Body, AllocError>
+    requires { proxy_states_size packet.now ≤ proxy_states_max }
+    ensures value { IfOk result (λ body. body ≡ status_reply door packet.now) }
+    ensures reply { IfOk result IsReply }
+{
+    match door {
+        Door::Auth => status_accept(alloc, packet),
+        Door::Acct => accounting_response(alloc, packet),
+    }
+}
+
+// The Access-Accept of a Status-Server.
+#[tactic(auto, using(crate::proofs::ReplyLemmas::status_is_reply))]
+fn status_accept(alloc: Global, packet: &Packet) -> Result<Body, AllocError>
+    requires { proxy_states_size packet.now ≤ proxy_states_max }
+    ensures value { IfOk result (λ body. body ≡ access_reply code_access_accept [] packet.now) }
+    ensures reply { IfOk result IsReply }
+{
+    let mut body = access_body(alloc, ACCESS_ACCEPT)?;
+    copy_proxy_states(packet, &mut body)?;
+    Ok(body)
+}
+
+// The front of a reply to an Access-Request. Sealing puts in the octets of its Message-Authenticator.
+fn access_body(alloc: Global, code: u8) -> Result<Body, AllocError>
+    ensures { IfOk result (λ body. body ≡ access_front code) }
+{
+    let mut body = Body::new(alloc, code);
+    body.push(MESSAGE_AUTHENTICATOR, &[0; 16])?;
+    Ok(body)
+}
+
+// An Access-Accept, but for the Proxy-States.
+fn grant_body(alloc: Global, user: &User, grant: Grant) -> Result<Body, AllocError>
+    requires { IfSome user.now.message (λ message. length message ≤ value_max) }
+    ensures { IfOk result (λ body. body
+        ≡ with_attributes (accept_attributes user.now grant) (access_front code_access_accept)) }
+{
+    let mut body = access_body(alloc, ACCESS_ACCEPT)?;
+    push_integer(&mut body, SERVICE_TYPE, user.service)?;
+    push_integer(&mut body, FRAMED_PROTOCOL, user.protocol)?;
+    push_integer(&mut body, FRAMED_IP_ADDRESS, grant.address)?;
+    push_integer(&mut body, SESSION_TIMEOUT, user.timeout)?;
+    if let Some(message) = &user.message {
+        body.push(REPLY_MESSAGE, message.octets())?;
+    }
+    body.push(CLASS, &class_of(grant.number))?;
+    Ok(body)
+}
+
+// Appends an integer or an address, if there is one.
+fn push_integer(body: &mut Body, kind: u8, number: Option<u32>) -> Result<(), AllocError>
+    ensures { OnOk result (body.new ≡
+        with_attributes (attribute_if_any kind (option_map four_octets number)) body.old) }
+{
+    match number {
+        None => Ok(()),
+        Some(number) => body.push(kind, &number.to_be_bytes()),
+    }
+}
+
+// The Class of the session of this number.
+fn class_of(number: u64) -> [u8; 12]
+    ensures { result ≡ class_of number }
+{
+    let [a, b, c, d, e, f, g, h] = number.to_be_bytes();
+    [b'R', b'A', b'P', b'1', a, b, c, d, e, f, g, h]
+}
+
+// Appends copies of the packet's Proxy-State attributes.
+fn copy_proxy_states(packet: &Packet, body: &mut Body) -> Result<(), AllocError>
+    ensures { OnOk result (body.new ≡
+        with_attributes (of_kind type_proxy_state packet.now.attributes) body.old) }
+{
+    let mut rest = packet.attributes();
+    while let Some(attribute) = rest.next() {
+        if attribute.kind == PROXY_STATE {
+            body.push(attribute.kind, attribute.value)?;
+        }
+    }
+    Ok(())
+}

@@ -1,0 +1,127 @@
+//! The server, and its step.
+ghost use Rattle.std.specs.Prelude.{◌≡◌, ◌≤◌, ◌↔◌, IfOk, IsTrue, OnErr};
+ghost use Rattle.rad_auth.specs.Admission.{IsAdmitted};
+ghost use Rattle.rad_config.specs.Spans.{moment_max};
+ghost use Rattle.rad_server.specs.States.{opening};
+ghost use Rattle.rad_server.specs.Steps.{IsSealable, step};
+
+use crate::answer::Answer;
+use crate::plan::{commit, make_room, plan_step};
+use rad_auth::{Request, admitted_is_answerable};
+use rad_config::Config;
+use rad_pool::Sessions;
+use std::alloc::{AllocError, Global};
+use std::marker::Model;
+
+/// A server: its configuration, and what it remembers. Contracts see both.
+///
+/// Moments are in milliseconds. The clock is the latest moment so far.
+#[derive(Drop)]
+pub struct Server<'c> {
+    alloc: Global,
+    config: &'c Config,
+    clock: u64,
+    sessions: Sessions,
+}
+
+impl<'c> Model for Server<'c> {
+    ghost use Rattle.rad_server.specs.Plans.{state_with};
+    ghost use Rattle.rad_server.specs.Lawful.{IsLawful};
+    ghost use Rattle.rad_server.specs.Servers.{Server};
+
+    ghost Value = { Server };
+
+    ghost view = { λ server. record {
+      configuration = server.config.now;
+      state = state_with server.clock server.sessions.table;
+    } };
+
+    ghost invariant = { λ server. IsLawful server.config.now (state_with server.clock server.sessions.table) };
+}
+
+impl<'c> Server<'c> {
+    /// A server that remembers nothing yet.
+    pub fn open(alloc: Global, config: &'c Config) -> Result<Server<'c>, AllocError>
+        ensures configuration { IfOk result (λ server. server.configuration ≡ config.now) }
+        ensures state { IfOk result (λ server. server.state ≡ opening config.now) }
+    {
+        let sessions = Sessions::open(alloc, config)?;
+        Ok(Server {
+            alloc,
+            config,
+            clock: 0,
+            sessions,
+        })
+    }
+
+    /// The latest moment so far, in milliseconds; 0 before the first request.
+    pub fn clock(&self) -> u64
+        ensures { result ≡ self.now.state.clock }
+    {
+        self.clock
+    }
+
+    /// The sessions.
+    pub fn sessions(&self) -> &Sessions
+        ensures { result.now.table ≡ self.now.state.table }
+    {
+        &self.sessions
+    }
+
+    /// Answers an admitted request, and goes on to the next state.
+    ///
+    /// The request was admitted with the clients of the server's configuration. The moment is in milliseconds, at most `MOMENT_MAX`, and
+    /// may be earlier than the clock, which doesn't go back. The draw becomes part of the State of a challenge. If memory is refused,
+    /// nothing has changed.
+    pub fn step(
+        &mut self,
+        request: &Request,
+        moment: u64,
+        draw: &[u8; 16],
+    ) -> Result<Answer, AllocError>
+        requires moment { moment ≤ moment_max }
+        requires admitted { IsAdmitted self.old.configuration.clients request.now }
+        ensures answered { IfOk result (λ answer.
+            step self.old.configuration self.old.state request.now moment draw.now
+            ≡ (answer, self.new.state)) }
+        ensures sealable { IfOk result IsSealable }
+        ensures configuration { self.new.configuration ≡ self.old.configuration }
+        ensures unchanged { OnErr result (self.new ≡ self.old) }
+    {
+        admitted_is_answerable(self.config.clients(), request);
+        let Server {
+            alloc,
+            config,
+            clock,
+            sessions,
+        } = self;
+        let now = (*clock).max(moment);
+        let plan = plan_step(*alloc, config, sessions, now, request)?;
+        make_room(sessions, &plan.change)?;
+        commit(config, sessions, now, request.client, &plan.change);
+        *clock = now;
+        Ok(Answer::Send(plan.body))
+    }
+
+    /// An equal server over the same configuration.
+    pub fn copy(&self) -> Result<Server<'c>, AllocError>
+        ensures { IfOk result (λ copy. copy ≡ self.now) }
+    {
+        let sessions = self.sessions.copy()?;
+        Ok(Server {
+            alloc: self.alloc,
+            config: self.config,
+            clock: self.clock,
+            sessions,
+        })
+    }
+
+    /// Whether the other server has an equal configuration and remembers the same.
+    pub fn same(&self, other: &Server) -> bool
+        ensures { IsTrue result ↔ (self.now ≡ other.now) }
+    {
+        self.clock == other.clock
+            && self.sessions.same(&other.sessions)
+            && self.config.same(other.config)
+    }
+}
