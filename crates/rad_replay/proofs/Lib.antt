@@ -1,4 +1,3 @@
 pub mod LineLemmas
 pub mod RunLemmas
-pub mod StepLemmas
 pub mod TranscriptLemmas

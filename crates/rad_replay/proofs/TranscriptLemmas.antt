@@ -4,9 +4,8 @@ use Rattle.std.specs.Io.KnownBytes.{Appends}
 use Rattle.std.proofs.lemmas.Bool.{cases_Bool, eqb-true, eq-eqb, ne_eqb, or_cases}
 use Rattle.std.proofs.lemmas.List.{append_assoc, append-nil, length_push}
 use Rattle.rad_config.specs.Configurations.{Configuration}
-use Rattle.rad_replay.specs.declared.step.State.{State}
+use Rattle.rad_server.specs.States.{State, opening}
 use Rattle.rad_replay.specs.DatagramLines.{TimedDatagram, datagram_of_line}
-use Rattle.rad_replay.specs.Steps.{opening}
 use Rattle.rad_replay.specs.Transcripts.{AnswersLines, datagrams_of, first_malformed, until_malformed, number_if_malformed, is_among, line_of, replay, written}
 
 -- ---- one more datagram
@@ -55,9 +54,9 @@ pub record Progress (configuration : Configuration) (lines left : List (List ℕ
   pub count : length answered ≡ number
   pub all : datagrams_of lines ≡ answered ++ datagrams_of left
   pub first : first_malformed 1 lines ≡ first_malformed (number + 1) left
-  pub replayed : replay configuration without 1 opening answered ≡ (text, state)
+  pub replayed : replay configuration without 1 (opening configuration) answered ≡ (text, state)
 
-pub begins : (configuration : Configuration) (lines : List (List ℕ)) → Progress configuration lines lines 0 opening []
+pub begins : (configuration : Configuration) (lines : List (List ℕ)) → Progress configuration lines lines 0 (opening configuration) []
 unfolding replay
 begins configuration lines = record {
   answered = [];
@@ -87,11 +86,11 @@ goes_on configuration lines left line number old new text more timed so_far foun
     place = omega (arith, so_far.count)
 
     -- a run, with or without memory for this datagram
-    replayed : (without : List ℕ) (has_memory : Bool) → replay configuration without 1 opening so_far.answered ≡ (text, old) → not (is_among (number + 1) without) ≡ has_memory
-        → line_of configuration has_memory (number + 1) old timed ≡ (more, new) → replay configuration without 1 opening (so_far.answered ++ timed ∷ []) ≡ (text ++ more, new)
+    replayed : (without : List ℕ) (has_memory : Bool) → replay configuration without 1 (opening configuration) so_far.answered ≡ (text, old) → not (is_among (number + 1) without) ≡ has_memory
+        → line_of configuration has_memory (number + 1) old timed ≡ (more, new) → replay configuration without 1 (opening configuration) (so_far.answered ++ timed ∷ []) ≡ (text ++ more, new)
     replayed without has_memory before memory e =
-        replay-push configuration without 1 opening so_far.answered timed
-        ∙ ap (λ (n : ℕ). push_line configuration without n (replay configuration without 1 opening so_far.answered) timed) place
+        replay-push configuration without 1 (opening configuration) so_far.answered timed
+        ∙ ap (λ (n : ℕ). push_line configuration without n (replay configuration without 1 (opening configuration) so_far.answered) timed) place
         ∙ ap (λ (r : List ℕ × State). push_line configuration without (number + 1) r timed) before
         ∙ ap (λ (b : Bool). (text ++ (line_of configuration b (number + 1) old timed).0, (line_of configuration b (number + 1) old timed).1)) memory
         ∙ ap (λ (r : List ℕ × State). (text ++ r.0, r.1)) e
@@ -116,7 +115,7 @@ goes_on configuration lines left line number old new text more timed so_far foun
       count = count;
       all = all;
       first = first;
-      replayed = replayed ((number + 1) ∷ so_far.without) false (replay-later configuration so_far.without (number + 1) 1 opening so_far.answered (omega (arith, so_far.count)) ∙ so_far.replayed) (ap (λ (b : Bool). not (b || is_among (number + 1) so_far.without)) (eq-eqb (number + 1) (number + 1) refl)) e;
+      replayed = replayed ((number + 1) ∷ so_far.without) false (replay-later configuration so_far.without (number + 1) 1 (opening configuration) so_far.answered (omega (arith, so_far.count)) ∙ so_far.replayed) (ap (λ (b : Bool). not (b || is_among (number + 1) so_far.without)) (eq-eqb (number + 1) (number + 1) refl)) e;
     }
 
 -- ---- the end of a run

@@ -3,5 +3,4 @@ pub mod DatagramLines
 pub mod Lines
 pub mod ReadLines
 pub mod Replays
-pub mod Steps
 pub mod Transcripts

@@ -6,9 +6,10 @@ use Rattle.rad_auth.specs.declared.arrival.Arrival.{Arrival}
 use Rattle.rad_auth.specs.declared.arrival.Request.{Request}
 use Rattle.rad_replay.specs.declared.run_fault.RunFault.{RunFault}
 use Rattle.rad_replay.specs.declared.run_fault.RunFault.TheVariants as run
-use Rattle.rad_replay.specs.declared.step.State.{State}
 use Rattle.rad_replay.specs.DatagramLines.{TimedDatagram}
-use Rattle.rad_replay.specs.Transcripts.{AnswersLines, line_of, line_of_verdict}
+use Rattle.rad_server.specs.States.{State}
+use Rattle.rad_replay.specs.Transcripts.{AnswersLines, answer_line, line_of, line_of_verdict, nomemory_line}
+use Rattle.rad_server.specs.declared.answer.Answer.{Answer}
 
 -- What a replay keeps from line to line: its configuration, the server's state, and the line of the last datagram.
 pub record Replay : Type 0 where
@@ -19,6 +20,11 @@ pub record Replay : Type 0 where
 -- these octets are first
 abbrev pub IsFirstOf : List (List ℕ) → List ℕ → Type 0
 IsFirstOf frames octets = (others : List (List ℕ)) × (frames ≡ octets ∷ others)
+
+-- the line of a request, by what its step returned
+abbrev pub line_of_result : {E : Type 0} → Configuration → ℕ → Request → Result Answer E → List ℕ
+line_of_result configuration number request (Ok answer) = answer_line configuration number request answer
+line_of_result configuration number request (Err refused) = nomemory_line number
 
 -- the new line is that of the request with this number, and the new state the one after it; with memory or without
 abbrev pub IsLineOfRequest : ℕ → ℕ → Request → Replay → Replay → Type 0

@@ -16,13 +16,13 @@ use Rattle.rad_config.specs.Configurations.{Configuration}
 use Rattle.rad_config.specs.declared.config_fault.ConfigFault.TheVariants as fault
 use Rattle.rad_replay.specs.declared.run_fault.RunFault.{RunFault}
 use Rattle.rad_replay.specs.declared.run_fault.RunFault.TheVariants as run
-use Rattle.rad_replay.specs.declared.step.Answer.{Answer}
-use Rattle.rad_replay.specs.declared.step.Answer.TheVariants.{Send, Busy}
-use Rattle.rad_replay.specs.declared.step.State.{State}
 use Rattle.rad_replay.specs.Configuration.{configuration_of_octets}
 use Rattle.rad_replay.specs.DatagramLines.{TimedDatagram, datagram_of_line}
 use Rattle.rad_replay.specs.Lines.{line_feed, lines_of, divided, text_of, datagram_lines}
-use Rattle.rad_replay.specs.Steps.{opening, step}
+use Rattle.rad_server.specs.States.{State, opening}
+use Rattle.rad_server.specs.Steps.{step}
+use Rattle.rad_server.specs.declared.answer.Answer.{Answer}
+use Rattle.rad_server.specs.declared.answer.Answer.TheVariants.{Send, Busy}
 
 -- ---- the line for one datagram
 
@@ -86,7 +86,7 @@ replay configuration without_memory number state (timed ∷ others) =
 
 -- what is written for datagrams, from the opening state
 abbrev pub written : Configuration → List ℕ → List TimedDatagram → List ℕ
-written configuration without_memory datagrams = (replay configuration without_memory 1 opening datagrams).0
+written configuration without_memory datagrams = (replay configuration without_memory 1 (opening configuration) datagrams).0
 
 -- ---- a whole run
 

@@ -4,24 +4,23 @@ ghost use Rattle.rad_auth.specs.Admission.{HoldsAdmitted, IsAdmitted, IsAnswerab
 ghost use Rattle.rad_auth.specs.Datagrams.{datagram_of};
 ghost use Rattle.rad_auth.specs.Sealing.{IsReply};
 ghost use Rattle.rad_config.specs.Spans.{moment_max};
-ghost use Rattle.rad_replay.specs.Steps.{opening};
-ghost use Rattle.rad_replay.specs.Replays.{IsFirstOf, IsLineOf, IsLineOfRequest, datagram_arrived};
+ghost use Rattle.rad_server.specs.States.{opening};
+ghost use Rattle.rad_server.specs.Steps.{IsSealable};
+ghost use Rattle.rad_replay.specs.Replays.{IsFirstOf, IsLineOf, IsLineOfRequest, datagram_arrived, line_of_result};
 ghost use Rattle.rad_replay.specs.Transcripts.{draw_of, sealed_reply};
 
 use crate::output_line::OutputLine;
-use crate::step::{Answer, State};
 use rad_auth::{Arrival, Clients, Discard, Job, Request, admitted_is_answerable, check8, seal8};
 use rad_config::Config;
 use rad_packet::{Body, Frame};
+use rad_server::{Answer, Server};
 use std::alloc::{AllocError, Global};
 use std::marker::Model;
 
-/// What a replay keeps from line to line: the configuration, the server's state, the line of the last datagram, and frames to
-/// seal in.
+/// What a replay keeps from line to line: the server, the line of the last datagram, and frames to seal in.
 #[derive(Drop)]
 pub struct Replay<'a> {
-    config: &'a Config,
-    state: State,
+    server: Server<'a>,
     line: OutputLine,
     frames: [Frame; 8],
 }
@@ -31,14 +30,14 @@ impl<'a> Model for Replay<'a> {
 
     ghost Value = { Replay };
 
-    ghost view = { λ replay. record { configuration = replay.config.now; state = replay.state; line = replay.line } };
+    ghost view = { λ replay. record { configuration = replay.server.configuration; state = replay.server.state; line = replay.line } };
 }
 
 impl<'a> Replay<'a> {
     /// The opening state, and all the memory that a line needs beside that of its step.
     pub fn open(alloc: Global, config: &'a Config) -> Result<Replay<'a>, AllocError>
         ensures configuration { IfOk result (λ replay. replay.configuration ≡ config.now) }
-        ensures state { IfOk result (λ replay. replay.state ≡ opening) }
+        ensures state { IfOk result (λ replay. replay.state ≡ opening config.now) }
     {
         let line = OutputLine::new(alloc)?;
         let frames = [
@@ -51,9 +50,9 @@ impl<'a> Replay<'a> {
             Frame::new(alloc)?,
             Frame::new(alloc)?,
         ];
+        let server = Server::open(alloc, config)?;
         Ok(Replay {
-            config,
-            state: State::opening(),
+            server,
             line,
             frames,
         })
@@ -67,34 +66,46 @@ impl<'a> Replay<'a> {
     }
 
     /// Makes the line for a datagram, and goes on to the next state.
-    pub fn answer(&mut self, alloc: Global, number: u64, moment: u64, arrival: Arrival)
+    pub fn answer(&mut self, number: u64, moment: u64, arrival: Arrival)
         requires { moment ≤ moment_max }
         ensures line { IsLineOf number (datagram_arrived moment arrival.entry) self.old self.new }
         ensures configuration { self.new.configuration ≡ self.old.configuration }
     {
-        match admit(self.config.clients(), arrival) {
+        match admit(self.server.config().clients(), arrival) {
             Err(discard) => self.line.write_drop(number, discard),
-            Ok(request) => self.answer_request(alloc, number, moment, &request),
+            Ok(request) => self.answer_request(number, moment, &request),
         }
     }
 
-    fn answer_request(&mut self, alloc: Global, number: u64, moment: u64, request: &Request)
+    fn answer_request(&mut self, number: u64, moment: u64, request: &Request)
         requires moment { moment ≤ moment_max }
         requires admitted { IsAdmitted self.old.configuration.clients request.now }
         ensures line { IsLineOfRequest number moment request.now self.old self.new }
         ensures configuration { self.new.configuration ≡ self.old.configuration }
     {
+        let answer = self.server.step(request, moment, &draw_of(number));
+        self.write_answer(number, request, answer);
+    }
+
+    // Makes the line of an answer, or that there was no memory for one.
+    fn write_answer(&mut self, number: u64, request: &Request, answer: Result<Answer, AllocError>)
+        requires admitted { IsAdmitted self.old.configuration.clients request.now }
+        requires sealable { IfOk answer IsSealable }
+        ensures line { self.new.line
+            ≡ line_of_result self.old.configuration number request.now answer }
+        ensures state { self.new.state ≡ self.old.state }
+        ensures configuration { self.new.configuration ≡ self.old.configuration }
+    {
         let Replay {
-            config,
-            state,
+            server,
             line,
             frames,
         } = self;
-        match state.step(alloc, config, request, moment, &draw_of(number)) {
+        match answer {
             Err(_) => line.write_nomemory(number),
             Ok(Answer::Busy) => line.write_busy(number),
             Ok(Answer::Send(body)) => {
-                seal(config.clients(), request, &body, frames);
+                seal(server.config().clients(), request, &body, frames);
                 let [sealed, ..] = &*frames;
                 line.write_reply(number, sealed.octets());
             }

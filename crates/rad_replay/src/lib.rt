@@ -14,7 +14,6 @@ mod make;
 mod output_line;
 mod replay;
 mod run_fault;
-mod step;
 
 pub use datagram_line::{DatagramLine, read_datagram_line};
 pub use lines::{DatagramLines, divide};

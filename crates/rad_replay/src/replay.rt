@@ -128,7 +128,7 @@ fn answer_lines<W: Write>(
             door: found.door,
             octets: &octets[..found.len],
         };
-        replay.answer(alloc, number, found.moment, arrival);
+        replay.answer(number, found.moment, arrival);
         write_line(writer, replay.line())?;
     }
     Ok(())

@@ -13,7 +13,7 @@ use Rattle.rad_auth.specs.Sealing.{IsReply}
 use Rattle.rad_config.specs.declared.user.User.{User}
 use Rattle.rad_pool.specs.declared.grant.Grant.{Grant}
 use Rattle.rad_server.specs.Denials.{denial_text}
-use Rattle.rad_server.specs.Replies.{accept_attributes, access_accept, access_reject, access_reply, accounting_response, attribute, attribute_if_any, class_of, four_octets}
+use Rattle.rad_server.specs.Replies.{accept_attributes, access_accept, access_reject, access_reply, accounting_response, attribute, attribute_if_any, class_value, four_octets}
 use Rattle.rad_server.specs.declared.denial.Denial.{Denial}
 use Rattle.rad_server.specs.declared.denial.Denial.TheVariants.{EapNotSupported, MalformedRequest, StateUnknown, WrongState, AccessDenied, SessionLimit, NoAddressLeft, ServerFull}
 
@@ -112,9 +112,9 @@ accept_is_reply user grant p message le = access_is_reply 2 (accept_attributes u
 
     own : IsOwn 474 (accept_attributes user grant)
     own =
-        own-append 279 14 474 _ (attribute 25 (class_of grant.number)) (omega arith)
+        own-append 279 14 474 _ (attribute 25 (class_value grant.number)) (omega arith)
         (own-append 24 255 279 _ (attribute_if_any 18 user.message) (omega arith) integers (own-text 18 user.message (λ e. omega (arith, e)) message))
-        (own-one 25 12 (class_of grant.number) (λ e. omega (arith, e)) (omega arith))
+        (own-one 25 12 (class_value grant.number) (λ e. omega (arith, e)) (omega arith))
 
 pub status_is_reply : (p : Packet) → proxy_states_size p ≤ proxy_states_max → IsReply (access_reply 2 [] p)
 status_is_reply p le = access_is_reply 2 [] p (inl refl) (record { size = omega arith; none = refl }) le

@@ -14,9 +14,9 @@ use Rattle.rad_config.specs.declared.user.User.{User}
 use Rattle.rad_pool.specs.Grants.{granted, last_number, with_session}
 use Rattle.rad_pool.specs.declared.grant.Grant.{Grant}
 use Rattle.rad_pool.specs.declared.grant.Refusal.{Refusal}
-use Rattle.rad_server.specs.Credentials.{Credentials, SentPassword, Hidden, Response, credentials_in}
+use Rattle.rad_server.specs.Credentials.{Credentials, SentPassword, UserPassword, ChapPassword, credentials_in}
 use Rattle.rad_server.specs.Denials.{denial_of}
-use Rattle.rad_server.specs.Replies.{access_accept, access_challenge, access_reject, state_of}
+use Rattle.rad_server.specs.Replies.{access_accept, access_challenge, access_reject, state_value}
 use Rattle.rad_server.specs.States.{Challenge, State}
 use Rattle.rad_server.specs.declared.denial.Denial.{Denial}
 use Rattle.rad_server.specs.declared.denial.Denial.TheVariants.{StateUnknown, WrongState, AccessDenied, ServerFull}
@@ -44,22 +44,22 @@ user_at configuration place = unwrap_or (slice_get configuration.users place) (r
 })
 
 -- whether this password was sent in a request; without a CHAP-Challenge, the challenge is the Request Authenticator
-abbrev pub is_password : Configuration → Request → SentPassword → List ℕ → Bool
-is_password configuration request (Hidden value) password =
+abbrev pub password_matches : Configuration → Request → SentPassword → List ℕ → Bool
+password_matches configuration request (UserPassword value) password =
     password_right (secret_at configuration.clients request.client) request.packet.authenticator value password
-is_password configuration request (Response value challenge) password =
+password_matches configuration request (ChapPassword value challenge) password =
     chap_right value password (unwrap_or challenge request.packet.authenticator)
 
 -- the same of the answer to a challenge, if the user has one
-abbrev pub is_answer : Configuration → Request → SentPassword → Option (List ℕ) → Bool
-is_answer configuration request sent None = false
-is_answer configuration request sent (Some answer) = is_password configuration request sent answer
+abbrev pub answer_matches : Configuration → Request → SentPassword → Option (List ℕ) → Bool
+answer_matches configuration request sent None = false
+answer_matches configuration request sent (Some answer) = password_matches configuration request sent answer
 
 -- the user whose name and password were sent
 unfoldable pub user_by_password : Configuration → Request → Credentials → Result ℕ Denial
 user_by_password configuration request credentials = do
   user ← ok_or (user_place configuration.users credentials.name) AccessDenied
-  right ← refuse_if (not (is_password configuration request credentials.password (user_at configuration user).password)) AccessDenied
+  right ← refuse_if (not (password_matches configuration request credentials.password (user_at configuration user).password)) AccessDenied
   Ok user
 
 -- ---- challenges
@@ -69,14 +69,14 @@ abbrev pub challenges_max : ℕ
 challenges_max = 0
 
 -- whether a State is that of a challenge which this client was sent
-abbrev pub is_state_of : ℕ → List ℕ → Challenge → Bool
-is_state_of client value challenge =
-    (challenge.client == client) && pointwise ◌==◌ value (state_of challenge.number challenge.draw)
+abbrev pub has_state_value : ℕ → List ℕ → Challenge → Bool
+has_state_value client value challenge =
+    (challenge.client == client) && pointwise ◌==◌ value (state_value challenge.number challenge.draw)
 
 -- the challenge that is answered with this State, if there is one
 abbrev pub answered_challenge : ℕ → Option (List ℕ) → List Challenge → Option Challenge
 answered_challenge client None challenges = None
-answered_challenge client (Some value) challenges = find (is_state_of client value) challenges
+answered_challenge client (Some value) challenges = find (has_state_value client value) challenges
 
 -- the state without the challenge that is answered
 abbrev pub without_challenge : Option Challenge → State → State
@@ -93,12 +93,12 @@ unfoldable pub user_by_answer : Configuration → Request → Option Challenge �
 user_by_answer configuration request answered credentials = do
   challenge ← ok_or answered StateUnknown
   own ← refuse_if (not (is_name_of configuration challenge.user credentials.name)) WrongState
-  right ← refuse_if (not (is_answer configuration request credentials.password (user_at configuration challenge.user).answer)) AccessDenied
+  right ← refuse_if (not (answer_matches configuration request credentials.password (user_at configuration challenge.user).answer)) AccessDenied
   Ok challenge.user
 
 -- a challenge for a user, if one more may wait and there is a number for it
-unfoldable pub challenge_for : State → ℕ → Result Decision Denial
-challenge_for state user = do
+unfoldable pub challenge_or_denial : State → ℕ → Result Decision Denial
+challenge_or_denial state user = do
   fits ← refuse_if (nat_le challenges_max (length state.challenges) || not (nat_le state.next_challenge last_number)) ServerFull
   Ok (Challenged user)
 
@@ -135,7 +135,7 @@ decision_on_answer configuration state request answered credentials = do
 unfoldable pub decision_on_password : Configuration → State → Request → Credentials → Result Decision Denial
 decision_on_password configuration state request credentials = do
   user ← user_by_password configuration request credentials
-  if is_some (user_at configuration user).challenge then challenge_for state user else session_for configuration state user
+  if is_some (user_at configuration user).challenge then challenge_or_denial state user else session_for configuration state user
 
 abbrev pub decision : Configuration → State → Request → Option Challenge → Credentials → Result Decision Denial
 decision configuration state request answered credentials =

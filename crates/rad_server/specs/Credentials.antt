@@ -1,6 +1,6 @@
 -- With what an Access-Request asks for access (RFC 2865, section 4.1): a User-Name (section 5.1), a User-Password (section 5.2)
 -- or a CHAP-Password (section 5.3), perhaps a CHAP-Challenge (section 5.40), and perhaps the State of a challenge that it
--- answers (section 5.24).
+-- answers (section 5.24). That there must be a name and a password, beside a State too, is our choice.
 use Rattle.std.specs.Prelude.{ℕ, ◌==◌, nat_le, not, if◌then◌else◌, List, length, Option, Some, None, Result, Ok, Err}
 use Rattle.rad_packet.specs.Attributes.{Attribute, has}
 use Rattle.rad_packet.specs.Ladders.{◌>>=◌, refuse_if}
@@ -13,8 +13,8 @@ use Rattle.rad_server.specs.declared.denial.Denial.TheVariants.{EapNotSupported,
 
 -- a password as it was sent: hidden, or as the response to a CHAP-Challenge, if that was sent too
 pub data SentPassword : Type 0 where
-  Hidden : List ℕ → SentPassword
-  Response : List ℕ → Option (List ℕ) → SentPassword
+  UserPassword : List ℕ → SentPassword
+  ChapPassword : List ℕ → Option (List ℕ) → SentPassword
 
 pub record Credentials : Type 0 where
   pub name : List ℕ
@@ -38,20 +38,20 @@ chap_challenge_in (Once value) = if nat_le chap_challenge_min (length value) the
 chap_challenge_in Repeated = Err MalformedRequest
 
 -- a User-Password
-abbrev pub hidden_in : List ℕ → Result SentPassword Denial
-hidden_in value = if value_fits value then Ok (Hidden value) else Err MalformedRequest
+abbrev pub user_password_in : List ℕ → Result SentPassword Denial
+user_password_in value = if value_fits value then Ok (UserPassword value) else Err MalformedRequest
 
 -- a CHAP-Password beside its CHAP-Challenge
-unfoldable pub response_in : List ℕ → Occurrence → Result SentPassword Denial
-response_in value challenge = do
+unfoldable pub chap_password_in : List ℕ → Occurrence → Result SentPassword Denial
+chap_password_in value challenge = do
   fits ← refuse_if (not (length value == chap_value_size)) MalformedRequest
   against ← chap_challenge_in challenge
-  Ok (Response value against)
+  Ok (ChapPassword value against)
 
 -- one password, either way; beside a User-Password the CHAP-Challenge isn't looked at
 abbrev pub password_in : Occurrence → Occurrence → Occurrence → Result SentPassword Denial
-password_in (Once value) Absent challenge = hidden_in value
-password_in Absent (Once value) challenge = response_in value challenge
+password_in (Once value) Absent challenge = user_password_in value
+password_in Absent (Once value) challenge = chap_password_in value challenge
 password_in hidden response challenge = Err MalformedRequest
 
 -- at most one State

@@ -16,10 +16,10 @@ use Rattle.rad_pool.specs.Meant.{meant}
 use Rattle.rad_pool.specs.Sessions.{Table, started, stopped}
 use Rattle.rad_server.specs.Access.{Decision, Granted, access, decided}
 use Rattle.rad_server.specs.Accounting.{account, changed, class_number, class_size, first_integer}
-use Rattle.rad_server.specs.Credentials.{Credentials, SentPassword, Hidden, Response}
+use Rattle.rad_server.specs.Credentials.{Credentials, SentPassword, UserPassword, ChapPassword}
 use Rattle.rad_server.specs.Occurrences.{Occurrence, Absent, Once, Repeated, occurrence}
 use Rattle.rad_server.specs.Replies.{attribute, class_prefix}
-use Rattle.rad_server.specs.States.{State, live}
+use Rattle.rad_server.specs.States.{State, without_expired}
 use Rattle.rad_server.specs.Steps.{answer}
 use Rattle.rad_server.specs.declared.access.NewSession.{NewSession}
 use Rattle.rad_server.specs.declared.accounting.Report.{Report}
@@ -79,8 +79,8 @@ pub record IsOneMore (a : Attribute) (old new : AccessAttributes) : Type 0 where
 -- ---- credentials
 
 abbrev pub sent_password_of : SentPasswordOfCode → SentPassword
-sent_password_of (sent.Hidden value) = Hidden value.now
-sent_password_of (sent.Response value challenge) = Response value.now (option_copied challenge)
+sent_password_of (sent.UserPassword value) = UserPassword value.now
+sent_password_of (sent.ChapPassword value challenge) = ChapPassword value.now (option_copied challenge)
 
 abbrev pub credentials_of : CredentialsOfCode → Credentials
 credentials_of credentials = record {
@@ -91,8 +91,8 @@ credentials_of credentials = record {
 
 -- the Values of a password that was sent have lengths that can be checked
 abbrev pub IsSent : SentPassword → Type 0
-IsSent (Hidden value) = IsTrue (value_fits value)
-IsSent (Response value challenge) = length value ≡ chap_value_size
+IsSent (UserPassword value) = IsTrue (value_fits value)
+IsSent (ChapPassword value challenge) = length value ≡ chap_value_size
 
 -- ---- reports
 
@@ -142,7 +142,7 @@ state_with clock table = record { clock = clock; table = table; kept = []; chall
 
 -- the same with only the live sessions
 abbrev pub live_state : ℕ → Table → State
-live_state now table = live (state_with now table)
+live_state now table = without_expired (state_with now table)
 
 -- the decision that a new session is
 abbrev pub decision_of : NewSession → Decision

@@ -1,7 +1,8 @@
--- What replies say: their Code and their attributes in order (RFC 2865, sections 4.2 to 4.4; RFC 2866, section 4.2). The
--- Proxy-States of the request come last, in their order (RFC 2865, section 5.33). A reply to an Access-Request, and to a
--- Status-Server on the authentication port, begins with a Message-Authenticator, whose octets sealing puts in (RFC 3579,
--- section 3.2). Octets are numbers below 256, and integers have their most significant octet first.
+-- What replies say: their Code and their attributes (RFC 2865, sections 4.2 to 4.4; RFC 2866, section 4.2). The Proxy-States of
+-- the request are copied in their order (RFC 2865, section 5.33). The order of the Types is our choice: a reply to an
+-- Access-Request, and to a Status-Server on the authentication port, begins with a Message-Authenticator, whose octets sealing
+-- puts in (RFC 3579, section 3.2), and Proxy-States come last. Octets are numbers below 256, and integers have their most
+-- significant octet first.
 use Rattle.std.specs.Prelude.{ℕ, List, [], ◌∷◌, ◌++◌, codes, Option, Some, None, option_map}
 use Rattle.std.specs.Int.{w32, w64, to_be_bytes}
 use Rattle.rad_packet.specs.Attributes.{Attribute, of_kind}
@@ -37,12 +38,12 @@ abbrev pub class_prefix : List ℕ
 class_prefix = codes "RAP1"
 
 -- the Class of a session (RFC 2865, section 5.25)
-abbrev pub class_of : ℕ → List ℕ
-class_of number = class_prefix ++ to_be_bytes w64 number
+abbrev pub class_value : ℕ → List ℕ
+class_value number = class_prefix ++ to_be_bytes w64 number
 
 -- the State of a challenge (RFC 2865, section 5.24)
-abbrev pub state_of : ℕ → List ℕ → List ℕ
-state_of number draw = to_be_bytes w64 number ++ draw
+abbrev pub state_value : ℕ → List ℕ → List ℕ
+state_value number draw = to_be_bytes w64 number ++ draw
 
 -- ---- replies
 
@@ -61,7 +62,7 @@ accept_attributes user grant =
     ++ attribute_if_any type_framed_ip_address (option_map four_octets grant.address)
     ++ attribute_if_any type_session_timeout (option_map four_octets user.timeout)
     ++ attribute_if_any type_reply_message user.message
-    ++ attribute type_class (class_of grant.number)
+    ++ attribute type_class (class_value grant.number)
 
 abbrev pub access_accept : User → Grant → Packet → Body
 access_accept user grant p = access_reply code_access_accept (accept_attributes user grant) p
@@ -72,7 +73,7 @@ access_reject denial p = access_reply code_access_reject (attribute type_reply_m
 -- the Access-Challenge of a user with this number and draw
 abbrev pub access_challenge : User → ℕ → List ℕ → Packet → Body
 access_challenge user number draw p =
-    access_reply code_access_challenge (attribute_if_any type_reply_message user.challenge ++ attribute type_state (state_of number draw)) p
+    access_reply code_access_challenge (attribute_if_any type_reply_message user.challenge ++ attribute type_state (state_value number draw)) p
 
 abbrev pub accounting_response : Packet → Body
 accounting_response p = record { code = code_accounting_response; attributes = of_kind type_proxy_state p.attributes }

@@ -10,7 +10,7 @@ use Rattle.rad_config.specs.declared.spans.Spans.{Spans}
 use Rattle.rad_pool.specs.Sessions.{Table, cut}
 use Rattle.rad_pool.specs.Sessions as sessions
 
--- what a repeated request has in common with its original, beside its octets (RFC 5080, section 2.2.2)
+-- what a repeated request has in common with its original, beside its octets (RFC 2865, section 3; RFC 5080, section 2.2.2)
 pub record Key : Type 0 where
   pub source : ℕ
   pub port : ℕ
@@ -45,17 +45,17 @@ abbrev pub opening : Configuration → State
 opening configuration =
     record { clock = 0; table = sessions.opening (spans_of configuration); kept = []; challenges = []; next_challenge = 1 }
 
--- a kept reply is live until the window after it was made
+-- a kept reply is live for `window` after it was made
 abbrev pub is_reply_live : Spans → ℕ → Kept → Bool
 is_reply_live spans now reply = nat_lt now (reply.made + spans.window)
 
--- a challenge can be answered until the hold after it was made
+-- a challenge can be answered for `hold` after it was made
 abbrev pub is_challenge_live : Spans → ℕ → Challenge → Bool
 is_challenge_live spans now challenge = nat_lt now (challenge.made + spans.hold)
 
 -- the state with only what is live by its clock
-abbrev pub live : State → State
-live state = record state {
+abbrev pub without_expired : State → State
+without_expired state = record state {
   table = cut state.clock state.table;
   kept = filter (is_reply_live state.table.spans state.clock) state.kept;
   challenges = filter (is_challenge_live state.table.spans state.clock) state.challenges;
@@ -63,4 +63,4 @@ live state = record state {
 
 -- the state at a moment: the clock doesn't go back, and only what is live is left
 abbrev pub at_moment : ℕ → State → State
-at_moment moment state = live (record state { clock = max state.clock moment })
+at_moment moment state = without_expired (record state { clock = max state.clock moment })

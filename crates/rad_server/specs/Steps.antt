@@ -1,5 +1,6 @@
 -- The step of the server: from a configuration, a state and an admitted request, with its moment in milliseconds and its draw
--- of 16 octets, to the answer and the next state. A repeated request gets the reply that is kept (RFC 5080, section 2.2.2).
+-- of 16 octets, to the answer and the next state. A repeated request gets the reply that is kept (RFC 2865, section 3; RFC 5080, section
+-- 2.2.2); that Accounting-Requests are treated alike is our choice.
 use Rattle.std.specs.Prelude.{ℕ, ◌==◌, ◌&&◌, nat_le, not, Bool, true, false, if◌then◌else◌, List, length, find, filter, Option, Some, None}
 use lib.Pointwise.{pointwise}
 use Rattle.rad_packet.specs.Bodies.{Body}
@@ -31,19 +32,19 @@ key_of request = record {
   identifier = request.packet.identifier;
 }
 
-abbrev pub is_door : Door → Door → Bool
-is_door Auth Auth = true
-is_door Auth Acct = false
-is_door Acct Auth = false
-is_door Acct Acct = true
+abbrev pub same_door : Door → Door → Bool
+same_door Auth Auth = true
+same_door Auth Acct = false
+same_door Acct Auth = false
+same_door Acct Acct = true
 
-abbrev pub is_key : Key → Key → Bool
-is_key key other =
-    (key.source == other.source) && (key.port == other.port) && is_door key.door other.door && (key.identifier == other.identifier)
+abbrev pub same_key : Key → Key → Bool
+same_key key other =
+    (key.source == other.source) && (key.port == other.port) && same_door key.door other.door && (key.identifier == other.identifier)
 
 -- whether a request repeats the one whose reply was kept: it has its key and its octets up to Length
 abbrev pub is_repeat : Request → Kept → Bool
-is_repeat request reply = is_key (key_of request) reply.key && pointwise ◌==◌ (packet_octets request.packet) reply.octets
+is_repeat request reply = same_key (key_of request) reply.key && pointwise ◌==◌ (packet_octets request.packet) reply.octets
 
 -- the kept reply to a request, if it is a repeat
 abbrev pub reply_kept : Request → List Kept → Option Kept
@@ -51,7 +52,7 @@ reply_kept request kept = find (is_repeat request) kept
 
 -- the state without a kept reply of this key
 abbrev pub without_key : Key → State → State
-without_key key state = record state { kept = filter (λ reply. not (is_key key reply.key)) state.kept }
+without_key key state = record state { kept = filter (λ reply. not (same_key key reply.key)) state.kept }
 
 -- the state in which a reply is kept for repeats of its request: none is kept yet
 abbrev pub with_reply : Request → Body → State → State
@@ -60,28 +61,29 @@ with_reply request body state = state
 -- ---- the step
 
 -- the reply to a request by its rule, and the state after it
-abbrev pub by_rule : Configuration → State → Request → List ℕ → Body × State
-by_rule configuration state request draw = by_door request.door
+abbrev pub reply_by_port : Configuration → State → Request → List ℕ → Body × State
+reply_by_port configuration state request draw = by_door request.door
   where
     by_door : Door → Body × State
     by_door Auth = access configuration state request draw
     by_door Acct = account configuration state request
 
 -- a reply that is sent, and kept for repeats
-abbrev pub sent : Request → Body × State → Answer × State
-sent request (body, state) = (Send body, with_reply request body state)
+abbrev pub sent_and_kept : Request → Body × State → Answer × State
+sent_and_kept request (body, state) = (Send body, with_reply request body state)
 
 -- the answer to a request that is no repeat, and the state after it; without room to keep a reply there is none
 abbrev pub new_answer : Configuration → State → Request → List ℕ → Answer × State
 new_answer configuration state request draw =
-    if nat_le kept_max (length state.kept) then (Busy, state) else sent request (by_rule configuration state request draw)
+    if nat_le kept_max (length state.kept) then (Busy, state) else sent_and_kept request (reply_by_port configuration state request draw)
 
 -- the answer to a request, given the kept reply if it is a repeat, and the state after it
 abbrev pub answer_with : Configuration → State → Request → List ℕ → Option Kept → Answer × State
 answer_with configuration state request draw (Some reply) = (Send reply.body, state)
 answer_with configuration state request draw None = new_answer configuration (without_key (key_of request) state) request draw
 
--- The answer to a request in the current state, and the state after it. A Status-Server is neither looked up nor kept (RFC 5997).
+-- The answer to a request in the current state, and the state after it. A Status-Server is neither looked up nor kept, which
+-- is our choice.
 abbrev pub answer : Configuration → State → Request → List ℕ → Answer × State
 answer configuration current request draw =
     if request.packet.code == code_status_server then (Send (status_reply request.door request.packet), current)

@@ -2,7 +2,7 @@
 ghost use Rattle.std.specs.Prelude.{◌≡◌, ◌≤◌, ◌<◌, IfOk, None, length};
 ghost use Rattle.rad_auth.specs.Admission.{IsAnswerable};
 ghost use Rattle.rad_config.specs.Spans.{moment_max};
-ghost use Rattle.rad_server.specs.Access.{decision, decision_on_password, is_password, session_for, user_by_password};
+ghost use Rattle.rad_server.specs.Access.{decision, decision_on_password, password_matches, session_for, user_by_password};
 ghost use Rattle.rad_pool.specs.Sessions.{cut};
 ghost use Rattle.rad_server.specs.Plans.{Gives, IsDecision, IsGrantOf, IsSent, credentials_of, decision_of, live_state, sent_password_of};
 
@@ -59,7 +59,7 @@ fn decide_on(
     decide_on_password(config, sessions, now, request, credentials)
 }
 
-#[tactic(auto, unfolding(crate::specs::Access::decision_on_password, crate::specs::Access::challenge_for))]
+#[tactic(auto, unfolding(crate::specs::Access::decision_on_password, crate::specs::Access::challenge_or_denial))]
 fn decide_on_password(
     config: &Config,
     sessions: &Sessions,
@@ -100,26 +100,33 @@ fn user_by_password(
         return Err(Denial::AccessDenied);
     };
     let password = config.user_at(user).password.octets();
-    if !is_password(config, request, &credentials.password, password) {
+    if !password_matches(config, request, &credentials.password, password) {
         return Err(Denial::AccessDenied);
     }
     Ok(user)
 }
 
 // Whether this password was sent.
-fn is_password(config: &Config, request: &Request, sent: &SentPassword, password: &[u8]) -> bool
+fn password_matches(
+    config: &Config,
+    request: &Request,
+    sent: &SentPassword,
+    password: &[u8],
+) -> bool
     requires answerable { IsAnswerable config.now.clients request.now }
     requires sent { IsSent (sent_password_of sent.now) }
-    ensures { result ≡ is_password config.now request.now
+    ensures { result ≡ password_matches config.now request.now
         (sent_password_of sent.now) password.now }
 {
     let authenticator = request.packet.authenticator();
     match *sent {
-        SentPassword::Hidden(value) => {
+        SentPassword::UserPassword(value) => {
             let secret = config.clients().secret(request.client);
             password_right(secret, &authenticator, value, password)
         }
-        SentPassword::Response(value, Some(challenge)) => chap_right(value, password, challenge),
-        SentPassword::Response(value, None) => chap_right(value, password, &authenticator),
+        SentPassword::ChapPassword(value, Some(challenge)) => chap_right(
+            value, password, challenge,
+        ),
+        SentPassword::ChapPassword(value, None) => chap_right(value, password, &authenticator),
     }
 }

@@ -1,6 +1,6 @@
 //! With what an Access-Request asks for access.
 ghost use Rattle.std.specs.Prelude.{◌≡◌, IfOk, length, option_copied};
-ghost use Rattle.rad_server.specs.Credentials.{chap_challenge_in, credentials_in, hidden_in, name_in, password_in, response_in, state_in};
+ghost use Rattle.rad_server.specs.Credentials.{chap_challenge_in, credentials_in, user_password_in, name_in, password_in, chap_password_in, state_in};
 ghost use Rattle.rad_server.specs.Plans.{Gives, IsSent, credentials_of, occurrence_of, sent_password_of};
 
 use crate::denial::Denial;
@@ -15,9 +15,9 @@ const CHAP_CHALLENGE_MIN: usize = 5;
 #[derive(Clone, Copy)]
 pub(crate) enum SentPassword<'a> {
     /// The Value of a User-Password.
-    Hidden(&'a [u8]),
+    UserPassword(&'a [u8]),
     /// The Value of a CHAP-Password, and the CHAP-Challenge if there is one.
-    Response(&'a [u8], Option<&'a [u8]>),
+    ChapPassword(&'a [u8], Option<&'a [u8]>),
 }
 
 /// A name, a password, and the State if a challenge is answered.
@@ -74,37 +74,37 @@ fn password_in<'a>(
     ensures sent { IfOk result (λ password. IsSent (sent_password_of password)) }
 {
     match (user_password, chap_password) {
-        (Occurrence::Once(value), Occurrence::Absent) => hidden_in(value),
-        (Occurrence::Absent, Occurrence::Once(value)) => response_in(value, chap_challenge),
+        (Occurrence::Once(value), Occurrence::Absent) => user_password_in(value),
+        (Occurrence::Absent, Occurrence::Once(value)) => chap_password_in(value, chap_challenge),
         _ => Err(Denial::MalformedRequest),
     }
 }
 
-fn hidden_in(value: &[u8]) -> Result<SentPassword<'_>, Denial>
-    ensures read { Gives sent_password_of result (hidden_in value.now) }
+fn user_password_in(value: &[u8]) -> Result<SentPassword<'_>, Denial>
+    ensures read { Gives sent_password_of result (user_password_in value.now) }
     ensures sent { IfOk result (λ password. IsSent (sent_password_of password)) }
 {
     if value_fits(value) {
-        Ok(SentPassword::Hidden(value))
+        Ok(SentPassword::UserPassword(value))
     } else {
         Err(Denial::MalformedRequest)
     }
 }
 
-#[tactic(auto, unfolding(crate::specs::Credentials::response_in))]
-fn response_in<'a>(
+#[tactic(auto, unfolding(crate::specs::Credentials::chap_password_in))]
+fn chap_password_in<'a>(
     value: &'a [u8],
     chap_challenge: Occurrence<'a>,
 ) -> Result<SentPassword<'a>, Denial>
     ensures read { Gives sent_password_of result
-        (response_in value.now (occurrence_of chap_challenge.entry)) }
+        (chap_password_in value.now (occurrence_of chap_challenge.entry)) }
     ensures sent { IfOk result (λ password. IsSent (sent_password_of password)) }
 {
     if value.len() != CHAP_VALUE_LEN {
         return Err(Denial::MalformedRequest);
     }
     let challenge = chap_challenge_in(chap_challenge)?;
-    Ok(SentPassword::Response(value, challenge))
+    Ok(SentPassword::ChapPassword(value, challenge))
 }
 
 fn chap_challenge_in(chap_challenge: Occurrence<'_>) -> Result<Option<&[u8]>, Denial>

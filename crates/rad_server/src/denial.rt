@@ -9,7 +9,7 @@ use rad_pool::Refusal;
 pub enum Denial {
     /// The request has an EAP-Message.
     EapNotSupported,
-    /// The request has no credentials, too many, or ones of a wrong length.
+    /// A name, a password, a CHAP-Challenge or a State is missing, occurs too often, or has a wrong length.
     MalformedRequest,
     /// The State is of no challenge that waits for an answer of this client.
     StateUnknown,

@@ -6,7 +6,7 @@ ghost use Rattle.rad_packet.specs.Types.{type_proxy_state};
 ghost use Rattle.rad_auth.specs.Admission.{proxy_states_max, proxy_states_size};
 ghost use Rattle.rad_auth.specs.Sealing.{IsReply};
 ghost use Rattle.rad_server.specs.Plans.{access_front, with_attributes};
-ghost use Rattle.rad_server.specs.Replies.{accept_attributes, access_accept, access_reject, access_reply, accounting_response, attribute_if_any, class_of, four_octets, status_reply};
+ghost use Rattle.rad_server.specs.Replies.{accept_attributes, access_accept, access_reject, access_reply, accounting_response, attribute_if_any, class_value, four_octets, status_reply};
 
 use crate::denial::Denial;
 use rad_auth::Door;
@@ -55,7 +55,7 @@ pub(crate) fn access_reject(
     Ok(body)
 }
 
-/// The Accounting-Response.
+/// The Accounting-ChapPassword.
 #[tactic(auto, using(crate::proofs::ReplyLemmas::accounting_is_reply))]
 pub(crate) fn accounting_response(alloc: Global, packet: &Packet) -> Result<Body, AllocError>
     requires { proxy_states_size packet.now ≤ proxy_states_max }
@@ -114,7 +114,7 @@ fn grant_body(alloc: Global, user: &User, grant: Grant) -> Result<Body, AllocErr
     if let Some(message) = &user.message {
         body.push(REPLY_MESSAGE, message.octets())?;
     }
-    body.push(CLASS, &class_of(grant.number))?;
+    body.push(CLASS, &class_value(grant.number))?;
     Ok(body)
 }
 
@@ -130,8 +130,8 @@ fn push_integer(body: &mut Body, kind: u8, number: Option<u32>) -> Result<(), Al
 }
 
 // The Class of the session of this number.
-fn class_of(number: u64) -> [u8; 12]
-    ensures { result ≡ class_of number }
+fn class_value(number: u64) -> [u8; 12]
+    ensures { result ≡ class_value number }
 {
     let [a, b, c, d, e, f, g, h] = number.to_be_bytes();
     [b'R', b'A', b'P', b'1', a, b, c, d, e, f, g, h]

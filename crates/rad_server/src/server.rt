@@ -54,6 +54,13 @@ impl<'c> Server<'c> {
         })
     }
 
+    /// The configuration.
+    pub fn config(&self) -> &'c Config
+        ensures { result.now ≡ self.now.configuration }
+    {
+        self.config
+    }
+
     /// The latest moment so far, in milliseconds; 0 before the first request.
     pub fn clock(&self) -> u64
         ensures { result ≡ self.now.state.clock }

@@ -78,16 +78,19 @@ const PROXIED_ACCESS: &str =
 const PROXIED_ACCESS_REPLY: &str =
     "reply 0300003ec8136e558ae07c905538baf25241c8635012e48b64e74355405420f7666167926a7e120f6163636573732064656e69656421047a7a2105616263\n";
 
-/// With a State, which does not come back.
+/// With a State of no challenge.
 const STATE_ACCESS: &str =
     "12 auth 192.168.1.16:1024 0100003d0f403f9473978057bd83d5cb98f4227a01066e656d6f02120dbe708d93d413ce3196e43f782a0aee0406c0a801100506000000031805616263";
+
+const STATE_ACCESS_REPLY: &str =
+    "reply 03000035f1643dbd260d2105c60af1bfd2df4c38501202704ced3e48783b225896e64a7eb7b0120f737461746520756e6b6e6f776e\n";
 
 /// With an EAP-Message and a Message-Authenticator.
 const EAP_ACCESS: &str =
     "13 auth 192.168.1.16:1024 010300510f403f9473978057bd83d5cb98f4227a01066e656d6f02120dbe708d93d413ce3196e43f782a0aee0406c0a801100506000000034f07020000050150125eaf9de74dae93f889e1907563aa5640";
 
 const EAP_ACCESS_REPLY: &str =
-    "reply 03030035bebec41feba90d58659595eb2fe2098e5012106b316fbf5acc767a5b1f16ac33badf120f6163636573732064656e696564\n";
+    "reply 0303003915f411cfccb314af9dd51a157bedea0f501219d9d1a330f61ee3f5674e6aff32fe9d1213656170206e6f7420737570706f72746564\n";
 
 /// The Status-Server of RFC 5997, section 6.1.
 const STATUS: &str =
@@ -172,7 +175,7 @@ const SCENARIOS: [Scenario; 24] = [
     Scenario {
         name: "an Access-Request with a State, and one with an EAP-Message",
         input: &[GATEWAY, STATE_ACCESS, "\n", EAP_ACCESS, "\n"],
-        output: &["1 ", ACCESS_REPLY, "2 ", EAP_ACCESS_REPLY],
+        output: &["1 ", STATE_ACCESS_REPLY, "2 ", EAP_ACCESS_REPLY],
         fault: "",
     },
     Scenario {
@@ -400,7 +403,7 @@ fn long_proxy_states(rt: &impl AllocGlobal) -> Result<String, AllocError> {
     attribute.repeat(rt.alloc(), 14)
 }
 
-/// An Access-Request with 3,584 octets of Proxy-State, the most that are copied, and one with an octet more.
+/// An Access-Request without a name, with 3,584 octets of Proxy-State, the most that are copied, and one with an octet more.
 #[test]
 fn the_most_proxy_states(rt: HostRuntime) -> Result<(), Fail> {
     let long = long_proxy_states(&rt)?;
@@ -414,8 +417,8 @@ fn the_most_proxy_states(rt: HostRuntime) -> Result<(), Fail> {
         "210f62626262626262626262626262\n",
     ];
     let output = [
-        "1 reply 03000e3507e6534637ff5d5e0f5f252ceb54f3fa",
-        "501281d9e2e9fd4ff87bba51d20649d61489120f6163636573732064656e696564",
+        "1 reply 03000e39221cd7e76c74c6b5be8cdda4b177b103",
+        "5012509c39be9d573da966d9a15ed42ef10f12136d616c666f726d65642072657175657374",
         long.as_str(),
         "210e626262626262626262626262\n",
         "2 drop 11 ProxyStateTooLong\n",
