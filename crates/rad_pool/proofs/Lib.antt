@@ -1,1 +1,2 @@
+mod LawfulLemmas
 mod PoolLemmas

@@ -1,3 +1,4 @@
 pub mod Grants
+pub mod Lawful
 pub mod Meant
 pub mod Sessions

@@ -9,10 +9,12 @@
 #![tactic(auto)]
 
 mod grant;
+mod lawful;
 mod rows;
 mod session;
 mod sessions;
 
 pub use grant::{Grant, Refusal};
+pub use lawful::lawful_tables;
 pub use session::{Phase, Session};
 pub use sessions::{Rows, SESSIONS_MAX, Sessions};

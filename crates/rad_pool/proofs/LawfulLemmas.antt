@@ -1,0 +1,362 @@
+use Rattle.std.proofs.Common.{◌≡◌, ◌⊎◌, ℕ, ◌+◌, ◌-◌, ◌≤◌, ◌<◌, Bool, true, false, not, cond, ◌&&◌, ◌||◌, ◌==◌, nat_le, List, [], ◌∷◌, ◌++◌, length, get_or, map, filter, find, count_by, sum_by, All, Contains, Option, Some, None, IfSome, option_map, Result, Ok, Err, ok_or, slice_get, arith, inl, inr, refl, sym, ap, subst, ◌∙◌}
+use Rattle.std.specs.List.{position_or_len, range_with_len}
+use Rattle.std.proofs.lemmas.Bool.{and_from, and_parts, both_ways, cond_both, eq-eqb, eqb-true, leb-false, leb-true, not-false, not-true, or_parts}
+use Rattle.std.proofs.lemmas.List.{get_or-map, length-map, length_push}
+use Rattle.std.proofs.lemmas.List.Elements.{All-contains, All-contains_itself, All-filter, All-map, All-push, All-weaker, Contains-push_cases}
+use Rattle.std.proofs.lemmas.List.Filters.{sum_by-filter_both}
+use Rattle.std.proofs.lemmas.List.Folds.{find_at, fold-map, list_any_at}
+use Rattle.std.proofs.lemmas.List.FromFn.{get_or-range_with_len, length-range_with_len}
+use Rattle.std.proofs.lemmas.List.Kept.{AllPairs-filter}
+use Rattle.std.proofs.lemmas.List.Quantifiers.{all_pairs_push}
+use Rattle.std.proofs.lemmas.List.Sums.{count_by-le-length, length-filter, passes_at_first, sum_by-le-sum_by, sum_by_push}
+use Rattle.std.proofs.lemmas.Option.{IfSome_then, get_or_from_slice_get, slice_get_within}
+use Rattle.rad_packet.specs.Ladders.{◌>>=◌, refuse_if}
+use Rattle.rad_config.specs.Configurations.{Configuration}
+use Rattle.rad_config.specs.declared.pool.Pool.{Pool}
+use Rattle.rad_config.specs.declared.spans.Spans.{Spans}
+use Rattle.rad_pool.specs.Grants.{address_from, granted, has_address, is_held, last_number, least_free, open_sessions, pool_of, session_limit, with_session}
+use Rattle.rad_pool.specs.Lawful.{HaveOwnAddresses, IsInPool, IsLawful, IsLawfulSession, IsNumberedBefore}
+use Rattle.rad_pool.specs.Sessions.{Table, after_start, after_stop, cut, is_live, is_open, opening, sessions_max, started, stopped, with_phase}
+use Rattle.rad_pool.specs.declared.grant.Grant.{Grant}
+use Rattle.rad_pool.specs.declared.grant.Refusal.{Refusal}
+use Rattle.rad_pool.specs.declared.grant.Refusal.TheVariants.{SessionLimit, NoAddress, Full}
+use Rattle.rad_pool.specs.declared.session.Phase.{Phase}
+use Rattle.rad_pool.specs.declared.session.Phase.TheVariants.{Pending, Active, Ended}
+use Rattle.rad_pool.specs.declared.session.Session.{Session}
+
+-- ---- lists
+
+-- what a filter leaves was in the list
+Contains-filter : {X : Type 0} (p : X → Bool) (xs : List X) (x : X) → Contains (filter p xs) x → Contains xs x
+Contains-filter p xs x there =
+    All-contains (Contains xs) (filter p xs) x (All-filter p (Contains xs) xs (All-contains_itself xs)) there
+
+-- what a mapped list contains came from the list
+Contains-map : {X Y : Type 0} (f : X → Y) (xs : List X) (y : Y) → Contains (map f xs) y → (x : X) × (Contains xs x) × (y ≡ f x)
+Contains-map {X} {Y} f xs y there =
+    let CameFrom : Y → Type 0 = λ z. (x : X) × (Contains xs x) × (z ≡ f x) in
+    let each : All CameFrom (map f xs) =
+    All-map CameFrom f xs (All-weaker (Contains xs) (λ x. CameFrom (f x)) (λ x within. (x, within, refl)) xs (All-contains_itself xs)) in
+    All-contains CameFrom (map f xs) y each there
+
+-- a filter counts no more
+count_by-filter-le : {X : Type 0} (p q : X → Bool) (xs : List X) → count_by p (filter q xs) ≤ count_by p xs
+count_by-filter-le {X} p q xs =
+    let one : X → ℕ = λ x. cond (p x) 1 0 in
+    omega (arith, sum_by-filter_both q (λ x. not (q x)) (λ x. refl) one xs)
+
+-- a map counts no more if each element passes only where it passed before
+count_by-map-le : {X : Type 0} (p : X → Bool) (f : X → X) (xs : List X) → ((x : X) → p (f x) ≡ true → p x ≡ true)
+    → count_by p (map f xs) ≤ count_by p xs
+count_by-map-le {X} p f xs falls =
+    let one : X → ℕ = λ x. cond (p x) 1 0 in
+    let moved : sum_by one (map f xs) ≡ sum_by (λ x. one (f x)) xs = fold-map (λ n x. n + one x) f 0 xs in
+    let fewer : sum_by (λ x. one (f x)) xs ≤ sum_by one xs =
+    sum_by-le-sum_by (λ x. one (f x)) one xs (λ x. one_falls (p (f x)) (p x) (falls x)) in
+    omega (arith, moved, fewer)
+  where
+    one_falls : (b c : Bool) → (b ≡ true → c ≡ true) → cond b 1 0 ≤ cond c 1 0
+    one_falls false c h = omega arith
+    one_falls true true h = omega arith
+    one_falls true false h = absurd (both_ways false refl (h refl))
+
+-- what is found among numbers in a row passes the test, and is one of them
+found_in_range : (fits : ℕ → Bool) (first n found : ℕ) → find fits (range_with_len first n) ≡ Some found
+    → (fits found ≡ true) × (first ≤ found) × (found < first + n)
+found_in_range fits first n found is =
+    let row : List ℕ = range_with_len first n in
+    let place : ℕ = position_or_len fits row in
+    let there : slice_get row place ≡ Some found = sym (find_at fits row) ∙ is in
+    let within : place < length row = slice_get_within row place found there in
+    let read : get_or row place 0 ≡ found = get_or_from_slice_get row place found 0 there in
+    let below : place < n = omega (arith, within, length-range_with_len first n) in
+    let number : get_or row place 0 ≡ first + place = get_or-range_with_len first n place 0 below in
+    (ap fits (sym read) ∙ passes_at_first fits row 0 within, omega (arith, read, number), omega (arith, read, number, below))
+
+-- ---- ladders
+
+-- a ladder that gives a value has passed each check, and has got a value of each step
+past_refusal : {B E : Type 0} (refused : Bool) (refusal : E) (next : Unit {0} → Result B E) (value : B)
+    → (refuse_if refused refusal >>= next) ≡ Ok value → (refused ≡ false) × (next tt ≡ Ok value)
+past_refusal true refusal next value is = absurd (cc)
+past_refusal false refusal next value is = (refl, is)
+
+past_step : {A B E : Type 0} (step : Result A E) (next : A → Result B E) (value : B)
+    → (step >>= next) ≡ Ok value → (x : A) × (step ≡ Ok x) × (next x ≡ Ok value)
+past_step (Ok x) next value is = (x, refl, is)
+past_step (Err refusal) next value is = absurd (cc)
+
+-- ---- no sessions
+
+pub opening_is_lawful : (configuration : Configuration) (clock : ℕ) (spans : Spans) → IsLawful configuration clock (opening spans)
+opening_is_lawful configuration clock spans = record {
+  next = (omega arith, omega arith);
+  few = omega arith;
+  rising = λ i j d before within. absurd (omega arith);
+  each = λ k d within. absurd (omega arith);
+  limits = λ user. omega arith;
+  addresses = λ one other address there here is same. absurd (omega arith);
+}
+
+-- ---- time
+
+pub later_is_lawful : (configuration : Configuration) (clock now : ℕ) (table : Table) → clock ≤ now → IsLawful configuration clock table
+    → IsLawful configuration now table
+later_is_lawful configuration clock now table later lawful = record {
+  next = lawful.next;
+  few = lawful.few;
+  rising = lawful.rising;
+  limits = lawful.limits;
+  addresses = lawful.addresses;
+  each = All-weaker (IsLawfulSession configuration clock table.next) (IsLawfulSession configuration now table.next) (λ session known. record {
+    number = known.number;
+    client = known.client;
+    user = known.user;
+    address = known.address;
+    made = omega arith;
+  }) table.sessions lawful.each;
+}
+
+pub cut_is_lawful : (configuration : Configuration) (now : ℕ) (table : Table) → IsLawful configuration now table
+    → IsLawful configuration now (cut now table)
+cut_is_lawful configuration now table lawful =
+    let live : Session → Bool = is_live table.spans now in
+    let sessions : List Session = table.sessions in
+    record {
+      next = lawful.next;
+      few = omega (arith, length-filter live sessions, count_by-le-length live sessions, lawful.few);
+      rising = AllPairs-filter IsNumberedBefore live sessions lawful.rising;
+      each = All-filter live (IsLawfulSession configuration now table.next) sessions lawful.each;
+      limits = λ user.
+          omega (arith, lawful.limits user, count_by-filter-le (λ session. (session.user == user) && is_open session.phase) live sessions);
+      addresses = λ one other address there here.
+          lawful.addresses one other address (Contains-filter live sessions one there) (Contains-filter live sessions other here);
+    }
+
+-- ---- a grant
+
+-- an address that is granted is in the pool, and no session has it
+address_is_free : (sessions : List Session) (pool : Option Pool) (address : Option ℕ) → address_from sessions pool ≡ Ok address
+    → IfSome address (λ given. IsInPool pool given × (is_held sessions given ≡ false))
+unfolding address_from
+address_is_free sessions None address is =
+    let none : None ≡ address = cc in
+    subst (λ o. IfSome o (λ given. IsInPool None given × (is_held sessions given ≡ false))) none tt
+address_is_free sessions (Some pool) address is = by_search (least_free sessions pool) refl is
+  where
+    by_search : (found : Option ℕ) → least_free sessions pool ≡ found → ok_or (option_map Some found) NoAddress ≡ Ok address
+        → IfSome address (λ given. IsInPool (Some pool) given × (is_held sessions given ≡ false))
+    by_search None searched is = absurd (cc)
+    by_search (Some given) searched is =
+        let same : Some given ≡ address = cc in
+        let found = found_in_range (λ a. not (is_held sessions a)) pool.first (pool.last + 1 - pool.first) given searched in
+        let low : pool.first ≤ given = found.1 in
+        let high : given < pool.first + (pool.last + 1 - pool.first) = found.2 in
+        let free : is_held sessions given ≡ false = not-true (is_held sessions given) found.0 in
+        subst (λ o. IfSome o (λ a. IsInPool (Some pool) a × (is_held sessions a ≡ false))) same ((low, omega arith), free)
+
+-- what a grant tells of the table
+record Grants (configuration : Configuration) (user : ℕ) (table : Table) (grant : Grant) : Type 0 where
+  below : open_sessions user table.sessions < session_limit configuration user
+  address : address_from table.sessions (pool_of configuration user) ≡ Ok grant.address
+  few : length table.sessions < sessions_max
+  last : table.next ≤ last_number
+  number : grant.number ≡ table.next
+
+granted_tells : (configuration : Configuration) (user : ℕ) (table : Table) (grant : Grant) → granted configuration user table ≡ Ok grant
+    → Grants configuration user table grant
+unfolding granted
+granted_tells configuration user table grant is =
+    let at_limit : Bool = nat_le (session_limit configuration user) (open_sessions user table.sessions) in
+    let many : Bool = nat_le sessions_max (length table.sessions) in
+    let none_left : Bool = not (nat_le table.next last_number) in
+    let given : Option ℕ → Result Grant Refusal = λ address. Ok (record { number = table.next; address = address }) in
+    let last_check : Option ℕ → Result Grant Refusal = λ address. refuse_if (many || none_left) Full >>= (λ fits. given address) in
+    let address : Result (Option ℕ) Refusal = address_from table.sessions (pool_of configuration user) in
+    let below = past_refusal at_limit SessionLimit (λ below. address >>= last_check) grant is in
+    let addressed = past_step address last_check grant below.1 in
+    let fits = past_refusal (many || none_left) Full (λ fits. given addressed.0) grant addressed.2 in
+    let parts = or_parts many none_left fits.0 in
+    let made : Grant = record { number = table.next; address = addressed.0 } in
+    let same : made ≡ grant = cc in
+    let address_in : Grant → Result (Option ℕ) Refusal = λ g. Ok g.address in
+    record {
+      below = leb-false (session_limit configuration user) (open_sessions user table.sessions) below.0;
+      address = addressed.1 ∙ ap address_in same;
+      few = leb-false sessions_max (length table.sessions) parts.0;
+      last = leb-true table.next last_number (not-false (nat_le table.next last_number) parts.1);
+      number = sym (ap (λ (g : Grant). g.number) same);
+    }
+
+-- a session that is granted is lawful by itself
+new_is_lawful : (configuration : Configuration) (client user now : ℕ) (grant : Grant) (table : Table)
+    → client < length configuration.clients → user < length configuration.users → Grants configuration user table grant → 1 ≤ table.next
+    → IsLawfulSession configuration now (table.next + 1) (record {
+      number = grant.number;
+      client = client;
+      user = user;
+      address = grant.address;
+      phase = Pending;
+      made = now;
+    })
+new_is_lawful configuration client user now grant table known_client known_user told counted = record {
+  number = (omega arith, omega arith);
+  client = known_client;
+  user = known_user;
+  address = IfSome_then grant.address (address_is_free table.sessions (pool_of configuration user) grant.address told.address) (λ given free. free.0);
+  made = omega arith;
+}
+
+-- one more open session of a user who may have one more
+limits_with_session : (configuration : Configuration) (user other : ℕ) (sessions : List Session) (new : Session)
+    → new.user ≡ user → open_sessions user sessions < session_limit configuration user
+    → open_sessions other sessions ≤ session_limit configuration other
+    → open_sessions other (sessions ++ new ∷ []) ≤ session_limit configuration other
+limits_with_session configuration user other sessions new own below within =
+    let counted : Session → ℕ = λ session. cond ((session.user == other) && is_open session.phase) 1 0 in
+    by_test (new.user == other) refl (sum_by_push counted sessions new)
+  where
+    at_most_one : (b : Bool) → cond b 1 0 ≤ 1
+    at_most_one true = omega arith
+    at_most_one false = omega arith
+
+    by_test : (b : Bool) → (new.user == other) ≡ b
+        → open_sessions other (sessions ++ new ∷ []) ≡ open_sessions other sessions + cond ((new.user == other) && is_open new.phase) 1 0
+        → open_sessions other (sessions ++ new ∷ []) ≤ session_limit configuration other
+    by_test true is sum =
+        let same : user ≡ other = sym own ∙ eqb-true new.user other is in
+        let below_other : open_sessions other sessions < session_limit configuration other =
+        subst (λ u. open_sessions u sessions < session_limit configuration u) same below in
+        omega (arith, sum, below_other, at_most_one ((new.user == other) && is_open new.phase))
+    by_test false is sum =
+        let none : ◌≡◌ {A = ℕ} (cond ((new.user == other) && is_open new.phase) 1 0) 0 = rw is refl in
+        omega (arith, sum, none, within)
+
+-- who holds an address, in a list of sessions
+holds : (sessions : List Session) (session : Session) (address : ℕ) → Contains sessions session → session.address ≡ Some address
+    → is_held sessions address ≡ true
+holds sessions session address there is =
+    let has : has_address address session ≡ true = rw is (eq-eqb address address refl) in
+    list_any_at (has_address address) sessions there.0 session there.1 (ap (has_address address) there.2 ∙ has)
+
+-- a new session with an address that no other has
+addresses_with_session : (sessions : List Session) (new : Session) → HaveOwnAddresses sessions
+    → IfSome new.address (λ given. is_held sessions given ≡ false) → HaveOwnAddresses (sessions ++ new ∷ [])
+addresses_with_session sessions new own free one other address there here is same =
+    by_cases (Contains-push_cases sessions new one there) (Contains-push_cases sessions new other here)
+  where
+    is_free : (session : Session) → Contains sessions session → session.address ≡ Some address → new.address ≡ Some address → ⊥
+    is_free session within has given =
+        let known : is_held sessions address ≡ false = subst (λ o. IfSome o (λ a. is_held sessions a ≡ false)) given free in
+        both_ways (is_held sessions address) known (holds sessions session address within has)
+
+    by_cases : (Contains sessions one ⊎ (new ≡ one)) → (Contains sessions other ⊎ (new ≡ other)) → one.number ≡ other.number
+    by_cases (inl first) (inl second) = own one other address first second is same
+    by_cases (inl first) (inr second) = absurd (is_free one first is (ap (λ s. s.address) second ∙ same))
+    by_cases (inr first) (inl second) = absurd (is_free other second same (ap (λ s. s.address) first ∙ is))
+    by_cases (inr first) (inr second) = ap (λ s. s.number) (sym first ∙ second)
+
+pub with_session_is_lawful : (configuration : Configuration) (client user now : ℕ) (grant : Grant) (table : Table)
+    → client < length configuration.clients → user < length configuration.users → granted configuration user table ≡ Ok grant
+    → IsLawful configuration now table → IsLawful configuration now (with_session client user now grant table)
+with_session_is_lawful configuration client user now grant table known_client known_user is lawful =
+    let sessions : List Session = table.sessions in
+    let told = granted_tells configuration user table grant is in
+    let new : Session = record { number = grant.number; client = client; user = user; address = grant.address; phase = Pending; made = now } in
+    let first : 1 ≤ table.next = lawful.next.0 in
+    record {
+      next = (omega arith, omega (arith, told.last));
+      few = omega (arith, length_push sessions new, told.few);
+      rising = all_pairs_push IsNumberedBefore sessions new lawful.rising (λ k d within. omega (arith, (lawful.each k d within).number.1, told.number));
+      each = All-push (IsLawfulSession configuration now (table.next + 1)) sessions new
+          (All-weaker (IsLawfulSession configuration now table.next) (IsLawfulSession configuration now (table.next + 1)) (λ session known. record {
+            number = (known.number.0, omega (arith, known.number.1));
+            client = known.client;
+            user = known.user;
+            address = known.address;
+            made = known.made;
+          }) sessions lawful.each)
+          (new_is_lawful configuration client user now grant table known_client known_user told first);
+      limits = λ other. limits_with_session configuration user other sessions new refl told.below (lawful.limits other);
+      addresses = addresses_with_session sessions new lawful.addresses
+          (IfSome_then grant.address (address_is_free sessions (pool_of configuration user) grant.address told.address) (λ given free. free.1));
+    }
+
+-- ---- Start and Stop
+
+-- what a change of a session's phase keeps
+number_kept : (change : Phase → Phase) (number : ℕ) (session : Session) → (with_phase change number session).number ≡ session.number
+number_kept change number session =
+    cond_both (session.number == number) (record session { phase = change session.phase }) session (λ s. s.number ≡ session.number) (λ _. refl) (λ _. refl)
+
+address_kept : (change : Phase → Phase) (number : ℕ) (session : Session) → (with_phase change number session).address ≡ session.address
+address_kept change number session =
+    cond_both (session.number == number) (record session { phase = change session.phase }) session (λ s. s.address ≡ session.address) (λ _. refl) (λ _. refl)
+
+law_kept : (configuration : Configuration) (clock next : ℕ) (change : Phase → Phase) (number : ℕ) (session : Session)
+    → IsLawfulSession configuration clock next session → IsLawfulSession configuration clock next (with_phase change number session)
+law_kept configuration clock next change number session known =
+    cond_both (session.number == number) (record session { phase = change session.phase }) session (IsLawfulSession configuration clock next)
+    (λ _. record {
+      number = known.number;
+      client = known.client;
+      user = known.user;
+      address = known.address;
+      made = known.made;
+    })
+    (λ _. known)
+
+-- a session that is open after a change that opens none was open before
+was_open : (change : Phase → Phase) → ((phase : Phase) → is_open (change phase) ≡ true → is_open phase ≡ true)
+    → (number user : ℕ) (session : Session)
+    → (((with_phase change number session).user == user) && is_open (with_phase change number session).phase) ≡ true
+    → ((session.user == user) && is_open session.phase) ≡ true
+was_open change opens_none number user session =
+    cond_both (session.number == number) (record session { phase = change session.phase }) session
+    (λ s. ((s.user == user) && is_open s.phase) ≡ true → ((session.user == user) && is_open session.phase) ≡ true)
+    (λ _ is. let parts = and_parts (session.user == user) (is_open (change session.phase)) is in and_from (session.user == user) (is_open session.phase) parts.0 (opens_none session.phase parts.1))
+    (λ _ is. is)
+
+-- a change of one session's phase that opens none
+change_is_lawful : (change : Phase → Phase) → ((phase : Phase) → is_open (change phase) ≡ true → is_open phase ≡ true)
+    → (configuration : Configuration) (clock number : ℕ) (table : Table) → IsLawful configuration clock table
+    → IsLawful configuration clock (record table { sessions = map (with_phase change number) table.sessions })
+change_is_lawful change opens_none configuration clock number table lawful =
+    let sessions : List Session = table.sessions in
+    let changed : Session → Session = with_phase change number in
+    record {
+      next = lawful.next;
+      few = omega (arith, length-map sessions changed, lawful.few);
+      rising = λ i j d before within.
+          let within_old : j < length sessions = omega (arith, length-map sessions changed) in
+          let first : (get_or (map changed sessions) i d).number ≡ (get_or sessions i d).number =
+          ap (λ s. s.number) (get_or-map changed sessions i d d (omega arith)) ∙ number_kept change number (get_or sessions i d) in
+          let second : (get_or (map changed sessions) j d).number ≡ (get_or sessions j d).number =
+          ap (λ s. s.number) (get_or-map changed sessions j d d within_old) ∙ number_kept change number (get_or sessions j d) in
+          omega (arith, first, second, lawful.rising i j d before within_old);
+      each = All-map (IsLawfulSession configuration clock table.next) changed sessions
+          (All-weaker (IsLawfulSession configuration clock table.next) (λ s. IsLawfulSession configuration clock table.next (changed s))
+          (law_kept configuration clock table.next change number) sessions lawful.each);
+      limits = λ user.
+          omega (arith, lawful.limits user, count_by-map-le (λ session. (session.user == user) && is_open session.phase) changed sessions (was_open change opens_none number user));
+      addresses = λ one other address there here is same.
+          let first = Contains-map changed sessions one there in
+          let second = Contains-map changed sessions other here in
+          let shared = lawful.addresses first.0 second.0 address first.1 second.1
+          (sym (address_kept change number first.0) ∙ ap (λ s. s.address) (sym first.2) ∙ is)
+          (sym (address_kept change number second.0) ∙ ap (λ s. s.address) (sym second.2) ∙ same) in
+          ap (λ s. s.number) first.2 ∙ number_kept change number first.0 ∙ shared ∙ sym (number_kept change number second.0) ∙ ap (λ s. s.number) (sym second.2);
+    }
+
+pub started_is_lawful : (configuration : Configuration) (clock number : ℕ) (table : Table) → IsLawful configuration clock table
+    → IsLawful configuration clock (started number table)
+started_is_lawful = change_is_lawful after_start (λ phase. opens_none phase)
+  where
+    opens_none : (phase : Phase) → is_open (after_start phase) ≡ true → is_open phase ≡ true
+    opens_none Pending is = refl
+    opens_none Active is = refl
+    opens_none Ended is = is
+
+pub stopped_is_lawful : (configuration : Configuration) (clock number : ℕ) (table : Table) → IsLawful configuration clock table
+    → IsLawful configuration clock (stopped number table)
+stopped_is_lawful = change_is_lawful after_stop (λ phase is. absurd (cc))
