@@ -35,9 +35,8 @@ Contains-filter p xs x there =
 Contains-map : {X Y : Type 0} (f : X → Y) (xs : List X) (y : Y) → Contains (map f xs) y → (x : X) × (Contains xs x) × (y ≡ f x)
 Contains-map {X} {Y} f xs y there =
     let CameFrom : Y → Type 0 = λ z. (x : X) × (Contains xs x) × (z ≡ f x) in
-    let each : All CameFrom (map f xs) =
-    All-map CameFrom f xs (All-weaker (Contains xs) (λ x. CameFrom (f x)) (λ x within. (x, within, refl)) xs (All-contains_itself xs)) in
-    All-contains CameFrom (map f xs) y each there
+    let images : All (λ x. CameFrom (f x)) xs = All-weaker (Contains xs) (λ x. CameFrom (f x)) (λ x within. (x, within, refl)) xs (All-contains_itself xs) in
+    All-contains CameFrom (map f xs) y (All-map CameFrom f xs images) there
 
 -- a filter counts no more
 count_by-filter-le : {X : Type 0} (p q : X → Bool) (xs : List X) → count_by p (filter q xs) ≤ count_by p xs
@@ -51,9 +50,7 @@ count_by-map-le : {X : Type 0} (p : X → Bool) (f : X → X) (xs : List X) → 
 count_by-map-le {X} p f xs falls =
     let one : X → ℕ = λ x. cond (p x) 1 0 in
     let moved : sum_by one (map f xs) ≡ sum_by (λ x. one (f x)) xs = fold-map (λ n x. n + one x) f 0 xs in
-    let fewer : sum_by (λ x. one (f x)) xs ≤ sum_by one xs =
-    sum_by-le-sum_by (λ x. one (f x)) one xs (λ x. one_falls (p (f x)) (p x) (falls x)) in
-    omega (arith, moved, fewer)
+    omega (arith, moved, sum_by-le-sum_by (λ x. one (f x)) one xs (λ x. one_falls (p (f x)) (p x) (falls x)))
   where
     one_falls : (b c : Bool) → (b ≡ true → c ≡ true) → cond b 1 0 ≤ cond c 1 0
     one_falls false c h = omega arith
@@ -93,7 +90,7 @@ opening_is_lawful configuration clock spans = record {
   next = (omega arith, omega arith);
   few = omega arith;
   rising = λ i j d before within. absurd (omega arith);
-  each = λ k d within. absurd (omega arith);
+  sessions = λ k d within. absurd (omega arith);
   limits = λ user. omega arith;
   addresses = λ one other address there here is same. absurd (omega arith);
 }
@@ -108,13 +105,13 @@ later_is_lawful configuration clock now table later lawful = record {
   rising = lawful.rising;
   limits = lawful.limits;
   addresses = lawful.addresses;
-  each = All-weaker (IsLawfulSession configuration clock table.next) (IsLawfulSession configuration now table.next) (λ session known. record {
+  sessions = All-weaker (IsLawfulSession configuration clock table.next) (IsLawfulSession configuration now table.next) (λ session known. record {
     number = known.number;
     client = known.client;
     user = known.user;
     address = known.address;
     made = omega arith;
-  }) table.sessions lawful.each;
+  }) table.sessions lawful.sessions;
 }
 
 pub cut_is_lawful : (configuration : Configuration) (now : ℕ) (table : Table) → IsLawful configuration now table
@@ -126,7 +123,7 @@ cut_is_lawful configuration now table lawful =
       next = lawful.next;
       few = omega (arith, length-filter live sessions, count_by-le-length live sessions, lawful.few);
       rising = AllPairs-filter IsNumberedBefore live sessions lawful.rising;
-      each = All-filter live (IsLawfulSession configuration now table.next) sessions lawful.each;
+      sessions = All-filter live (IsLawfulSession configuration now table.next) sessions lawful.sessions;
       limits = λ user.
           omega (arith, lawful.limits user, count_by-filter-le (λ session. (session.user == user) && is_open session.phase) live sessions);
       addresses = λ one other address there here.
@@ -156,7 +153,7 @@ address_is_free sessions (Some pool) address is = by_search (least_free sessions
         subst (λ o. IfSome o (λ a. IsInPool (Some pool) a × (is_held sessions a ≡ false))) same ((low, omega arith), free)
 
 -- what a grant tells of the table
-record Grants (configuration : Configuration) (user : ℕ) (table : Table) (grant : Grant) : Type 0 where
+record AllowsGrant (configuration : Configuration) (user : ℕ) (table : Table) (grant : Grant) : Type 0 where
   below : open_sessions user table.sessions < session_limit configuration user
   address : address_from table.sessions (pool_of configuration user) ≡ Ok grant.address
   few : length table.sessions < sessions_max
@@ -164,7 +161,7 @@ record Grants (configuration : Configuration) (user : ℕ) (table : Table) (gran
   number : grant.number ≡ table.next
 
 granted_tells : (configuration : Configuration) (user : ℕ) (table : Table) (grant : Grant) → granted configuration user table ≡ Ok grant
-    → Grants configuration user table grant
+    → AllowsGrant configuration user table grant
 unfolding granted
 granted_tells configuration user table grant is =
     let at_limit : Bool = nat_le (session_limit configuration user) (open_sessions user table.sessions) in
@@ -190,7 +187,7 @@ granted_tells configuration user table grant is =
 
 -- a session that is granted is lawful by itself
 new_is_lawful : (configuration : Configuration) (client user now : ℕ) (grant : Grant) (table : Table)
-    → client < length configuration.clients → user < length configuration.users → Grants configuration user table grant → 1 ≤ table.next
+    → client < length configuration.clients → user < length configuration.users → AllowsGrant configuration user table grant → 1 ≤ table.next
     → IsLawfulSession configuration now (table.next + 1) (record {
       number = grant.number;
       client = client;
@@ -225,14 +222,13 @@ limits_with_session configuration user other sessions new own below within =
         → open_sessions other (sessions ++ new ∷ []) ≤ session_limit configuration other
     by_test true is sum =
         let same : user ≡ other = sym own ∙ eqb-true new.user other is in
-        let below_other : open_sessions other sessions < session_limit configuration other =
-        subst (λ u. open_sessions u sessions < session_limit configuration u) same below in
-        omega (arith, sum, below_other, at_most_one ((new.user == other) && is_open new.phase))
+        let room = subst (λ u. open_sessions u sessions < session_limit configuration u) same below in
+        omega (arith, sum, room, at_most_one ((new.user == other) && is_open new.phase))
     by_test false is sum =
         let none : ◌≡◌ {A = ℕ} (cond ((new.user == other) && is_open new.phase) 1 0) 0 = rw is refl in
         omega (arith, sum, none, within)
 
--- who holds an address, in a list of sessions
+-- the address of a session is held
 holds : (sessions : List Session) (session : Session) (address : ℕ) → Contains sessions session → session.address ≡ Some address
     → is_held sessions address ≡ true
 holds sessions session address there is =
@@ -267,15 +263,15 @@ with_session_is_lawful configuration client user now grant table known_client kn
     record {
       next = (omega arith, omega (arith, told.last));
       few = omega (arith, length_push sessions new, told.few);
-      rising = all_pairs_push IsNumberedBefore sessions new lawful.rising (λ k d within. omega (arith, (lawful.each k d within).number.1, told.number));
-      each = All-push (IsLawfulSession configuration now (table.next + 1)) sessions new
+      rising = all_pairs_push IsNumberedBefore sessions new lawful.rising (λ k d within. omega (arith, (lawful.sessions k d within).number.1, told.number));
+      sessions = All-push (IsLawfulSession configuration now (table.next + 1)) sessions new
           (All-weaker (IsLawfulSession configuration now table.next) (IsLawfulSession configuration now (table.next + 1)) (λ session known. record {
             number = (known.number.0, omega (arith, known.number.1));
             client = known.client;
             user = known.user;
             address = known.address;
             made = known.made;
-          }) sessions lawful.each)
+          }) sessions lawful.sessions)
           (new_is_lawful configuration client user now grant table known_client known_user told first);
       limits = λ other. limits_with_session configuration user other sessions new refl told.below (lawful.limits other);
       addresses = addresses_with_session sessions new lawful.addresses
@@ -306,6 +302,12 @@ law_kept configuration clock next change number session known =
     })
     (λ _. known)
 
+-- the number at a place, after a change of phases
+number_at : (change : Phase → Phase) (number : ℕ) (sessions : List Session) (k : ℕ) (d : Session) → k < length sessions
+    → (get_or (map (with_phase change number) sessions) k d).number ≡ (get_or sessions k d).number
+number_at change number sessions k d within =
+    ap (λ s. s.number) (get_or-map (with_phase change number) sessions k d d within) ∙ number_kept change number (get_or sessions k d)
+
 -- a session that is open after a change that opens none was open before
 was_open : (change : Phase → Phase) → ((phase : Phase) → is_open (change phase) ≡ true → is_open phase ≡ true)
     → (number user : ℕ) (session : Session)
@@ -314,7 +316,9 @@ was_open : (change : Phase → Phase) → ((phase : Phase) → is_open (change p
 was_open change opens_none number user session =
     cond_both (session.number == number) (record session { phase = change session.phase }) session
     (λ s. ((s.user == user) && is_open s.phase) ≡ true → ((session.user == user) && is_open session.phase) ≡ true)
-    (λ _ is. let parts = and_parts (session.user == user) (is_open (change session.phase)) is in and_from (session.user == user) (is_open session.phase) parts.0 (opens_none session.phase parts.1))
+    (λ _ is.
+    let parts = and_parts (session.user == user) (is_open (change session.phase)) is in
+    and_from (session.user == user) (is_open session.phase) parts.0 (opens_none session.phase parts.1))
     (λ _ is. is)
 
 -- a change of one session's phase that opens none
@@ -328,24 +332,24 @@ change_is_lawful change opens_none configuration clock number table lawful =
       next = lawful.next;
       few = omega (arith, length-map sessions changed, lawful.few);
       rising = λ i j d before within.
-          let within_old : j < length sessions = omega (arith, length-map sessions changed) in
-          let first : (get_or (map changed sessions) i d).number ≡ (get_or sessions i d).number =
-          ap (λ s. s.number) (get_or-map changed sessions i d d (omega arith)) ∙ number_kept change number (get_or sessions i d) in
-          let second : (get_or (map changed sessions) j d).number ≡ (get_or sessions j d).number =
-          ap (λ s. s.number) (get_or-map changed sessions j d d within_old) ∙ number_kept change number (get_or sessions j d) in
-          omega (arith, first, second, lawful.rising i j d before within_old);
-      each = All-map (IsLawfulSession configuration clock table.next) changed sessions
+          let there : j < length sessions = omega (arith, length-map sessions changed) in
+          let first = number_at change number sessions i d (omega arith) in
+          let second = number_at change number sessions j d there in
+          omega (arith, first, second, lawful.rising i j d before there);
+      sessions = All-map (IsLawfulSession configuration clock table.next) changed sessions
           (All-weaker (IsLawfulSession configuration clock table.next) (λ s. IsLawfulSession configuration clock table.next (changed s))
-          (law_kept configuration clock table.next change number) sessions lawful.each);
+          (law_kept configuration clock table.next change number) sessions lawful.sessions);
       limits = λ user.
-          omega (arith, lawful.limits user, count_by-map-le (λ session. (session.user == user) && is_open session.phase) changed sessions (was_open change opens_none number user));
+          let is_counted : Session → Bool = λ session. (session.user == user) && is_open session.phase in
+          omega (arith, lawful.limits user, count_by-map-le is_counted changed sessions (was_open change opens_none number user));
       addresses = λ one other address there here is same.
           let first = Contains-map changed sessions one there in
           let second = Contains-map changed sessions other here in
-          let shared = lawful.addresses first.0 second.0 address first.1 second.1
-          (sym (address_kept change number first.0) ∙ ap (λ s. s.address) (sym first.2) ∙ is)
-          (sym (address_kept change number second.0) ∙ ap (λ s. s.address) (sym second.2) ∙ same) in
-          ap (λ s. s.number) first.2 ∙ number_kept change number first.0 ∙ shared ∙ sym (number_kept change number second.0) ∙ ap (λ s. s.number) (sym second.2);
+          let held = sym (address_kept change number first.0) ∙ ap (λ s. s.address) (sym first.2) ∙ is in
+          let held_too = sym (address_kept change number second.0) ∙ ap (λ s. s.address) (sym second.2) ∙ same in
+          let one_is = ap (λ s. s.number) first.2 ∙ number_kept change number first.0 in
+          let other_is = ap (λ s. s.number) second.2 ∙ number_kept change number second.0 in
+          one_is ∙ lawful.addresses first.0 second.0 address first.1 second.1 held held_too ∙ sym other_is;
     }
 
 pub started_is_lawful : (configuration : Configuration) (clock number : ℕ) (table : Table) → IsLawful configuration clock table

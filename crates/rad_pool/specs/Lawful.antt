@@ -1,4 +1,5 @@
--- What holds of the table of sessions whenever calls of `Sessions` alone have made it: the law that users, numbers and addresses obey.
+-- The law of the table: what holds of it with no sessions, and is kept by expiry, by a grant to a client and a user of the
+-- configuration, by Start and by Stop, while moments don't fall. `lawful_tables` says so.
 use Rattle.std.specs.Prelude.{◌≡◌, ℕ, ◌+◌, ◌≤◌, ◌<◌, List, length, All, AllPairs, Contains, Option, Some, None, IfSome}
 use Rattle.std.specs.Int.{IsInRange}
 use Rattle.rad_config.specs.Configurations.{Configuration}
@@ -13,9 +14,9 @@ abbrev pub IsInPool : Option Pool → ℕ → Type 0
 IsInPool None address = ⊥
 IsInPool (Some pool) address = HasAddress pool address
 
--- one session of a lawful table, whose next number is `next`
+-- what holds of each session of a lawful table, whose next number is given
 pub record IsLawfulSession (configuration : Configuration) (clock next : ℕ) (session : Session) : Type 0 where
-  -- its number is at least 1, and below the next one
+  -- its number counts from 1, and the next one is greater
   pub number : (1 ≤ session.number) × (session.number < next)
   -- its client and its user are places of the configuration
   pub client : session.client < length configuration.clients
@@ -35,16 +36,16 @@ HaveOwnAddresses sessions =
     (one other : Session) (address : ℕ) → Contains sessions one → Contains sessions other
     → one.address ≡ Some address → other.address ≡ Some address → one.number ≡ other.number
 
--- A table is lawful beside a configuration when the clock shows a moment.
+-- what holds of the table beside a configuration, when the clock shows a moment
 pub record IsLawful (configuration : Configuration) (clock : ℕ) (table : Table) : Type 0 where
-  -- numbers count from 1, and after the last one none is left
+  -- the next number counts from 1; after the last number there is only one more, which no session has
   pub next : IsInRange 1 (last_number + 1) table.next
-  -- there are at most as many sessions as there may be
+  -- there are no more sessions than there may be
   pub few : length table.sessions ≤ sessions_max
   -- numbers rise from the oldest session to the newest, so no two have the same
   pub rising : AllPairs IsNumberedBefore table.sessions
-  -- each session is lawful by itself
-  pub each : All (IsLawfulSession configuration clock table.next) table.sessions
+  -- each session is lawful
+  pub sessions : All (IsLawfulSession configuration clock table.next) table.sessions
   -- no user has more open sessions than the configuration allows
   pub limits : (user : ℕ) → open_sessions user table.sessions ≤ session_limit configuration user
   -- no address belongs to two sessions

@@ -7,9 +7,10 @@ ghost use Rattle.rad_pool.specs.Lawful.{IsLawful};
 ghost use Rattle.rad_pool.specs.Sessions.{Table, cut, opening, started, stopped};
 ghost use Rattle.rad_pool.specs.declared.grant.Grant.{Grant};
 
-/// A table that is empty is lawful, and each change of `Sessions` leads from a lawful table to a lawful one.
+/// A table without sessions is lawful, and expiry, a grant to a client and a user of the configuration, Start and Stop keep a
+/// lawful table so while moments don't fall.
 ///
-/// It does nothing at run time: it is the law on which those who keep a table rest.
+/// The call costs nothing: it does nothing at run time. Those who keep a table call it to rest on the law.
 pub fn lawful_tables()
     ensures opening { (configuration : Configuration) (clock : ℕ) (spans : Spans) →
         IsLawful configuration clock (opening spans) }
