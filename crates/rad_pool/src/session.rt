@@ -26,7 +26,7 @@ pub enum Phase {
 /// A session that was granted.
 #[derive(Clone, Copy, Debug, PartialEq, Eq)]
 pub struct Session {
-    /// Counts from 1 and is never given twice.
+    /// Counts from 1. A later session has a greater number.
     pub number: u64,
     /// The client's place in the configuration.
     pub client: u32,

@@ -13,7 +13,7 @@ use rad_config::{Config, Spans};
 use std::alloc::{AllocError, Global};
 use std::marker::Model;
 
-/// The most sessions that there are at a time.
+/// The most sessions that a lawful table has, of any phase.
 pub const SESSIONS_MAX: usize = 4_096;
 
 /// The sessions, oldest first, and the number of the next one.
@@ -195,7 +195,7 @@ impl Sessions {
         rows::find(&self.rows, client, number, address, name)
     }
 
-    /// An equal table. Memory that was made ready isn't copied.
+    /// An equal table.
     pub fn copy(&self) -> Result<Sessions, AllocError>
         ensures { IfOk result (λ copy. copy.table ≡ self.now.table) }
     {
