@@ -1,3 +1,4 @@
+mod LawfulLemmas
 mod OccurrenceLemmas
 mod ReplyLemmas
 mod ReportLemmas

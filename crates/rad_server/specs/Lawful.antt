@@ -1,11 +1,23 @@
--- What holds of each state that a server can have.
-use Rattle.std.specs.Prelude.{◌≡◌, ◌≤◌}
+-- The law of the state: what holds of it before the first request, and is kept by each step. `lawful_steps` says so.
+use Rattle.std.specs.Prelude.{◌≡◌, ◌+◌, ◌≤◌, []}
+use Rattle.std.specs.Int.{IsInRange}
 use Rattle.rad_config.specs.Configurations.{Configuration}
 use Rattle.rad_config.specs.Spans.{moment_max, spans_of}
+use Rattle.rad_pool.specs.Grants.{last_number}
+use Rattle.rad_pool.specs.Lawful.{IsLawful as IsLawfulTable}
 use Rattle.rad_server.specs.States.{State}
 
+-- what holds of the state of a server with this configuration
 pub record IsLawful (configuration : Configuration) (state : State) : Type 0 where
-  -- the clock is a moment
+  -- the clock shows a moment
   pub clock : state.clock ≤ moment_max
   -- things are remembered for as long as the configuration says
   pub spans : state.table.spans ≡ spans_of configuration
+  -- the table of sessions is lawful: no address belongs to two of them
+  pub table : IsLawfulTable configuration state.clock state.table
+  -- no reply is kept yet
+  pub kept : state.kept ≡ []
+  -- no challenge waits for an answer yet
+  pub challenges : state.challenges ≡ []
+  -- the next number of a challenge counts from 1; after the last number there is only one more
+  pub next_challenge : IsInRange 1 (last_number + 1) state.next_challenge

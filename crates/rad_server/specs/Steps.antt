@@ -60,13 +60,10 @@ with_reply request body state = state
 
 -- ---- the step
 
--- the reply to a request by its rule, and the state after it
-abbrev pub reply_by_port : Configuration → State → Request → List ℕ → Body × State
-reply_by_port configuration state request draw = by_door request.door
-  where
-    by_door : Door → Body × State
-    by_door Auth = access configuration state request draw
-    by_door Acct = account configuration state request
+-- the reply to a request by the rule of the port that it came to, and the state after it
+abbrev pub reply_by_port : Door → Configuration → State → Request → List ℕ → Body × State
+reply_by_port Auth configuration state request draw = access configuration state request draw
+reply_by_port Acct configuration state request draw = account configuration state request
 
 -- a reply that is sent, and kept for repeats
 abbrev pub sent_and_kept : Request → Body × State → Answer × State
@@ -75,7 +72,7 @@ sent_and_kept request (body, state) = (Send body, with_reply request body state)
 -- the answer to a request that is no repeat, and the state after it; without room to keep a reply there is none
 abbrev pub new_answer : Configuration → State → Request → List ℕ → Answer × State
 new_answer configuration state request draw =
-    if nat_le kept_max (length state.kept) then (Busy, state) else sent_and_kept request (reply_by_port configuration state request draw)
+    if nat_le kept_max (length state.kept) then (Busy, state) else sent_and_kept request (reply_by_port request.door configuration state request draw)
 
 -- the answer to a request, given the kept reply if it is a repeat, and the state after it
 abbrev pub answer_with : Configuration → State → Request → List ℕ → Option Kept → Answer × State

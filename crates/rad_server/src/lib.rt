@@ -13,6 +13,7 @@ mod accounting;
 mod answer;
 mod credentials;
 mod denial;
+mod lawful;
 mod occurrence;
 mod plan;
 mod reply;
@@ -20,4 +21,5 @@ mod server;
 
 pub use answer::Answer;
 pub use denial::Denial;
+pub use lawful::lawful_steps;
 pub use server::Server;

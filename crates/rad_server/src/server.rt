@@ -6,6 +6,7 @@ ghost use Rattle.rad_server.specs.States.{opening};
 ghost use Rattle.rad_server.specs.Steps.{IsSealable, step};
 
 use crate::answer::Answer;
+use crate::lawful::lawful_steps;
 use crate::plan::{commit, make_room, plan_step};
 use rad_auth::{Request, admitted_is_answerable};
 use rad_config::Config;
@@ -96,6 +97,7 @@ impl<'c> Server<'c> {
         ensures unchanged { OnErr result (self.new ≡ self.old) }
     {
         admitted_is_answerable(self.config.clients(), request);
+        lawful_steps();
         let Server {
             alloc,
             config,
