@@ -1,12 +1,14 @@
 -- The law of the table: what holds of it with no sessions, and is kept by expiry, by a grant to a client and a user of the
 -- configuration, by Start and by Stop, while moments don't fall. `lawful_tables` says so.
-use Rattle.std.specs.Prelude.{◌≡◌, ℕ, ◌+◌, ◌≤◌, ◌<◌, List, length, All, AllPairs, Contains, Option, Some, None, IfSome}
+use Rattle.std.specs.Prelude.{◌≡◌, ℕ, ◌+◌, ◌≤◌, ◌<◌, List, length, All, AllPairs, Contains, Option, Some, None, IfSome, Ok}
 use Rattle.std.specs.Int.{IsInRange}
 use Rattle.rad_config.specs.Configurations.{Configuration}
 use Rattle.rad_config.specs.Ranges.{HasAddress}
 use Rattle.rad_config.specs.declared.pool.Pool.{Pool}
-use Rattle.rad_pool.specs.Grants.{last_number, open_sessions, pool_of, session_limit}
-use Rattle.rad_pool.specs.Sessions.{Table, sessions_max}
+use Rattle.rad_config.specs.declared.spans.Spans.{Spans}
+use Rattle.rad_pool.specs.Grants.{granted, last_number, open_sessions, pool_of, session_limit, with_session}
+use Rattle.rad_pool.specs.Sessions.{Table, cut, opening, sessions_max, started, stopped}
+use Rattle.rad_pool.specs.declared.grant.Grant.{Grant}
 use Rattle.rad_pool.specs.declared.session.Session.{Session}
 
 -- there is a pool, and it has this address
@@ -50,3 +52,27 @@ pub record IsLawful (configuration : Configuration) (clock : ℕ) (table : Table
   pub limits : (user : ℕ) → open_sessions user table.sessions ≤ session_limit configuration user
   -- no address belongs to two sessions
   pub addresses : HaveOwnAddresses table.sessions
+
+-- ---- what keeps the law
+
+abbrev pub OpeningIsLawful : Type 0
+OpeningIsLawful = (configuration : Configuration) (clock : ℕ) (spans : Spans) → IsLawful configuration clock (opening spans)
+
+-- moments don't fall
+abbrev pub ExpiryKeepsTheLaw : Type 0
+ExpiryKeepsTheLaw = (configuration : Configuration) (clock now : ℕ) (table : Table) → clock ≤ now
+    → IsLawful configuration clock table → IsLawful configuration now (cut now table)
+
+-- the client and the user are places of the configuration
+abbrev pub GrantKeepsTheLaw : Type 0
+GrantKeepsTheLaw = (configuration : Configuration) (client user now : ℕ) (grant : Grant) (table : Table)
+    → client < length configuration.clients → user < length configuration.users → granted configuration user table ≡ Ok grant
+    → IsLawful configuration now table → IsLawful configuration now (with_session client user now grant table)
+
+abbrev pub StartKeepsTheLaw : Type 0
+StartKeepsTheLaw = (configuration : Configuration) (clock number : ℕ) (table : Table)
+    → IsLawful configuration clock table → IsLawful configuration clock (started number table)
+
+abbrev pub StopKeepsTheLaw : Type 0
+StopKeepsTheLaw = (configuration : Configuration) (clock number : ℕ) (table : Table)
+    → IsLawful configuration clock table → IsLawful configuration clock (stopped number table)

@@ -11,9 +11,9 @@ use Rattle.rad_auth.specs.declared.arrival.Door.TheVariants.{Auth, Acct}
 use Rattle.rad_auth.specs.declared.arrival.Request.{Request}
 use Rattle.rad_config.specs.Configurations.{Configuration, user_place}
 use Rattle.rad_config.specs.Spans.{moment_max}
-use Rattle.rad_pool.specs.Grants.{granted, with_session}
-use Rattle.rad_pool.specs.Lawful.{IsLawful as IsLawfulTable}
-use Rattle.rad_pool.specs.Sessions.{Table, cut, started, stopped}
+use Rattle.rad_pool.specs.Grants.{granted}
+use Rattle.rad_pool.specs.Lawful.{ExpiryKeepsTheLaw, GrantKeepsTheLaw, IsLawful as IsLawfulTable, StartKeepsTheLaw, StopKeepsTheLaw}
+use Rattle.rad_pool.specs.Sessions.{Table, started, stopped}
 use Rattle.rad_pool.specs.declared.grant.Grant.{Grant}
 use Rattle.rad_pool.specs.declared.grant.Refusal.{Refusal}
 use Rattle.rad_server.specs.Access.{Challenged, Decision, Granted, access, access_with, answered_challenge, challenge_or_denial, decided, decision, decision_on_answer, decision_on_password, password_matches, session_for, session_or_denial, user_at, user_by_answer, user_by_password, without_challenge}
@@ -28,12 +28,10 @@ use Rattle.rad_server.specs.declared.denial.Denial.TheVariants.{AccessDenied}
 
 -- what the law of the table says
 pub record TableLaws : Type 0 where
-  pub cut : (configuration : Configuration) (clock now : ℕ) (table : Table) → clock ≤ now → IsLawfulTable configuration clock table
-      → IsLawfulTable configuration now (cut now table)
-  pub granted : (configuration : Configuration) (client user now : ℕ) (grant : Grant) (table : Table) → client < length configuration.clients → user < length configuration.users
-      → granted configuration user table ≡ Ok grant → IsLawfulTable configuration now table → IsLawfulTable configuration now (with_session client user now grant table)
-  pub started : (configuration : Configuration) (clock number : ℕ) (table : Table) → IsLawfulTable configuration clock table → IsLawfulTable configuration clock (started number table)
-  pub stopped : (configuration : Configuration) (clock number : ℕ) (table : Table) → IsLawfulTable configuration clock table → IsLawfulTable configuration clock (stopped number table)
+  pub expiry : ExpiryKeepsTheLaw
+  pub grant : GrantKeepsTheLaw
+  pub start : StartKeepsTheLaw
+  pub stop : StopKeepsTheLaw
 
 -- ---- the clock
 
@@ -41,7 +39,7 @@ at_moment_is_lawful : TableLaws → (configuration : Configuration) (state : Sta
 at_moment_is_lawful laws configuration state moment within lawful = record {
   clock = omega (arith, within, lawful.clock);
   spans = lawful.spans;
-  table = laws.cut configuration state.clock (max state.clock moment) state.table (omega arith) lawful.table;
+  table = laws.expiry configuration state.clock (max state.clock moment) state.table (omega arith) lawful.table;
   kept = ap (filter _) lawful.kept;
   challenges = ap (filter _) lawful.challenges;
   next_challenge = lawful.next_challenge;
@@ -115,7 +113,7 @@ decided_is_lawful laws configuration state request draw (Ok (Challenged user)) c
 decided_is_lawful laws configuration state request draw (Ok (Granted user grant)) client lawful sound = record {
   clock = lawful.clock;
   spans = lawful.spans;
-  table = laws.granted configuration request.client user state.clock grant state.table client sound.0 sound.1 lawful.table;
+  table = laws.grant configuration request.client user state.clock grant state.table client sound.0 sound.1 lawful.table;
   kept = lawful.kept;
   challenges = lawful.challenges;
   next_challenge = lawful.next_challenge;
@@ -166,11 +164,11 @@ account_is_lawful laws configuration state request lawful =
 
     start : (o : Option ℕ) → IsKept (changed started o state.table)
     start None = same
-    start (Some number) = (laws.started configuration state.clock number state.table lawful.table, refl)
+    start (Some number) = (laws.start configuration state.clock number state.table lawful.table, refl)
 
     stop : (o : Option ℕ) → IsKept (changed stopped o state.table)
     stop None = same
-    stop (Some number) = (laws.stopped configuration state.clock number state.table lawful.table, refl)
+    stop (Some number) = (laws.stop configuration state.clock number state.table lawful.table, refl)
 
     with_number : (is_start is_stop : Bool) → IsKept (cond is_start (changed started session state.table) (cond is_stop (changed stopped session state.table) state.table))
     with_number true is_stop = start session

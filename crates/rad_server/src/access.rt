@@ -124,9 +124,9 @@ fn password_matches(
             let secret = config.clients().secret(request.client);
             password_right(secret, &authenticator, value, password)
         }
-        SentPassword::ChapPassword(value, Some(challenge)) => chap_right(
-            value, password, challenge,
-        ),
-        SentPassword::ChapPassword(value, None) => chap_right(value, password, &authenticator),
+        SentPassword::ChapPassword(value, challenge) => {
+            let challenge = challenge.unwrap_or(&authenticator);
+            chap_right(value, password, challenge)
+        }
     }
 }

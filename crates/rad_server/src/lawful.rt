@@ -1,11 +1,5 @@
 //! The law of the state.
-ghost use Rattle.std.specs.Prelude.{ℕ, ◌≤◌, ◌<◌, List, length};
-ghost use Rattle.rad_auth.specs.declared.arrival.Request.{Request};
-ghost use Rattle.rad_config.specs.Configurations.{Configuration};
-ghost use Rattle.rad_config.specs.Spans.{moment_max};
-ghost use Rattle.rad_server.specs.Lawful.{IsLawful};
-ghost use Rattle.rad_server.specs.States.{State, opening};
-ghost use Rattle.rad_server.specs.Steps.{step};
+ghost use Rattle.rad_server.specs.Lawful.{OpeningIsLawful, StepKeepsTheLaw};
 
 use rad_pool::lawful_tables;
 
@@ -14,13 +8,8 @@ use rad_pool::lawful_tables;
 ///
 /// The call costs nothing: it does nothing at run time. Those who speak of many steps call it to rest on the law.
 pub fn lawful_steps()
-    ensures opening { (configuration : Configuration) →
-        IsLawful configuration (opening configuration) }
-    ensures step { (configuration : Configuration) (state : State)
-        (request : Request) (moment : ℕ) (draw : List ℕ) →
-        moment ≤ moment_max → request.client < length configuration.clients →
-        IsLawful configuration state →
-        IsLawful configuration (step configuration state request moment draw).1 }
+    ensures opening { OpeningIsLawful }
+    ensures step { StepKeepsTheLaw }
 {
     lawful_tables();
 }

@@ -16,4 +16,4 @@ returns-clause-opening c = λ configuration. record {
 pub returns-clause-step : goal.returns-clause-step
 returns-clause-step c =
     let laws = c.lawful_tables.ensures in
-    step_is_lawful (record { cut = laws.cut; granted = laws.granted; started = laws.started; stopped = laws.stopped })
+    step_is_lawful (record { expiry = laws.expiry; grant = laws.grant; start = laws.start; stop = laws.stop })
