@@ -1,5 +1,5 @@
 -- What the code's values stand for, and what a plan says. No other crate cites these.
-use Rattle.std.specs.Prelude.{◌≡◌, ℕ, ◌<◌, ◌==◌, ◌&&◌, ◌||◌, Bool, true, if◌then◌else◌, List, [], ◌++◌, length, drop, take, Option, Some, None, option_copied, Result, Ok, Err, IsTrue}
+use Rattle.std.specs.Prelude.{◌≡◌, ℕ, ◌<◌, ◌==◌, ◌&&◌, ◌||◌, Bool, true, if◌then◌else◌, List, ◌++◌, length, drop, take, Option, Some, None, option_copied, Result, Ok, Err, IsTrue}
 use Rattle.std.specs.Int.{w32, w64, from_be_bytes}
 use Rattle.std.specs.Option.{option_or}
 use lib.Pointwise.{pointwise}
@@ -19,6 +19,7 @@ use Rattle.rad_server.specs.Accounting.{account, changed, class_number, class_si
 use Rattle.rad_server.specs.Credentials.{Credentials, SentPassword, UserPassword, ChapPassword}
 use Rattle.rad_server.specs.Occurrences.{Occurrence, Absent, Once, Repeated, occurrence}
 use Rattle.rad_server.specs.Replies.{attribute, class_prefix}
+use Rattle.rad_server.specs.Servers.{state_with}
 use Rattle.rad_server.specs.States.{State, without_expired}
 use Rattle.rad_server.specs.Steps.{answer}
 use Rattle.rad_server.specs.declared.access.NewSession.{NewSession}
@@ -136,11 +137,7 @@ access_front code = record { code = code; attributes = attribute type_message_au
 
 -- ---- plans
 
--- the state with this clock and these sessions; no reply is kept yet, and no challenge is made
-abbrev pub state_with : ℕ → Table → State
-state_with clock table = record { clock = clock; table = table; kept = []; challenges = []; next_challenge = 1 }
-
--- the same with only the live sessions
+-- the state with this clock and the live ones of these sessions
 abbrev pub live_state : ℕ → Table → State
 live_state now table = without_expired (state_with now table)
 

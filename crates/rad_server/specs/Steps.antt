@@ -1,6 +1,6 @@
 -- The step of the server: from a configuration, a state and an admitted request, with its moment in milliseconds and its draw
--- of 16 octets, to the answer and the next state. A repeated request gets the reply that is kept (RFC 2865, section 3; RFC 5080, section
--- 2.2.2); that Accounting-Requests are treated alike is our choice.
+-- of 16 octets, to the answer and the next state. A repeated request gets the reply that is kept (RFC 2865, section 3; RFC 5080,
+-- section 2.2.2); that Accounting-Requests are treated alike is our choice.
 use Rattle.std.specs.Prelude.{ℕ, ◌==◌, ◌&&◌, nat_le, not, Bool, true, false, if◌then◌else◌, List, length, find, filter, Option, Some, None}
 use lib.Pointwise.{pointwise}
 use Rattle.rad_packet.specs.Bodies.{Body}

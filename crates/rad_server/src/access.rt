@@ -2,8 +2,8 @@
 ghost use Rattle.std.specs.Prelude.{◌≡◌, ◌≤◌, ◌<◌, IfOk, None, length};
 ghost use Rattle.rad_auth.specs.Admission.{IsAnswerable};
 ghost use Rattle.rad_config.specs.Spans.{moment_max};
-ghost use Rattle.rad_server.specs.Access.{decision, decision_on_password, password_matches, session_for, user_by_password};
 ghost use Rattle.rad_pool.specs.Sessions.{cut};
+ghost use Rattle.rad_server.specs.Access.{decision, decision_on_password, password_matches, session_for, user_by_password};
 ghost use Rattle.rad_server.specs.Plans.{Gives, IsDecision, IsGrantOf, IsSent, credentials_of, decision_of, live_state, sent_password_of};
 
 use crate::credentials::{Credentials, SentPassword};
@@ -36,8 +36,8 @@ pub(crate) fn decide(
     decide_on(config, sessions, now, request, &credentials)
 }
 
-// The session that these credentials are granted. No challenge is made yet, so no State is known, and nobody who has a challenge is
-// granted a session.
+// The session that these credentials are granted. No challenge is made yet, so no State is known, and nobody who has a
+// challenge is granted a session.
 fn decide_on(
     config: &Config,
     sessions: &Sessions,
@@ -59,6 +59,7 @@ fn decide_on(
     decide_on_password(config, sessions, now, request, credentials)
 }
 
+// The same where no challenge is answered.
 #[tactic(auto, unfolding(crate::specs::Access::decision_on_password, crate::specs::Access::challenge_or_denial))]
 fn decide_on_password(
     config: &Config,

@@ -5,11 +5,11 @@ ghost use Rattle.rad_auth.specs.Sealing.{IsReply};
 ghost use Rattle.rad_config.specs.Configurations.{user_place};
 ghost use Rattle.rad_config.specs.Spans.{moment_max};
 ghost use Rattle.rad_pool.specs.Sessions.{cut};
-ghost use Rattle.rad_server.specs.Plans.{IsAccessPlan, IsAccountingPlan, IsGrantable, IsPlanOf, IsReadyFor, IsReport, after, live_state, session_of, state_with};
+ghost use Rattle.rad_server.specs.Plans.{IsAccessPlan, IsAccountingPlan, IsGrantable, IsPlanOf, IsReadyFor, IsReport, after, live_state, session_of};
+ghost use Rattle.rad_server.specs.Servers.{state_with};
 
 use crate::access::{NewSession, decide};
 use crate::accounting::{Report, START, STOP};
-use crate::credentials::Credentials;
 use crate::reply::{access_accept, access_reject, accounting_response, status_reply};
 use rad_auth::{Door, Request};
 use rad_config::Config;

@@ -26,9 +26,8 @@ pub struct Server<'c> {
 }
 
 impl<'c> Model for Server<'c> {
-    ghost use Rattle.rad_server.specs.Plans.{state_with};
     ghost use Rattle.rad_server.specs.Lawful.{IsLawful};
-    ghost use Rattle.rad_server.specs.Servers.{Server};
+    ghost use Rattle.rad_server.specs.Servers.{Server, state_with};
 
     ghost Value = { Server };
 
@@ -78,9 +77,9 @@ impl<'c> Server<'c> {
 
     /// Answers an admitted request, and goes on to the next state.
     ///
-    /// The request was admitted with the clients of the server's configuration. The moment is in milliseconds, at most `MOMENT_MAX`, and
-    /// may be earlier than the clock, which doesn't go back. The draw becomes part of the State of a challenge. If memory is refused,
-    /// nothing has changed.
+    /// The request was admitted with the clients of the server's configuration. The moment is in milliseconds, at most `MOMENT_MAX`,
+    /// and may be earlier than the clock, which doesn't go back. The draw will be part of the State of a challenge. If memory is
+    /// refused, nothing has changed.
     pub fn step(
         &mut self,
         request: &Request,

@@ -2,7 +2,8 @@ use Rattle.std.proofs.Common.{◌≡◌, ◌<◌, [], length, ap, subst, sym, �
 use Rattle.rad_config.specs.Configurations.{Configuration}
 use Rattle.rad_pool.specs.Sessions.{Table}
 use Rattle.rad_server.specs.Lawful.{IsLawful}
-use Rattle.rad_server.specs.Plans.{after, live_state, state_with}
+use Rattle.rad_server.specs.Plans.{after, live_state}
+use Rattle.rad_server.specs.Servers.{state_with}
 use Rattle.rad_server.specs.States.{State}
 use Rattle.rad_server.specs.Steps.{answer, step}
 use Rattle.rad_server.proofs.server.Server.step.Goals as goal
