@@ -1,0 +1,71 @@
+//! A test is a table of steps, which `play` takes in a server that is opened for it. The octets of requests and replies are those
+//! of RFC 2865 and RFC 2866.
+mod access;
+mod access_order;
+mod accounting;
+mod campus;
+mod chap;
+mod copies;
+mod full;
+mod playing;
+mod replies;
+mod requests;
+mod sessions;
+mod status;
+mod texts;
+
+use campus::CAMPUS;
+use playing::Run;
+use rad_config::Config;
+use rad_pool::Phase;
+use requests::Asked;
+use std::alloc::Global;
+use std::process::Abort;
+use std::test::Fail;
+
+/// The port that requests come from, where it doesn't matter.
+const PORT: u16 = 1645;
+
+/// What the server must answer: the attributes of the reply, without the Message-Authenticator of an Access-Accept or an
+/// Access-Reject.
+#[derive(Clone, Copy)]
+enum Answered<'a> {
+    Accept(&'a [u8]),
+    Reject(&'a [u8]),
+    /// An Accounting-Response.
+    Response(&'a [u8]),
+}
+
+/// A step, and what must come of it.
+#[derive(Clone, Copy)]
+enum Step {
+    /// A request, and its answer.
+    Ask(Asked, Answered<'static>),
+    /// The same for the server and then for a copy of it: they are the same before, and once both have answered, but not between.
+    Copy(Asked, Answered<'static>),
+    /// A server that is opened with this configuration is the same, or isn't.
+    Open(&'static str, bool),
+    /// `many` is granted so many sessions, numbered in turn from 1 on.
+    Fill(u16),
+    /// The number, phase and moment of the grant of each session, oldest first. The clock is at the step's moment.
+    Sessions(&'static [(u64, Phase, u64)]),
+}
+
+/// The moment of a step in milliseconds, the step, and what is said if it has another outcome.
+type Row = (u64, Step, &'static str);
+
+// Asserts once, of `what`.
+fn holds(rt: &impl Abort, is_so: bool, what: &str) {
+    assert!(rt; is_so, "{what}");
+}
+
+// Takes the steps in a server that is opened for them, and asserts what comes of each.
+fn play(rt: &impl Abort, alloc: Global, rows: &[Row]) -> Result<(), Fail> {
+    let config = Config::read(alloc, CAMPUS)?;
+    let mut run = Run::open(alloc, &config)?;
+    for (moment, step, what) in rows.iter() {
+        let is_right = run.takes(*moment, step);
+        holds(rt, is_right, what);
+    }
+    Ok(())
+}

@@ -1,0 +1,159 @@
+use super::Step::{Ask, Sessions};
+use super::play;
+use super::requests::Asked::{Account, OtherAccount};
+use super::requests::Sent::Plain;
+use super::requests::{EXAMPLE, FIRST_CLASS, NEMO, START, STOP, Sent};
+use super::texts::{NEMO_FIRST, RESPONSE};
+use rad_packet::attribute::{ACCT_STATUS_TYPE, CLASS, FRAMED_IP_ADDRESS, USER_NAME};
+use rad_pool::Phase::{Active, Ended, Pending};
+use std::test::Fail;
+
+/// nemo's address.
+const ADDRESS: Sent = Plain(FRAMED_IP_ADDRESS, &[10, 0, 0, 1]);
+
+/// The Class of a session that isn't there, and one of no session.
+const SECOND_CLASS: Sent = Plain(CLASS, b"RAP1\0\0\0\0\0\0\0\x02");
+
+const OTHER_CLASS: Sent = Plain(CLASS, b"RAP2\0\0\0\0\0\0\0\x02");
+
+/// An Acct-Status-Type that says nothing, since it has three octets.
+const NO_STATUS: Sent = Plain(ACCT_STATUS_TYPE, b"abc");
+
+const INTERIM_UPDATE: Sent = Plain(ACCT_STATUS_TYPE, &[0, 0, 0, 3]);
+
+const ACCOUNTING_ON: Sent = Plain(ACCT_STATUS_TYPE, &[0, 0, 0, 7]);
+
+const DORY: Sent = Plain(USER_NAME, b"dory");
+
+#[test]
+fn a_session_is_ended_by_its_own_client(rt: HostRuntime) -> Result<(), Fail> {
+    let rows = [
+        (0, Ask(EXAMPLE, NEMO_FIRST), "nemo"),
+        (
+            1_000,
+            Ask(OtherAccount(0, &[STOP, FIRST_CLASS]), RESPONSE),
+            "a Stop of the second client",
+        ),
+        (
+            1_000,
+            Ask(OtherAccount(1, &[STOP, ADDRESS, NEMO]), RESPONSE),
+            "its Stop by address",
+        ),
+        (1_000, Sessions(&[(1, Pending, 0)]), "they change nothing"),
+        (
+            2_000,
+            Ask(Account(0, &[STOP, FIRST_CLASS]), RESPONSE),
+            "a Stop of its own client",
+        ),
+        (2_000, Sessions(&[(1, Ended, 0)]), "it has ended"),
+    ];
+    play(&rt, rt.alloc(), &rows)
+}
+
+#[test]
+fn a_session_is_meant_by_its_address_and_user(rt: HostRuntime) -> Result<(), Fail> {
+    let rows = [
+        (0, Ask(EXAMPLE, NEMO_FIRST), "nemo"),
+        (
+            1_000,
+            Ask(Account(0, &[STOP, ADDRESS, DORY]), RESPONSE),
+            "another user's name",
+        ),
+        (
+            1_000,
+            Ask(
+                Account(1, &[STOP, ADDRESS, Plain(USER_NAME, b"Nemo")]),
+                RESPONSE,
+            ),
+            "nobody's name",
+        ),
+        (
+            1_000,
+            Ask(Account(2, &[STOP, NEMO]), RESPONSE),
+            "no address",
+        ),
+        (
+            1_000,
+            Ask(
+                Account(3, &[STOP, Plain(FRAMED_IP_ADDRESS, &[10, 0, 0, 2]), NEMO]),
+                RESPONSE,
+            ),
+            "another address",
+        ),
+        (1_000, Sessions(&[(1, Pending, 0)]), "they change nothing"),
+        (
+            2_000,
+            Ask(Account(4, &[STOP, ADDRESS, NEMO]), RESPONSE),
+            "the user's name",
+        ),
+        (2_000, Sessions(&[(1, Ended, 0)]), "it has ended"),
+    ];
+    play(&rt, rt.alloc(), &rows)
+}
+
+#[test]
+fn other_reports_change_nothing(rt: HostRuntime) -> Result<(), Fail> {
+    let rows = [
+        (0, Ask(EXAMPLE, NEMO_FIRST), "nemo"),
+        (
+            1_000,
+            Ask(Account(0, &[INTERIM_UPDATE, FIRST_CLASS]), RESPONSE),
+            "an Interim-Update",
+        ),
+        (
+            1_000,
+            Ask(Account(1, &[ACCOUNTING_ON]), RESPONSE),
+            "an Accounting-On",
+        ),
+        (
+            1_000,
+            Sessions(&[(1, Pending, 0)]),
+            "the session is pending",
+        ),
+        (
+            2_000,
+            Ask(Account(2, &[START, FIRST_CLASS]), RESPONSE),
+            "a Start",
+        ),
+        (
+            3_000,
+            Ask(Account(3, &[INTERIM_UPDATE, FIRST_CLASS]), RESPONSE),
+            "an Interim-Update after it",
+        ),
+        (
+            3_000,
+            Ask(Account(4, &[ACCOUNTING_ON, FIRST_CLASS]), RESPONSE),
+            "an Accounting-On with its Class",
+        ),
+        (
+            3_000,
+            Ask(Account(5, &[STOP, SECOND_CLASS, ADDRESS, NEMO]), RESPONSE),
+            "a Stop of a session that isn't there",
+        ),
+        (3_000, Sessions(&[(1, Active, 0)]), "the session is active"),
+    ];
+    play(&rt, rt.alloc(), &rows)
+}
+
+#[test]
+fn the_first_attribute_that_counts_decides(rt: HostRuntime) -> Result<(), Fail> {
+    let rows = [
+        (0, Ask(EXAMPLE, NEMO_FIRST), "nemo"),
+        (
+            1_000,
+            Ask(Account(0, &[NO_STATUS, START, STOP, FIRST_CLASS]), RESPONSE),
+            "a Start before a Stop",
+        ),
+        (1_000, Sessions(&[(1, Active, 0)]), "it has started"),
+        (
+            2_000,
+            Ask(
+                Account(1, &[STOP, OTHER_CLASS, FIRST_CLASS, SECOND_CLASS]),
+                RESPONSE,
+            ),
+            "the first Class of a session",
+        ),
+        (2_000, Sessions(&[(1, Ended, 0)]), "it has ended"),
+    ];
+    play(&rt, rt.alloc(), &rows)
+}

@@ -1,0 +1,86 @@
+/// Two clients. `nemo` and `dory` share a pool of one address; `bruce` may have two sessions; `kay` is challenged; `many` may have
+/// as many sessions as there are, and no address; `coral` has all that an Access-Accept may tell; the rest have long passwords.
+pub(crate) const CAMPUS: &str = r#"
+window = 30
+hold = 60
+
+[[client]]
+address = "192.168.1.16"
+secret = "xyzzy5461"
+
+[[client]]
+address = "192.168.1.20"
+secret = "second"
+
+[[pool]]
+name = "one"
+first = "10.0.0.1"
+last = "10.0.0.1"
+
+[[pool]]
+name = "two"
+first = "10.0.2.1"
+last = "10.0.2.2"
+
+[[pool]]
+name = "eight"
+first = "10.0.1.1"
+last = "10.0.1.8"
+
+[[user]]
+name = "nemo"
+password = "arctangent"
+pool = "one"
+service = 2
+protocol = 1
+
+[[user]]
+name = "dory"
+password = "reef"
+pool = "one"
+
+[[user]]
+name = "bruce"
+password = "shark"
+pool = "two"
+sessions = 2
+
+[[user]]
+name = "kay"
+password = "pw"
+challenge = "code?"
+answer = "4711"
+
+[[user]]
+name = "many"
+password = "p"
+sessions = 4096
+
+[[user]]
+name = "coral"
+password = "p"
+pool = "eight"
+service = 2
+protocol = 1
+timeout = 3600
+message = "welcome"
+
+[[user]]
+name = "sixteen"
+password = "0123456789abcdef"
+
+[[user]]
+name = "seventeen"
+password = "0123456789abcdefg"
+
+[[user]]
+name = "longest"
+password = "0123456789abcdef0123456789abcdef0123456789abcdef0123456789abcdef0123456789abcdef0123456789abcdef0123456789abcdef0123456789abcdef"
+"#;
+
+/// Another configuration: the first client alone.
+pub(crate) const HAMLET: &str = r#"
+[[client]]
+address = "192.168.1.16"
+secret = "xyzzy5461"
+"#;

@@ -1,0 +1,182 @@
+//! A run of the server: requests are admitted, and answered in turn.
+ghost use Rattle.std.specs.Prelude.{◌≡◌, IfSome};
+ghost use Rattle.rad_auth.specs.Admission.{IsAdmitted};
+
+use super::requests::{Asked, MANY, Sent};
+use super::{Answered, PORT, Step};
+use rad_auth::{Arrival, Clients, Request, check8};
+use rad_config::{Config, MOMENT_MAX};
+use rad_packet::Body;
+use rad_packet::code::{ACCESS_ACCEPT, ACCESS_REJECT, ACCOUNTING_RESPONSE};
+use rad_pool::{Phase, Session, Sessions};
+use rad_server::{Answer, Server};
+use std::alloc::{AllocError, Global};
+
+/// The front of an Access-Accept's or Access-Reject's attributes: the Message-Authenticator, whose octets sealing puts in.
+const FRONT: &[u8; 18] = b"\x50\x12\0\0\0\0\0\0\0\0\0\0\0\0\0\0\0\0";
+
+/// A server, and the configuration that it was opened with.
+#[derive(Drop)]
+pub(crate) struct Run<'c> {
+    alloc: Global,
+    config: &'c Config,
+    server: Server<'c>,
+    ghost opened: { server.configuration ≡ config.now },
+}
+
+impl<'c> Run<'c> {
+    pub fn open(alloc: Global, config: &'c Config) -> Result<Run<'c>, AllocError> {
+        let server = Server::open(alloc, config)?;
+        Ok(Run {
+            alloc,
+            config,
+            server,
+        })
+    }
+
+    /// Whether a step at a moment has the outcome that it must have.
+    pub fn takes(&mut self, moment: u64, step: &Step) -> bool {
+        match step {
+            Step::Ask(asked, answered) => self.answers(moment, PORT, asked, answered),
+            Step::Copy(asked, answered) => self.copies(moment, asked, answered),
+            Step::Open(text, is_same) => self.is_like(text) == *is_same,
+            Step::Fill(count) => self.fills(moment, *count),
+            Step::Sessions(wanted) => {
+                self.server.clock() == moment && are_sessions(self.server.sessions(), wanted)
+            }
+        }
+    }
+
+    /// Whether a request at a moment, from a port, is answered as it must be.
+    pub fn answers(&mut self, moment: u64, port: u16, asked: &Asked, answered: &Answered) -> bool {
+        match self.answer(moment, port, asked) {
+            Some(body) => is_answer(&body, answered),
+            None => false,
+        }
+    }
+
+    // Whether a copy is the same, differs once this server has answered a request, and is the same once it has answered it too.
+    fn copies(&mut self, moment: u64, asked: &Asked, answered: &Answered) -> bool {
+        let Ok(server) = self.server.copy() else {
+            return false;
+        };
+        let mut copy = Run {
+            alloc: self.alloc,
+            config: self.config,
+            server,
+        };
+        copy.server.same(&self.server)
+            && self.answers(moment, PORT, asked, answered)
+            && !copy.server.same(&self.server)
+            && copy.answers(moment, PORT, asked, answered)
+            && copy.server.same(&self.server)
+    }
+
+    // Whether a server that is opened with a configuration is the same as this one.
+    fn is_like(&self, text: &str) -> bool {
+        let Ok(config) = Config::read(self.alloc, text) else {
+            return false;
+        };
+        match Server::open(self.alloc, &config) {
+            Ok(server) => server.same(&self.server),
+            Err(_) => false,
+        }
+    }
+
+    // Whether `many` is granted so many sessions, numbered in turn from 1 on, each for a request of its own.
+    fn fills(&mut self, moment: u64, count: u16) -> bool {
+        for place in 0..count {
+            let [high, low] = place.to_be_bytes();
+            let asked = Asked::Access(low, &[MANY, Sent::Hidden(b"p")]);
+            let class = class_of(place as u64 + 1);
+            if !self.answers(
+                moment,
+                PORT + high as u16,
+                &asked,
+                &Answered::Accept(&class),
+            ) {
+                return false;
+            }
+        }
+        true
+    }
+
+    // What is sent in reply to a request; none if it isn't admitted, or no reply is sent.
+    fn answer(&mut self, moment: u64, port: u16, asked: &Asked) -> Option<Body> {
+        if let Asked::Octets(octets) = asked {
+            return self.step(moment, arrival(port, asked, octets));
+        }
+        let frame = asked.frame(self.alloc)?;
+        self.step(moment, arrival(port, asked, frame.octets()))
+    }
+
+    fn step(&mut self, moment: u64, arrival: Arrival) -> Option<Body> {
+        if MOMENT_MAX < moment {
+            return None;
+        }
+        let request = admit(self.config.clients(), arrival)?;
+        match self.server.step(&request, moment, &[0; 16]) {
+            Ok(Answer::Send(body)) => Some(body),
+            Ok(Answer::Busy) | Err(_) => None,
+        }
+    }
+}
+
+// The Class of the session of this number, as it is spelled.
+fn class_of(number: u64) -> [u8; 14] {
+    let [a, b, c, d, e, f, g, h] = number.to_be_bytes();
+    [25, 14, b'R', b'A', b'P', b'1', a, b, c, d, e, f, g, h]
+}
+
+fn arrival<'a>(port: u16, asked: &Asked, octets: &'a [u8]) -> Arrival<'a> {
+    Arrival {
+        source: asked.source(),
+        port,
+        door: asked.door(),
+        octets,
+    }
+}
+
+// The request that an arrival is, if it is admitted.
+fn admit<'a>(clients: &Clients, arrival: Arrival<'a>) -> Option<Request<'a>>
+    ensures { IfSome result (IsAdmitted clients.now) }
+{
+    let arrivals = [Some(arrival), None, None, None, None, None, None, None];
+    let mut verdicts = check8(clients, &arrivals).into_iter();
+    match verdicts.next() {
+        Some(Some(Ok(request))) => Some(request),
+        _ => None,
+    }
+}
+
+fn is_answer(body: &Body, answered: &Answered) -> bool {
+    match answered {
+        Answered::Accept(attributes) => is_access_reply(body, ACCESS_ACCEPT, attributes),
+        Answered::Reject(attributes) => is_access_reply(body, ACCESS_REJECT, attributes),
+        Answered::Response(attributes) => {
+            body.code() == ACCOUNTING_RESPONSE && body.attributes_octets() == *attributes
+        }
+    }
+}
+
+// Whether the reply has this Code, a Message-Authenticator and then these attributes.
+fn is_access_reply(body: &Body, code: u8, attributes: &[u8]) -> bool {
+    body.code() == code && body.attributes_octets().strip_prefix(FRONT) == Some(attributes)
+}
+
+// Whether these are the sessions, oldest first.
+fn are_sessions(sessions: &Sessions, wanted: &[(u64, Phase, u64)]) -> bool {
+    let mut rest = wanted.iter();
+    for session in sessions.rows() {
+        let Session {
+            number,
+            phase,
+            made,
+            ..
+        } = session;
+        if rest.next() != Some(&(number, phase, made)) {
+            return false;
+        }
+    }
+    rest.next().is_none()
+}

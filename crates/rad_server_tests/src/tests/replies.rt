@@ -1,0 +1,72 @@
+use super::Answered::{Accept, Reject, Response};
+use super::Step::Ask;
+use super::play;
+use super::requests::Asked::{Access, Account, Status};
+use super::requests::Sent::{Hidden, Plain};
+use super::requests::{SIGNATURE, START, Sent};
+use rad_auth::Door::{Acct, Auth};
+use rad_packet::attribute::{PROXY_STATE, USER_NAME};
+use std::test::Fail;
+
+const CORAL: Sent = Plain(USER_NAME, b"coral");
+
+const PROXY: Sent = Plain(PROXY_STATE, b"zz");
+
+const NEXT_PROXY: Sent = Plain(PROXY_STATE, b"a");
+
+/// The two Proxy-States.
+const PROXIES: &[u8; 7] = b"\x21\x04zz\x21\x03a";
+
+/// All that the configuration grants to coral, in the first session.
+const ALL: &[u8; 54] = b"\
+    \x06\x06\x00\x00\x00\x02\
+    \x07\x06\x00\x00\x00\x01\
+    \x08\x06\x0a\x00\x01\x01\
+    \x1b\x06\x00\x00\x0e\x10\
+    \x12\x09welcome\
+    \x19\x0eRAP1\x00\x00\x00\x00\x00\x00\x00\x01\
+    \x21\x04zz\x21\x03a";
+
+#[test]
+fn a_reply_ends_with_the_proxy_states(rt: HostRuntime) -> Result<(), Fail> {
+    let rows = [
+        (
+            0,
+            Ask(
+                Access(0, &[PROXY, CORAL, Hidden(b"p"), NEXT_PROXY]),
+                Accept(ALL),
+            ),
+            "an Access-Accept",
+        ),
+        (
+            0,
+            Ask(
+                Access(1, &[PROXY, CORAL, Hidden(b"q"), NEXT_PROXY]),
+                Reject(b"\x12\x0faccess denied\x21\x04zz\x21\x03a"),
+            ),
+            "an Access-Reject",
+        ),
+        (
+            0,
+            Ask(Account(0, &[PROXY, NEXT_PROXY, START]), Response(PROXIES)),
+            "an Accounting-Response",
+        ),
+        (
+            0,
+            Ask(
+                Status(Auth, &[PROXY, SIGNATURE, NEXT_PROXY]),
+                Accept(PROXIES),
+            ),
+            "an Access-Accept of a Status-Server",
+        ),
+        (
+            0,
+            Ask(
+                Status(Acct, &[PROXY, SIGNATURE, NEXT_PROXY]),
+                Response(PROXIES),
+            ),
+            "its Accounting-Response",
+        ),
+    ];
+    play(&rt, rt.alloc(), &rows)
+}
