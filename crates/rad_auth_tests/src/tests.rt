@@ -2,7 +2,6 @@
 //! RFC 5997, section 6.
 ghost use Rattle.std.specs.Prelude.{◌≤◌};
 ghost use Rattle.rad_packet.specs.Attributes.{value_max};
-ghost use Rattle.rad_auth.specs.Clients.{IsSecret};
 
 mod accounting;
 mod changed_bits;
@@ -18,12 +17,13 @@ mod proxy_states;
 mod replies;
 mod requests;
 
+use Attribute::{Address, Eap, Name, Password, Port, Proxy, Short, Status, Text, Zeros};
 use rad_auth::{
-    Arrival, CLIENTS_MAX, ClientFault, Clients, Discard, Door, Request, Secret, check8,
+    Arrival, CLIENTS_MAX, ClientFault, Clients, Discard, Door, Request, SECRET_MAX, Secret, check8,
     sign_request,
 };
 use rad_packet::{Body, Frame, TooLong, attribute, code};
-use std::alloc::{AllocError, Global};
+use std::alloc::Global;
 use std::process::Abort;
 
 // 192.168.1.16
@@ -101,32 +101,37 @@ const OTHER_START: &[u8; 26] = b"\
     \xa4\x86\xa9\x80\x1a\xb3\x96\x5b\xc0\x60\xc1\xbb\x88\x9e\xb4\xff\
     \x28\x06\x00\x00\x00\x01";
 
-// An address, a secret, and whether requests need a Message-Authenticator.
-type Row<'a> = (u32, &'a [u8], bool);
+// A client: its address, its secret, and whether its requests need a Message-Authenticator.
+type Client = (u32, &'static [u8], bool);
+
+// Three clients, of whom the first and the last have the same secret.
+const THREE: [Client; 3] = [
+    (CLIENT, SECRET, false),
+    (OTHER_CLIENT, OTHER_SECRET, false),
+    (STRICT_CLIENT, SECRET, true),
+];
 
 // Adds a client.
-fn add(rt: &impl Abort, clients: &mut Clients, row: Row<'_>) -> Result<(), ClientFault>
-    requires { IsSecret row.1.now }
-{
-    assert!(rt; clients.len() < CLIENTS_MAX);
-    let (address, secret, require_message_authenticator) = row;
+fn add(
+    rt: &impl Abort,
+    clients: &mut Clients,
+    (address, secret, require_message_authenticator): Client,
+) -> Result<(), ClientFault> {
+    let has_room = clients.len() < CLIENTS_MAX;
+    assert!(rt; has_room && 0 < secret.len() && secret.len() <= SECRET_MAX);
     clients.add(address, secret, require_message_authenticator)
 }
 
-// The clients and one more.
-fn with(rt: &impl Abort, clients: Clients, row: Row<'_>) -> Result<Clients, ClientFault>
-    requires { IsSecret row.1.now }
-{
-    let mut clients = clients;
-    add(rt, &mut clients, row)?;
-    Ok(clients)
+fn clients_of(rt: &impl Abort, alloc: Global, rows: &[Client]) -> Clients {
+    let mut clients = Clients::new(alloc);
+    for row in rows {
+        add(rt, &mut clients, *row).expect(rt, "a client");
+    }
+    clients
 }
 
-// Three clients, of whom the first and the last have the same secret.
-fn three_clients(rt: &impl Abort, alloc: Global) -> Result<Clients, ClientFault> {
-    let clients = with(rt, Clients::new(alloc), (CLIENT, SECRET, false))?;
-    let clients = with(rt, clients, (OTHER_CLIENT, OTHER_SECRET, false))?;
-    with(rt, clients, (STRICT_CLIENT, SECRET, true))
+fn three_clients(rt: &impl Abort, alloc: Global) -> Clients {
+    clients_of(rt, alloc, &THREE)
 }
 
 fn arrival(source: u32, door: Door, octets: &[u8]) -> Option<Arrival<'_>> {
@@ -149,34 +154,21 @@ fn verdict(lane: &Option<Result<Request, Discard>>) -> Option<Verdict> {
     }
 }
 
-// The verdicts of `check8` on eight arrivals.
-fn verdicts_on_eight(clients: &Clients, arrivals: &[Option<Arrival>; 8]) -> [Option<Verdict>; 8] {
-    let verdicts = check8(clients, arrivals);
-    [
-        verdict(&verdicts[0]),
-        verdict(&verdicts[1]),
-        verdict(&verdicts[2]),
-        verdict(&verdicts[3]),
-        verdict(&verdicts[4]),
-        verdict(&verdicts[5]),
-        verdict(&verdicts[6]),
-        verdict(&verdicts[7]),
-    ]
+// The verdict of `check8` on a datagram.
+fn verdict_on(clients: &Clients, source: u32, door: Door, octets: &[u8]) -> Option<Verdict> {
+    let mut arrivals = [None; 8];
+    arrivals[0] = arrival(source, door, octets);
+    verdict(&check8(clients, &arrivals)[0])
 }
 
-// Its verdict on one.
-fn verdict_on(clients: &Clients, source: u32, door: Door, octets: &[u8]) -> Option<Verdict> {
-    let arrivals = [
-        arrival(source, door, octets),
-        None,
-        None,
-        None,
-        None,
-        None,
-        None,
-        None,
-    ];
-    verdict(&check8(clients, &arrivals)[0])
+// A datagram: its name, its source and the server's port, its octets, and its verdict.
+type Case = (&'static str, u32, Door, &'static [u8], Verdict);
+
+// Asserts the verdict on each datagram.
+fn have_verdicts(rt: &impl Abort, clients: &Clients, cases: &[Case]) {
+    for (name, source, door, octets, want) in cases {
+        has_verdict(rt, clients, (*source, *door), octets, *want, name);
+    }
 }
 
 // Asserts the verdict on a datagram.
@@ -202,30 +194,66 @@ fn holds_at(rt: &impl Abort, is_so: bool, what: &str, number: usize) {
     assert!(rt; is_so, "{what}: {number}");
 }
 
-fn are_octets(rt: &impl Abort, octets: &[u8], want: &[u8], what: &str) {
-    holds(rt, octets == want, what);
+// The attributes that requests have here.
+#[derive(Clone, Copy)]
+enum Attribute {
+    // Those of the request of RFC 2865, section 7.1.
+    Name,
+    Password,
+    Address,
+    Port,
+    // The start of a session.
+    Status,
+    Proxy,
+    Eap,
+    // Message-Authenticators: of zeros, of 16 octets of text, and of three.
+    Zeros,
+    Text,
+    Short,
 }
 
 // The Type and the Value of an attribute.
-type Pair = (u8, &'static [u8]);
+fn pair(attribute: Attribute) -> (u8, &'static [u8]) {
+    match attribute {
+        Name => (attribute::USER_NAME, b"nemo"),
+        Password => (
+            attribute::USER_PASSWORD,
+            b"\x0d\xbe\x70\x8d\x93\xd4\x13\xce\x31\x96\xe4\x3f\x78\x2a\x0a\xee",
+        ),
+        Address => (attribute::NAS_IP_ADDRESS, b"\xc0\xa8\x01\x10"),
+        Port => (attribute::NAS_PORT, b"\0\0\0\x03"),
+        Status => (attribute::ACCT_STATUS_TYPE, b"\0\0\0\x01"),
+        Proxy => (attribute::PROXY_STATE, b"abc"),
+        Eap => (attribute::EAP_MESSAGE, b"a"),
+        Zeros => (attribute::MESSAGE_AUTHENTICATOR, &[0; 16]),
+        Text => (attribute::MESSAGE_AUTHENTICATOR, b"Sixteen octets.."),
+        Short => (attribute::MESSAGE_AUTHENTICATOR, b"abc"),
+    }
+}
 
 // Adds attributes to a body.
-fn extend(rt: &impl Abort, body: &mut Body, more: &[Pair]) -> Result<(), AllocError> {
-    for (kind, value) in more {
+fn extend(rt: &impl Abort, body: &mut Body, attributes: &[Attribute]) {
+    for attribute in attributes {
+        let (kind, value) = pair(*attribute);
         assert!(rt; value.len() <= attribute::VALUE_MAX);
-        body.push(*kind, value)?;
+        body.push(kind, value).expect(rt, "an attribute");
     }
-    Ok(())
 }
 
 // Adds so many Proxy-State attributes of 255 octets to a body, and one more with a Value of so many.
-fn extend_by_proxies(body: &mut Body, whole: usize, last: usize) -> Result<(), AllocError>
+fn extend_by_proxies(rt: &impl Abort, body: &mut Body, whole: usize, last: usize)
     requires { last ≤ value_max }
 {
-    for _ in 0..whole {
-        body.push(attribute::PROXY_STATE, &[0; attribute::VALUE_MAX])?;
+    let zeros = [0; attribute::VALUE_MAX];
+    for place in 0..=whole {
+        let len = if place < whole { zeros.len() } else { last };
+        body.push(attribute::PROXY_STATE, &zeros[..len])
+            .expect(rt, "a Proxy-State");
     }
-    body.push(attribute::PROXY_STATE, &[0; attribute::VALUE_MAX][..last])
+}
+
+fn new_frame(rt: &impl Abort, alloc: Global) -> Frame {
+    Frame::new(alloc).expect(rt, "a frame")
 }
 
 // Signs a request of one of the three Codes.

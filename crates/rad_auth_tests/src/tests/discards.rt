@@ -2,7 +2,6 @@
 
 use super::holds;
 use rad_auth::Discard;
-use std::process::Abort;
 
 // A discard, its number and its name.
 type Label = (Discard, u8, &'static str);
@@ -25,13 +24,9 @@ const LABELS: [Label; 11] = [
     (Discard::ProxyStateTooLong, 11, "ProxyStateTooLong"),
 ];
 
-fn has_label(rt: &impl Abort, (discard, number, name): Label) {
-    holds(rt, discard.label() == (number, name), name);
-}
-
 #[test]
 fn each_discard_has_its_label(rt: HostRuntime) {
-    for label in LABELS.iter() {
-        has_label(&rt, *label);
+    for (discard, number, name) in LABELS.iter() {
+        holds(&rt, discard.label() == (*number, *name), name);
     }
 }

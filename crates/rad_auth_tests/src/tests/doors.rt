@@ -1,18 +1,16 @@
 //! Datagrams of each kind, from each source and at each port.
 
 use super::{
-    ACCESS_REQUEST, CLIENT, OTHER_CLIENT, OTHER_START, RFC_ACCOUNTING_STATUS, RFC_STATUS,
-    SIGNED_REQUEST, START, STATUS_SERVER, STRANGER, STRICT_CLIENT, Verdict, are_octets, arrival,
-    has_verdict, three_clients,
+    ACCESS_REQUEST, CLIENT, Case, OTHER_CLIENT, OTHER_START, RFC_ACCOUNTING_STATUS, RFC_STATUS,
+    SIGNED_REQUEST, START, STATUS_SERVER, STRANGER, STRICT_CLIENT, arrival, have_verdicts, holds,
+    three_clients,
 };
 use rad_auth::Discard::{
     BadAttributes, BadAuthenticator, BadLength, BadMessageAuthenticator, NoMessageAuthenticator,
     Short, Truncated, UnknownClient, WrongCode,
 };
 use rad_auth::Door::{Acct, Auth};
-use rad_auth::{Clients, Discard, Door, Request, check8};
-use std::process::Abort;
-use std::test::Fail;
+use rad_auth::{Discard, Request, check8};
 
 // Packets without an attribute.
 const EMPTY_REQUEST: &[u8; 20] = b"\x01\x07\x00\x14\0\0\0\0\0\0\0\0\0\0\0\0\0\0\0\0";
@@ -49,11 +47,8 @@ const PADDED_START: &[u8; 29] = b"\
     \x28\x06\x00\x00\x00\x01\
     \x21\x03a";
 
-// A datagram: its name, its source and the server's port, its octets, and its verdict.
-type Case = (&'static str, u32, Door, &'static [u8], Verdict);
-
-// Those that are admitted.
-const ADMITTED: [Case; 12] = [
+const CASES: [Case; 38] = [
+    // Those that are admitted.
     (
         "an Access-Request",
         CLIENT,
@@ -102,10 +97,7 @@ const ADMITTED: [Case; 12] = [
         Ok((1, 8)),
     ),
     ("a start", STRICT_CLIENT, Acct, START, Ok((2, 7))),
-];
-
-// Those from no client, and those that are no packets.
-const NO_REQUESTS: [Case; 10] = [
+    // Those from no client, and those that are no packets.
     ("no octets", STRANGER, Acct, b"", Err(UnknownClient)),
     (
         "Length 21 of 20 octets",
@@ -152,10 +144,7 @@ const NO_REQUESTS: [Case; 10] = [
         BAD_ATTRIBUTE,
         Err(BadAttributes),
     ),
-];
-
-// Those of Codes that the port doesn't accept.
-const WRONG_CODES: [Case; 10] = [
+    // Those of Codes that the port doesn't accept.
     (
         "an Access-Request",
         CLIENT,
@@ -208,10 +197,7 @@ const WRONG_CODES: [Case; 10] = [
         RESPONSE,
         Err(WrongCode),
     ),
-];
-
-// Those of which an Authenticator or an HMAC is wrong or absent.
-const WRONG_AUTHENTICATORS: [Case; 6] = [
+    // Those of which an Authenticator or an HMAC is wrong or absent.
     (
         "an Authenticator of zeros",
         CLIENT,
@@ -256,76 +242,27 @@ const WRONG_AUTHENTICATORS: [Case; 6] = [
     ),
 ];
 
-fn is_case(rt: &impl Abort, clients: &Clients, (name, source, door, octets, want): Case) {
-    has_verdict(rt, clients, (source, door), octets, want, name);
+#[test]
+fn each_datagram_gets_its_verdict(rt: HostRuntime) {
+    have_verdicts(&rt, &three_clients(&rt, rt.alloc()), &CASES);
 }
 
-fn have_verdicts(rt: &impl Abort, clients: &Clients, cases: &[Case]) {
-    for case in cases {
-        is_case(rt, clients, *case);
+// Whether a request was admitted with these octets.
+fn has_octets(lane: &Option<Result<Request, Discard>>, want: &[u8]) -> bool {
+    match lane {
+        Some(Ok(request)) => request.packet.octets() == want,
+        _ => false,
     }
 }
 
-fn requests_have_verdicts(rt: &impl Abort, clients: &Clients) {
-    have_verdicts(rt, clients, &ADMITTED);
-}
-
-fn no_requests_have_verdicts(rt: &impl Abort, clients: &Clients) {
-    have_verdicts(rt, clients, &NO_REQUESTS);
-}
-
-fn wrong_codes_have_verdicts(rt: &impl Abort, clients: &Clients) {
-    have_verdicts(rt, clients, &WRONG_CODES);
-}
-
-fn wrong_authenticators_have_verdicts(rt: &impl Abort, clients: &Clients) {
-    have_verdicts(rt, clients, &WRONG_AUTHENTICATORS);
-}
-
-fn each_has_its_verdict(rt: &impl Abort, clients: &Clients) {
-    requests_have_verdicts(rt, clients);
-    no_requests_have_verdicts(rt, clients);
-    wrong_codes_have_verdicts(rt, clients);
-    wrong_authenticators_have_verdicts(rt, clients);
-}
-
 #[test]
-fn each_datagram_gets_its_verdict(rt: HostRuntime) -> Result<(), Fail> {
-    each_has_its_verdict(&rt, &three_clients(&rt, rt.alloc())?);
-    Ok(())
-}
-
-// Asserts that a request was admitted with these octets.
-fn has_octets(rt: &impl Abort, lane: &Option<Result<Request, Discard>>, want: &[u8], what: &str) {
-    let octets = match lane {
-        Some(Ok(request)) => request.packet.octets(),
-        _ => b"",
-    };
-    are_octets(rt, octets, want, what);
-}
-
-// Asserts that a datagram is admitted as a request of these octets.
-fn is_admitted_as(rt: &impl Abort, clients: &Clients, door: Door, datagram: &[u8], want: &[u8]) {
-    let arrivals = [
-        arrival(CLIENT, door, datagram),
-        None,
-        None,
-        None,
-        None,
-        None,
-        None,
-        None,
-    ];
-    has_octets(rt, &check8(clients, &arrivals)[0], want, "padded");
-}
-
-fn are_admitted_as(rt: &impl Abort, clients: &Clients) {
-    is_admitted_as(rt, clients, Auth, PADDED_REQUEST, ACCESS_REQUEST);
-    is_admitted_as(rt, clients, Acct, PADDED_START, START);
-}
-
-#[test]
-fn padding_is_no_part_of_a_request(rt: HostRuntime) -> Result<(), Fail> {
-    are_admitted_as(&rt, &three_clients(&rt, rt.alloc())?);
-    Ok(())
+fn padding_is_no_part_of_a_request(rt: HostRuntime) {
+    let clients = three_clients(&rt, rt.alloc());
+    let mut arrivals = [None; 8];
+    arrivals[0] = arrival(CLIENT, Auth, PADDED_REQUEST);
+    arrivals[1] = arrival(CLIENT, Acct, PADDED_START);
+    let requests = check8(&clients, &arrivals);
+    let (access, start) = (&requests[0], &requests[1]);
+    let is_so = has_octets(access, ACCESS_REQUEST) && has_octets(start, START);
+    holds(&rt, is_so, "the octets without the padding");
 }

@@ -2,7 +2,7 @@
 //! section 7.1.
 ghost use Rattle.std.specs.Prelude.{◌≤◌, length};
 
-use super::{REQUEST_AUTHENTICATOR, SECRET, are_octets, holds_at};
+use super::{REQUEST_AUTHENTICATOR, SECRET, holds, holds_at};
 use rad_auth::{PASSWORD_MAX, Secret, hide, reveal, value_fits};
 use std::process::Abort;
 
@@ -43,7 +43,7 @@ pub(crate) fn hidden_with(
 {
     let mut room = FILLED;
     let len = hide(secret, authenticator, password, &mut room).min(PASSWORD_MAX);
-    are_octets(rt, &room[len..], &FILLED[len..], "after the value");
+    holds(rt, room[len..] == FILLED[len..], "after the value");
     Written { room, len }
 }
 
@@ -52,7 +52,7 @@ fn opened(rt: &impl Abort, secret: &Secret, value: &[u8]) -> Written {
     assert!(rt; value_fits(value));
     let mut room = FILLED;
     let len = reveal(secret, REQUEST_AUTHENTICATOR, value, &mut room).min(PASSWORD_MAX);
-    are_octets(rt, &room[len..], &FILLED[len..], "after the text");
+    holds(rt, room[len..] == FILLED[len..], "after the text");
     Written { room, len }
 }
 
@@ -64,9 +64,10 @@ pub(crate) const RFC_VALUE: &[u8; 16] =
 fn the_password_of_the_rfc_is_hidden_and_opened(rt: HostRuntime) {
     let secret = Secret::new(SECRET);
     let value = hidden(&rt, &secret, b"arctangent");
-    are_octets(&rt, value.octets(), RFC_VALUE, "the value");
+    holds(&rt, value.octets() == RFC_VALUE.as_slice(), "the value");
     let text = opened(&rt, &secret, RFC_VALUE);
-    are_octets(&rt, text.octets(), b"arctangent\0\0\0\0\0\0", "the text");
+    let want = b"arctangent\0\0\0\0\0\0";
+    holds(&rt, text.octets() == want.as_slice(), "the text");
 }
 
 // How many octets the values of passwords of 0 to 128 octets have.
@@ -222,24 +223,12 @@ pub(crate) fn password_of(len: usize) -> [u8; PASSWORD_MAX]
     octets
 }
 
-// How many octets the value of a password of this length has.
-fn value_len(len: usize) -> usize
-    requires { len ≤ 128 }
-{
-    VALUE_LENS[len]
-}
-
-// The last sixteen of them.
+// The last sixteen octets of the value of a password of this length.
 fn wanted_block(len: usize) -> &'static [u8]
     requires { len ≤ 128 }
 {
     let blocks = LAST_BLOCKS.as_slice();
     &blocks[16 * len..16 * len + 16]
-}
-
-// The last sixteen.
-fn last_block(octets: &[u8]) -> &[u8] {
-    &octets[octets.len().saturating_sub(16)..]
 }
 
 fn is_hidden_and_opened(rt: &impl Abort, secret: &Secret, len: usize)
@@ -248,14 +237,9 @@ fn is_hidden_and_opened(rt: &impl Abort, secret: &Secret, len: usize)
     let padded = password_of(len);
     let written = hidden(rt, secret, &padded[..len]);
     let value = written.octets();
-    holds_at(rt, value.len() == value_len(len), "a value's length", len);
-    holds_at(
-        rt,
-        last_block(value) == wanted_block(len),
-        "a last block",
-        len,
-    );
     let text = opened(rt, secret, value);
+    holds_at(rt, value.len() == VALUE_LENS[len], "a value's length", len);
+    holds_at(rt, value.ends_with(wanted_block(len)), "a last block", len);
     holds_at(rt, text.octets() == &padded[..value.len()], "a text", len);
 }
 
@@ -323,8 +307,8 @@ const LENGTHS: [(usize, bool); 16] = [
 
 #[test]
 fn a_value_has_whole_blocks_and_at_most_128_octets(rt: HostRuntime) {
-    for (len, want) in LENGTHS {
-        let fits = value_fits(&[0; 144][..len.min(144)]);
-        holds_at(&rt, fits == want, "octets", len);
+    for (len, want) in LENGTHS.iter() {
+        let fits = value_fits(&[0; 144][..(*len).min(144)]);
+        holds_at(&rt, fits == *want, "octets", *len);
     }
 }

@@ -3,21 +3,20 @@ ghost use Rattle.std.specs.Prelude.{◌<◌};
 
 use super::{
     ACCESS_REQUEST, CLIENT, OTHER_CLIENT, OTHER_START, PROXIED_START, SIGNED_REQUEST, START,
-    STATUS_SERVER, STRANGER, Verdict, arrival, holds, holds_at, three_clients, verdicts_on_eight,
-    with,
+    STATUS_SERVER, STRANGER, Verdict, add, arrival, holds, holds_at, three_clients, verdict,
 };
 use rad_auth::Discard::{
     BadAuthenticator, BadMessageAuthenticator, Short, UnknownClient, WrongCode,
 };
 use rad_auth::Door::{Acct, Auth};
-use rad_auth::{ClientFault, Clients, Discard, Door, Request, check8};
+use rad_auth::{Clients, Door, check8};
 use std::alloc::Global;
 use std::process::Abort;
-use std::test::Fail;
 
 // A datagram's source, port and octets, and its verdict.
 type Lane = Option<(u32, Door, &'static [u8], Verdict)>;
 
+// Asserts the verdict on each datagram.
 fn have_verdicts(rt: &impl Abort, clients: &Clients, lanes: &[Lane; 8]) {
     let mut arrivals = [None; 8];
     let mut wanted = [None; 8];
@@ -27,9 +26,8 @@ fn have_verdicts(rt: &impl Abort, clients: &Clients, lanes: &[Lane; 8]) {
             wanted[lane] = Some(want);
         }
     }
-    let found = verdicts_on_eight(clients, &arrivals);
-    for lane in 0..8 {
-        holds_at(rt, found[lane] == wanted[lane], "lane", lane);
+    for (lane, request) in check8(clients, &arrivals).iter().enumerate() {
+        holds_at(rt, verdict(request) == wanted[lane], "lane", lane);
     }
 }
 
@@ -60,48 +58,25 @@ const DIGESTS_AND_HMACS: [Lane; 8] = [
     Some((CLIENT, Acct, PROXIED_START, Ok((0, 7)))),
 ];
 
-fn mixed_have_verdicts(rt: &impl Abort, clients: &Clients) {
-    have_verdicts(rt, clients, &MIXED);
-}
-
-fn digests_and_hmacs_have_verdicts(rt: &impl Abort, clients: &Clients) {
-    have_verdicts(rt, clients, &DIGESTS_AND_HMACS);
-}
-
-fn each_has_its_verdict(rt: &impl Abort, clients: &Clients) {
-    mixed_have_verdicts(rt, clients);
-    digests_and_hmacs_have_verdicts(rt, clients);
+#[test]
+fn each_lane_has_its_own_verdict(rt: HostRuntime) {
+    let clients = three_clients(&rt, rt.alloc());
+    have_verdicts(&rt, &clients, &MIXED);
+    have_verdicts(&rt, &clients, &DIGESTS_AND_HMACS);
 }
 
 #[test]
-fn each_lane_has_its_own_verdict(rt: HostRuntime) -> Result<(), Fail> {
-    each_has_its_verdict(&rt, &three_clients(&rt, rt.alloc())?);
-    Ok(())
-}
-
-fn is_from_and_to(
-    rt: &impl Abort,
-    lane: &Option<Result<Request, Discard>>,
-    want: (u32, u16, Door),
-) {
-    let is_so = match lane {
-        Some(Ok(request)) => (request.source, request.port, request.door) == want,
+fn a_request_says_where_it_came_from_and_to(rt: HostRuntime) {
+    let clients = three_clients(&rt, rt.alloc());
+    let mut arrivals = [None; 8];
+    arrivals[4] = arrival(OTHER_CLIENT, Acct, OTHER_START);
+    let is_so = match &check8(&clients, &arrivals)[4] {
+        Some(Ok(request)) => {
+            (request.source, request.port, request.door) == (OTHER_CLIENT, 1024, Acct)
+        }
         _ => false,
     };
-    holds(rt, is_so, "where a request came from and to");
-}
-
-fn says_from_and_to(rt: &impl Abort, clients: &Clients) {
-    let start = arrival(OTHER_CLIENT, Acct, OTHER_START);
-    let arrivals = [None, None, None, None, start, None, None, None];
-    let want = (OTHER_CLIENT, 1024, Acct);
-    is_from_and_to(rt, &check8(clients, &arrivals)[4], want);
-}
-
-#[test]
-fn a_request_says_where_it_came_from_and_to(rt: HostRuntime) -> Result<(), Fail> {
-    says_from_and_to(&rt, &three_clients(&rt, rt.alloc())?);
-    Ok(())
+    holds(&rt, is_so, "where a request came from and to");
 }
 
 // Requests of two clients, each with its HMAC: the source, the port, and the octets. Their Identifiers are 16 to 23.
@@ -194,15 +169,13 @@ fn signed_lanes(first: u32, other: u32, refused: bool) -> [Lane; 8] {
     lanes
 }
 
-fn each_hmac_has_its_own_secret(rt: &impl Abort, clients: &Clients) {
-    have_verdicts(rt, clients, &signed_lanes(CLIENT, OTHER_CLIENT, false));
-    have_verdicts(rt, clients, &signed_lanes(OTHER_CLIENT, CLIENT, true));
-}
-
 #[test]
-fn each_hmac_is_computed_under_its_own_secret(rt: HostRuntime) -> Result<(), Fail> {
-    each_hmac_has_its_own_secret(&rt, &three_clients(&rt, rt.alloc())?);
-    Ok(())
+fn each_hmac_is_computed_under_its_own_secret(rt: HostRuntime) {
+    let clients = three_clients(&rt, rt.alloc());
+    let admitted = signed_lanes(CLIENT, OTHER_CLIENT, false);
+    have_verdicts(&rt, &clients, &admitted);
+    let refused = signed_lanes(OTHER_CLIENT, CLIENT, true);
+    have_verdicts(&rt, &clients, &refused);
 }
 
 // 10.0.0.0, which is the first of eight clients. The others are 10.0.0.1 to 10.0.0.7.
@@ -301,14 +274,14 @@ fn of_eight(lane: usize) -> OfClient
     EIGHT[lane]
 }
 
-fn eight_clients(rt: &impl Abort, alloc: Global) -> Result<Clients, ClientFault> {
+fn eight_clients(rt: &impl Abort, alloc: Global) -> Clients {
     let mut clients = Clients::new(alloc);
     for lane in 0..8 {
         let source = FIRST_OF_EIGHT + lane as u32;
         let (secret, _, _) = of_eight(lane);
-        clients = with(rt, clients, (source, secret, false))?;
+        add(rt, &mut clients, (source, secret, false)).expect(rt, "a client");
     }
-    Ok(clients)
+    clients
 }
 
 // What the eight clients send to a port, where the source is the client so many places on.
@@ -333,16 +306,12 @@ fn eight_lanes(door: Door, shift: usize) -> [Lane; 8]
     lanes
 }
 
-fn each_has_its_own_key(rt: &impl Abort, clients: &Clients) {
-    for shift in 0..8 {
-        have_verdicts(rt, clients, &eight_lanes(Auth, shift));
-        have_verdicts(rt, clients, &eight_lanes(Acct, shift));
-    }
-}
-
 // From its own client each is admitted, and from none of the seven others.
 #[test]
-fn each_lane_is_checked_under_its_own_key(rt: HostRuntime) -> Result<(), Fail> {
-    each_has_its_own_key(&rt, &eight_clients(&rt, rt.alloc())?);
-    Ok(())
+fn each_lane_is_checked_under_its_own_key(rt: HostRuntime) {
+    let clients = eight_clients(&rt, rt.alloc());
+    for shift in 0..8 {
+        have_verdicts(&rt, &clients, &eight_lanes(Auth, shift));
+        have_verdicts(&rt, &clients, &eight_lanes(Acct, shift));
+    }
 }

@@ -1,17 +1,15 @@
 //! Message-Authenticators of Access-Requests: how many, of what length, over what, and where among the attributes.
 
 use super::{
-    ACCESS_REQUEST, CLIENT, OTHER_CLIENT, STRANGER, STRICT_CLIENT, Verdict, has_verdict,
-    three_clients,
+    ACCESS_REQUEST, CLIENT, Case as Datagram, OTHER_CLIENT, STRANGER, STRICT_CLIENT, Verdict,
+    has_verdict, have_verdicts, three_clients,
 };
 use rad_auth::Clients;
 use rad_auth::Discard::{
     BadAttributes, BadMessageAuthenticator, NoMessageAuthenticator, Truncated, UnknownClient,
 };
 use rad_auth::Door::Auth;
-use std::alloc::{AllocError, Global};
 use std::process::Abort;
-use std::test::Fail;
 
 const HMAC: &[u8; 18] = b"\x50\x12\x63\xb7\x8a\x6b\x9d\x2f\x14\x99\x89\xfb\xf5\x7e\xa2\x1d\x19\x4c";
 
@@ -76,8 +74,8 @@ const ZEROS: &[u8; 18] = b"\x50\x12\0\0\0\0\0\0\0\0\0\0\0\0\0\0\0\0";
 // What follows the RFC's request: its name, the source, the Length, the octets, and the verdict.
 type Case = (&'static str, u32, u16, &'static [u8], Verdict);
 
-// Those that are admitted.
-const ADMITTED: [Case; 13] = [
+const CASES: [Case; 40] = [
+    // Those that are admitted.
     ("nothing", CLIENT, 56, b"", Ok((0, 0))),
     ("padding", CLIENT, 56, b"abc", Ok((0, 0))),
     ("zeros past Length", CLIENT, 56, ZEROS, Ok((0, 0))),
@@ -121,10 +119,7 @@ const ADMITTED: [Case; 13] = [
         EAP_AND_HMAC,
         Ok((2, 0)),
     ),
-];
-
-// Those with a wrong or doubled one.
-const WRONG: [Case; 15] = [
+    // Those with a wrong or doubled one.
     ("zeros", CLIENT, 74, ZEROS, Err(BadMessageAuthenticator)),
     (
         "no octets",
@@ -224,10 +219,7 @@ const WRONG: [Case; 15] = [
         EAP_AND_WRONG_HMAC,
         Err(BadMessageAuthenticator),
     ),
-];
-
-// Those that have none, and other discards.
-const OTHERS: [Case; 12] = [
+    // Those that have none, and other discards.
     (
         "Length 57 of 56 octets",
         STRANGER,
@@ -302,57 +294,26 @@ const OTHERS: [Case; 12] = [
     ),
 ];
 
-// The RFC's request with another Length, and followed by more octets.
-fn extended(alloc: Global, len: u16, more: &[u8]) -> Result<Vec<u8>, AllocError> {
-    let request = ACCESS_REQUEST.as_slice();
-    let mut octets = Vec::new(alloc);
-    octets.extend_from_slice(&request[..2])?;
-    octets.extend_from_slice(&len.to_be_bytes())?;
-    octets.extend_from_slice(&request[4..])?;
-    octets.extend_from_slice(more)?;
-    Ok(octets)
-}
+// The most octets that follow the RFC's request.
+const MORE_MAX: usize = 36;
 
-fn is_case(rt: &impl Abort, alloc: Global, clients: &Clients, case: Case) -> Result<(), Fail> {
-    let (name, source, len, more, want) = case;
-    let octets = extended(alloc, len, more)?;
-    has_verdict(rt, clients, (source, Auth), &octets, want, name);
-    Ok(())
-}
-
-fn have_verdicts(
-    rt: &impl Abort,
-    alloc: Global,
-    clients: &Clients,
-    cases: &[Case],
-) -> Result<(), Fail> {
-    for case in cases {
-        is_case(rt, alloc, clients, *case)?;
-    }
-    Ok(())
-}
-
-fn right_have_verdicts(rt: &impl Abort, alloc: Global, clients: &Clients) -> Result<(), Fail> {
-    have_verdicts(rt, alloc, clients, &ADMITTED)
-}
-
-fn wrong_have_verdicts(rt: &impl Abort, alloc: Global, clients: &Clients) -> Result<(), Fail> {
-    have_verdicts(rt, alloc, clients, &WRONG)
-}
-
-fn others_have_verdicts(rt: &impl Abort, alloc: Global, clients: &Clients) -> Result<(), Fail> {
-    have_verdicts(rt, alloc, clients, &OTHERS)
-}
-
-fn each_has_its_verdict(rt: &impl Abort, alloc: Global, clients: &Clients) -> Result<(), Fail> {
-    right_have_verdicts(rt, alloc, clients)?;
-    wrong_have_verdicts(rt, alloc, clients)?;
-    others_have_verdicts(rt, alloc, clients)
+// Asserts the verdict on the RFC's request with another Length, and followed by more octets.
+fn is_case(rt: &impl Abort, clients: &Clients, (name, source, len, more, want): Case) {
+    let more = &more[..more.len().min(MORE_MAX)];
+    let mut octets = [0; 56 + MORE_MAX];
+    octets[..56].copy_from_slice(ACCESS_REQUEST);
+    octets[2..4].copy_from_slice(&len.to_be_bytes());
+    octets[56..56 + more.len()].copy_from_slice(more);
+    let octets = &octets[..56 + more.len()];
+    has_verdict(rt, clients, (source, Auth), octets, want, name);
 }
 
 #[test]
-fn each_message_authenticator_gets_its_verdict(rt: HostRuntime) -> Result<(), Fail> {
-    each_has_its_verdict(&rt, rt.alloc(), &three_clients(&rt, rt.alloc())?)
+fn each_message_authenticator_gets_its_verdict(rt: HostRuntime) {
+    let clients = three_clients(&rt, rt.alloc());
+    for case in CASES.iter() {
+        is_case(&rt, &clients, *case);
+    }
 }
 
 const FIRST: &[u8; 74] = b"\
@@ -373,28 +334,35 @@ const IN_THE_MIDDLE: &[u8; 74] = b"\
     \x04\x06\xc0\xa8\x01\x10\
     \x05\x06\x00\x00\x00\x03";
 
-// Asserts the verdict on a request with the HMAC anywhere.
-fn has_verdict_anywhere(rt: &impl Abort, clients: &Clients, source: u32, want: Verdict) {
-    has_verdict(rt, clients, (source, Auth), FIRST, want, "first");
-    has_verdict(
-        rt,
-        clients,
-        (source, Auth),
-        IN_THE_MIDDLE,
-        want,
-        "in the middle",
-    );
-}
-
-fn each_has_its_verdict_anywhere(rt: &impl Abort, clients: &Clients) {
-    has_verdict_anywhere(rt, clients, CLIENT, Ok((0, 0)));
-    has_verdict_anywhere(rt, clients, STRICT_CLIENT, Ok((2, 0)));
-    has_verdict_anywhere(rt, clients, OTHER_CLIENT, Err(BadMessageAuthenticator));
-}
-
 // Where it is last, the table above has it.
+const ANYWHERE: [Datagram; 6] = [
+    ("first", CLIENT, Auth, FIRST, Ok((0, 0))),
+    ("in the middle", CLIENT, Auth, IN_THE_MIDDLE, Ok((0, 0))),
+    ("first", STRICT_CLIENT, Auth, FIRST, Ok((2, 0))),
+    (
+        "in the middle",
+        STRICT_CLIENT,
+        Auth,
+        IN_THE_MIDDLE,
+        Ok((2, 0)),
+    ),
+    (
+        "first",
+        OTHER_CLIENT,
+        Auth,
+        FIRST,
+        Err(BadMessageAuthenticator),
+    ),
+    (
+        "in the middle",
+        OTHER_CLIENT,
+        Auth,
+        IN_THE_MIDDLE,
+        Err(BadMessageAuthenticator),
+    ),
+];
+
 #[test]
-fn a_message_authenticator_may_stand_anywhere(rt: HostRuntime) -> Result<(), Fail> {
-    each_has_its_verdict_anywhere(&rt, &three_clients(&rt, rt.alloc())?);
-    Ok(())
+fn a_message_authenticator_may_stand_anywhere(rt: HostRuntime) {
+    have_verdicts(&rt, &three_clients(&rt, rt.alloc()), &ANYWHERE);
 }

@@ -4,7 +4,7 @@ ghost use Rattle.std.specs.Prelude.{◌≤◌, ◌<◌};
 ghost use Rattle.rad_auth.specs.Clients.{IsSecret};
 
 use super::hidden_passwords::{RFC_VALUE, VALUE_OF_128, hidden, hidden_with, password_of};
-use super::{OTHER_SECRET, REQUEST_AUTHENTICATOR, SECRET, are_octets, holds, holds_at};
+use super::{OTHER_SECRET, REQUEST_AUTHENTICATOR, SECRET, holds, holds_at};
 use rad_auth::{PASSWORD_MAX, SECRET_MAX, Secret, password_right, value_fits};
 use std::process::Abort;
 
@@ -99,7 +99,8 @@ const LONGEST: &[u8; 128] = b"\
 // A name, a value, a password, and whether that is right.
 type Case = (&'static str, &'static [u8], &'static [u8], bool);
 
-const RFC_CASES: [Case; 8] = [
+const CASES: [Case; 19] = [
+    // Those of the RFC's value.
     ("the password", RFC_VALUE, b"arctangent", true),
     ("its front", RFC_VALUE, b"arctangen", false),
     ("an octet more", RFC_VALUE, b"arctangentx", false),
@@ -113,9 +114,7 @@ const RFC_CASES: [Case; 8] = [
         true,
     ),
     ("zeros to 17", RFC_VALUE, b"arctangent\0\0\0\0\0\0\0", false),
-];
-
-const CASES: [Case; 11] = [
+    // Those of other values.
     ("no octets", VALUE_OF_NOTHING, b"", true),
     ("a blank for no octets", VALUE_OF_NOTHING, b" ", false),
     ("a full stop", SEVENTEEN, b"seventeen octets.", true),
@@ -144,21 +143,12 @@ const CASES: [Case; 11] = [
     ),
 ];
 
-fn is_case(rt: &impl Abort, secret: &Secret, (name, value, password, want): Case) {
-    checks_as(rt, secret, value, password, want, name);
-}
-
-fn check_as(rt: &impl Abort, secret: &Secret, cases: &[Case]) {
-    for case in cases {
-        is_case(rt, secret, *case);
-    }
-}
-
 #[test]
 fn all_blocks_of_a_value_count(rt: HostRuntime) {
     let secret = Secret::new(SECRET);
-    check_as(&rt, &secret, &RFC_CASES);
-    check_as(&rt, &secret, &CASES);
+    for (name, value, password, want) in CASES.iter() {
+        checks_as(&rt, &secret, *value, *password, *want, name);
+    }
 }
 
 // Asserts that a value with a bit turned is of another password.
@@ -210,7 +200,7 @@ fn is_right_under(rt: &impl Abort, first: &Secret, octets: &[u8], want: &[u8; 32
 {
     let secret = Secret::new(octets);
     let value = hidden(rt, &secret, b"seventeen octets.");
-    are_octets(rt, value.octets(), want, name);
+    holds(rt, value.octets() == want.as_slice(), name);
     checks_as(rt, &secret, want, b"seventeen octets.", true, name);
     checks_as(rt, first, want, b"seventeen octets.", false, name);
     checks_as(rt, &secret, SEVENTEEN, b"seventeen octets.", false, name);
@@ -255,25 +245,17 @@ const AUTHENTICATOR_CASES: [UnderAuthenticator; 4] = [
     ),
 ];
 
-fn is_hidden_under_the_other(rt: &impl Abort, secret: &Secret) {
-    let value = hidden_with(rt, secret, OTHER_AUTHENTICATOR, b"seventeen octets.");
-    are_octets(rt, value.octets(), UNDER_OTHER_AUTHENTICATOR, "hidden");
-}
-
-fn checks_as_under(
-    rt: &impl Abort,
-    secret: &Secret,
-    (name, authenticator, value, want): UnderAuthenticator,
-) {
-    let right = is_right(rt, secret, authenticator, value, b"seventeen octets.");
-    holds(rt, right == want, name);
-}
-
 #[test]
 fn a_password_is_right_under_its_own_request_authenticator(rt: HostRuntime) {
     let secret = Secret::new(SECRET);
-    is_hidden_under_the_other(&rt, &secret);
-    for case in AUTHENTICATOR_CASES.iter() {
-        checks_as_under(&rt, &secret, *case);
+    let value = hidden_with(&rt, &secret, OTHER_AUTHENTICATOR, b"seventeen octets.");
+    holds(
+        &rt,
+        value.octets() == UNDER_OTHER_AUTHENTICATOR.as_slice(),
+        "hidden",
+    );
+    for (name, authenticator, value, want) in AUTHENTICATOR_CASES.iter() {
+        let right = is_right(&rt, &secret, authenticator, *value, b"seventeen octets.");
+        holds(&rt, right == *want, name);
     }
 }

@@ -1,17 +1,16 @@
 //! Replies as `seal8` writes them, and the Response Authenticator.
-ghost use Rattle.std.specs.Prelude.{IfOk, IfSome};
+ghost use Rattle.std.specs.Prelude.{IfSome};
 ghost use Rattle.rad_auth.specs.Sealing.{IsJob, IsReply};
 
 use super::{
     ACCESS_REQUEST, OTHER_SECRET, OTHER_START, PROXIED_START, REQUEST_AUTHENTICATOR,
-    RFC_ACCOUNTING_STATUS, RFC_STATUS, SECRET, START, are_octets, holds_at,
+    RFC_ACCOUNTING_STATUS, RFC_STATUS, SECRET, START, holds, holds_at, new_frame,
 };
 use rad_auth::{Job, Secret, response_authenticator, seal8};
 use rad_packet::attribute::{MESSAGE_AUTHENTICATOR, PROXY_STATE, REPLY_MESSAGE};
 use rad_packet::{Body, Frame, HEADER_SIZE, code, write};
-use std::alloc::{AllocError, Global};
+use std::alloc::Global;
 use std::process::Abort;
-use std::test::Fail;
 
 // RFC 2865, section 5.24.
 const STATE: u8 = 24;
@@ -21,33 +20,29 @@ const CLASS: u8 = 25;
 
 // The accept of RFC 2865, section 7.1.
 #[test]
-fn an_access_accept_has_the_authenticator_of_the_rfc(rt: HostRuntime) -> Result<(), Fail> {
+fn an_access_accept_has_the_authenticator_of_the_rfc(rt: HostRuntime) {
     let mut body = Body::new(rt.alloc(), code::ACCESS_ACCEPT);
-    body.push(6, b"\0\0\0\x01")?;
-    body.push(15, b"\0\0\0\0")?;
-    body.push(14, b"\xc0\xa8\x01\x03")?;
+    body.push(6, b"\0\0\0\x01").expect(&rt, "a service");
+    body.push(15, b"\0\0\0\0").expect(&rt, "a login service");
+    body.push(14, b"\xc0\xa8\x01\x03")
+        .expect(&rt, "a login host");
     let secret = Secret::new(SECRET);
     let digest = response_authenticator(&body, 0, REQUEST_AUTHENTICATOR, &secret);
     let want = b"\x86\xfe\x22\x0e\x76\x24\xba\x2a\x10\x05\xf6\xbf\x9b\x55\xe0\xb2";
-    are_octets(&rt, &digest, want, "the accept");
-    Ok(())
+    holds(&rt, digest == *want, "the accept");
 }
 
-fn two_frames(alloc: Global) -> Result<(Frame, Frame), AllocError> {
-    let first = Frame::new(alloc)?;
-    Ok((first, Frame::new(alloc)?))
-}
-
-fn four_frames(alloc: Global) -> Result<(Frame, Frame, Frame, Frame), AllocError> {
-    let (a, b) = two_frames(alloc)?;
-    let (c, d) = two_frames(alloc)?;
-    Ok((a, b, c, d))
-}
-
-fn empty_frames(alloc: Global) -> Result<[Frame; 8], AllocError> {
-    let (a, b, c, d) = four_frames(alloc)?;
-    let (e, f, g, h) = four_frames(alloc)?;
-    Ok([a, b, c, d, e, f, g, h])
+fn empty_frames(rt: &impl Abort, alloc: Global) -> [Frame; 8] {
+    [
+        new_frame(rt, alloc),
+        new_frame(rt, alloc),
+        new_frame(rt, alloc),
+        new_frame(rt, alloc),
+        new_frame(rt, alloc),
+        new_frame(rt, alloc),
+        new_frame(rt, alloc),
+        new_frame(rt, alloc),
+    ]
 }
 
 fn are_written(rt: &impl Abort, frames: &[Frame; 8], wanted: &[&[u8]; 8]) {
@@ -84,45 +79,33 @@ const RFC_REPLY: &[u8; 20] = b"\
     \x05\xb3\x00\x14\
     \x0f\x6f\x92\x14\x5f\x10\x7e\x2f\x50\x4e\x86\x0a\x48\x60\x66\x9c";
 
-// Replies under this secret, in the first lane, the sixth and the last.
-fn seal_three<'a>(
-    secret: &'a Secret,
-    body: &'a Body,
-    proxied_body: &'a Body,
-    frames: &mut [Frame; 8],
-)
-    requires body { IsReply body.now }
-    requires proxied_body { IsReply proxied_body.now }
-{
-    let jobs = [
-        lane(START, body, secret),
-        None,
-        None,
-        None,
-        None,
-        lane(PROXIED_START, proxied_body, secret),
-        None,
-        lane(RFC_ACCOUNTING_STATUS, body, secret),
-    ];
-    seal8(&jobs, frames);
-}
-
-fn response(alloc: Global) -> Result<Body, AllocError>
-    ensures { IfOk result IsReply }
+fn response(rt: &impl Abort, alloc: Global) -> Body
+    ensures { IsReply result }
 {
     let mut body = Body::new(alloc, code::ACCOUNTING_RESPONSE);
-    body.push(PROXY_STATE, b"abc")?;
-    Ok(body)
+    body.push(PROXY_STATE, b"abc").expect(rt, "a Proxy-State");
+    body
 }
 
-// Seals into frames of which the first and the fourth have been written before.
-fn seal_responses(alloc: Global, frames: &mut [Frame; 8]) -> Result<(), Fail> {
+// Seals replies in the first lane, the sixth and the last, into frames of which the first and the fourth have been
+// written before.
+fn seal_responses(rt: &impl Abort, alloc: Global, frames: &mut [Frame; 8]) {
     let body = Body::new(alloc, code::ACCOUNTING_RESPONSE);
-    let proxied_body = response(alloc)?;
-    write(&proxied_body, 1, b"0123456789abcdef", &mut frames[0])?;
-    write(&proxied_body, 1, b"0123456789abcdef", &mut frames[3])?;
-    seal_three(&Secret::new(SECRET), &body, &proxied_body, frames);
-    Ok(())
+    let proxied_body = response(rt, alloc);
+    write(&proxied_body, 1, b"0123456789abcdef", &mut frames[0]).expect(rt, "the first");
+    write(&proxied_body, 1, b"0123456789abcdef", &mut frames[3]).expect(rt, "the fourth");
+    let secret = Secret::new(SECRET);
+    let jobs = [
+        lane(START, &body, &secret),
+        None,
+        None,
+        None,
+        None,
+        lane(PROXIED_START, &proxied_body, &secret),
+        None,
+        lane(RFC_ACCOUNTING_STATUS, &body, &secret),
+    ];
+    seal8(&jobs, frames);
 }
 
 const RESPONSES: [&[u8]; 8] = [
@@ -137,13 +120,10 @@ const RESPONSES: [&[u8]; 8] = [
 ];
 
 #[test]
-fn accounting_responses_are_sealed_into_the_frames_of_their_lanes(
-    rt: HostRuntime,
-) -> Result<(), Fail> {
-    let mut frames = empty_frames(rt.alloc())?;
-    seal_responses(rt.alloc(), &mut frames)?;
+fn accounting_responses_are_sealed_into_the_frames_of_their_lanes(rt: HostRuntime) {
+    let mut frames = empty_frames(&rt, rt.alloc());
+    seal_responses(&rt, rt.alloc(), &mut frames);
     are_written(&rt, &frames, &RESPONSES);
-    Ok(())
 }
 
 // The header of a request of the other client, Identifier 17.
@@ -186,104 +166,72 @@ const UNSEALED_REJECT: &[u8; 53] = b"\
     \x50\x12\x00\x00\x00\x00\x00\x00\x00\x00\x00\x00\x00\x00\x00\x00\x00\x00\
     \x12\x0faccess denied";
 
-fn accept(alloc: Global) -> Result<Body, AllocError>
-    ensures { IfOk result IsReply }
+// An accept with these octets in place of the HMAC.
+fn bare_accept(rt: &impl Abort, alloc: Global, hmac: &[u8; 16]) -> Body
+    ensures { IsReply result }
 {
     let mut body = Body::new(alloc, code::ACCESS_ACCEPT);
-    body.push(MESSAGE_AUTHENTICATOR, &[0; 16])?;
-    body.push(CLASS, b"RAP1\0\0\0\0\0\0\0\x01")?;
-    Ok(body)
+    body.push(MESSAGE_AUTHENTICATOR, hmac)
+        .expect(rt, "a Message-Authenticator");
+    body
 }
 
-fn reject(alloc: Global) -> Result<Body, AllocError>
-    ensures { IfOk result IsReply }
+fn accept(rt: &impl Abort, alloc: Global) -> Body
+    ensures { IsReply result }
+{
+    let mut body = Body::new(alloc, code::ACCESS_ACCEPT);
+    body.push(MESSAGE_AUTHENTICATOR, &[0; 16])
+        .expect(rt, "a Message-Authenticator");
+    body.push(CLASS, b"RAP1\0\0\0\0\0\0\0\x01")
+        .expect(rt, "a Class");
+    body
+}
+
+fn reject(rt: &impl Abort, alloc: Global) -> Body
+    ensures { IsReply result }
 {
     let mut body = Body::new(alloc, code::ACCESS_REJECT);
-    body.push(MESSAGE_AUTHENTICATOR, &[0; 16])?;
-    body.push(REPLY_MESSAGE, b"access denied")?;
-    Ok(body)
+    body.push(MESSAGE_AUTHENTICATOR, &[0; 16])
+        .expect(rt, "a Message-Authenticator");
+    body.push(REPLY_MESSAGE, b"access denied")
+        .expect(rt, "a Reply-Message");
+    body
 }
 
-fn challenge(alloc: Global) -> Result<Body, AllocError>
-    ensures { IfOk result IsReply }
+fn challenge(rt: &impl Abort, alloc: Global) -> Body
+    ensures { IsReply result }
 {
     let mut body = Body::new(alloc, code::ACCESS_CHALLENGE);
-    body.push(MESSAGE_AUTHENTICATOR, &[0; 16])?;
-    body.push(REPLY_MESSAGE, b"code?")?;
-    body.push(STATE, b"\0\0\0\0\0\0\0\x010123456789abcdef")?;
-    Ok(body)
+    body.push(MESSAGE_AUTHENTICATOR, &[0; 16])
+        .expect(rt, "a Message-Authenticator");
+    body.push(REPLY_MESSAGE, b"code?")
+        .expect(rt, "a Reply-Message");
+    body.push(STATE, b"\0\0\0\0\0\0\0\x010123456789abcdef")
+        .expect(rt, "a State");
+    body
 }
 
-// Replies of each Code, under the one secret or the other. The second lane, the fifth and the seventh have none.
-fn seal_four<'a>(
-    secret: &'a Secret,
-    other_secret: &'a Secret,
-    accept: &'a Body,
-    reject: &'a Body,
-    challenge: &'a Body,
-    response: &'a Body,
-    frames: &mut [Frame; 8],
-)
-    requires accept { IsReply accept.now }
-    requires reject { IsReply reject.now }
-    requires challenge { IsReply challenge.now }
-    requires response { IsReply response.now }
-{
+// Seals replies of each Code, under the one secret or the other, into frames of which the second and the third have been
+// written before. The second lane, the fifth and the seventh have none.
+fn seal_mixed(rt: &impl Abort, alloc: Global, frames: &mut [Frame; 8]) {
+    let accept = accept(rt, alloc);
+    let reject = reject(rt, alloc);
+    let challenge = challenge(rt, alloc);
+    let response = response(rt, alloc);
+    write(&reject, 1, b"Sixteen octets..", &mut frames[1]).expect(rt, "the second");
+    write(&reject, 1, b"Sixteen octets..", &mut frames[2]).expect(rt, "the third");
+    let (secret, other_secret) = (Secret::new(SECRET), Secret::new(OTHER_SECRET));
     let jobs = [
-        lane(ACCESS_REQUEST, challenge, secret),
+        lane(ACCESS_REQUEST, &challenge, &secret),
         None,
-        lane(OTHER_START, response, other_secret),
-        lane(OTHER_REQUEST, accept, other_secret),
+        lane(OTHER_START, &response, &other_secret),
+        lane(OTHER_REQUEST, &accept, &other_secret),
         None,
-        lane(ACCESS_REQUEST, reject, secret),
+        lane(ACCESS_REQUEST, &reject, &secret),
         None,
-        lane(ACCESS_REQUEST, accept, secret),
+        lane(ACCESS_REQUEST, &accept, &secret),
     ];
     seal8(&jobs, frames);
-}
-
-fn seal_with(
-    alloc: Global,
-    accept: &Body,
-    reject: &Body,
-    frames: &mut [Frame; 8],
-) -> Result<(), AllocError>
-    requires accept { IsReply accept.now }
-    requires reject { IsReply reject.now }
-{
-    let challenge = challenge(alloc)?;
-    let response = response(alloc)?;
-    let (secret, other_secret) = (Secret::new(SECRET), Secret::new(OTHER_SECRET));
-    seal_four(
-        &secret,
-        &other_secret,
-        accept,
-        reject,
-        &challenge,
-        &response,
-        frames,
-    );
-    Ok(())
-}
-
-fn seal_mixed(alloc: Global, frames: &mut [Frame; 8]) -> Result<(), AllocError> {
-    let accept = accept(alloc)?;
-    let reject = reject(alloc)?;
-    seal_with(alloc, &accept, &reject, frames)
-}
-
-// Writes into the second frame and the third.
-fn write_before(alloc: Global, frames: &mut [Frame; 8]) -> Result<(), Fail> {
-    let reject = reject(alloc)?;
-    write(&reject, 1, b"Sixteen octets..", &mut frames[1])?;
-    write(&reject, 1, b"Sixteen octets..", &mut frames[2])?;
-    Ok(())
-}
-
-fn write_and_seal(alloc: Global, frames: &mut [Frame; 8]) -> Result<(), Fail> {
-    write_before(alloc, frames)?;
-    seal_mixed(alloc, frames)?;
-    Ok(())
 }
 
 const MIXED: [&[u8]; 8] = [
@@ -298,11 +246,10 @@ const MIXED: [&[u8]; 8] = [
 ];
 
 #[test]
-fn replies_of_each_code_are_sealed_in_one_call(rt: HostRuntime) -> Result<(), Fail> {
-    let mut frames = empty_frames(rt.alloc())?;
-    write_and_seal(rt.alloc(), &mut frames)?;
+fn replies_of_each_code_are_sealed_in_one_call(rt: HostRuntime) {
+    let mut frames = empty_frames(&rt, rt.alloc());
+    seal_mixed(&rt, rt.alloc(), &mut frames);
     are_written(&rt, &frames, &MIXED);
-    Ok(())
 }
 
 // An accept for the Status-Server of RFC 5997, section 6.1, as this server says it, with a Message-Authenticator.
@@ -311,14 +258,14 @@ const STATUS_REPLY: &[u8; 38] = b"\
     \x7e\x6d\x7a\x5f\x5d\xfa\x87\xb5\x19\xbe\xf2\x60\xa6\xf1\x50\x81\
     \x50\x12\x57\x56\x6a\x4a\x4a\x4c\x69\x0f\x8e\x18\xb7\x3a\xe7\xa7\xf6\x5f";
 
-// Replies to the Status-Server, in the first two lanes.
-fn seal_two<'a>(secret: &'a Secret, body: &'a Body, other_body: &'a Body, frames: &mut [Frame; 8])
-    requires body { IsReply body.now }
-    requires other_body { IsReply other_body.now }
-{
+// Seals replies to the Status-Server, in the first two lanes.
+fn seal_accepts(rt: &impl Abort, alloc: Global, frames: &mut [Frame; 8]) {
+    let with_zeros = bare_accept(rt, alloc, &[0; 16]);
+    let with_text = bare_accept(rt, alloc, b"Sixteen octets..");
+    let secret = Secret::new(SECRET);
     let jobs = [
-        lane(RFC_STATUS, body, secret),
-        lane(RFC_STATUS, other_body, secret),
+        lane(RFC_STATUS, &with_zeros, &secret),
+        lane(RFC_STATUS, &with_text, &secret),
         None,
         None,
         None,
@@ -329,28 +276,11 @@ fn seal_two<'a>(secret: &'a Secret, body: &'a Body, other_body: &'a Body, frames
     seal8(&jobs, frames);
 }
 
-// An accept with these octets in place of the HMAC.
-fn bare_accept(alloc: Global, hmac: &[u8; 16]) -> Result<Body, AllocError>
-    ensures { IfOk result IsReply }
-{
-    let mut body = Body::new(alloc, code::ACCESS_ACCEPT);
-    body.push(MESSAGE_AUTHENTICATOR, hmac)?;
-    Ok(body)
-}
-
-fn seal_accepts(alloc: Global, frames: &mut [Frame; 8]) -> Result<(), AllocError> {
-    let with_zeros = bare_accept(alloc, &[0; 16])?;
-    let with_text = bare_accept(alloc, b"Sixteen octets..")?;
-    seal_two(&Secret::new(SECRET), &with_zeros, &with_text, frames);
-    Ok(())
-}
-
 const ACCEPTS: [&[u8]; 8] = [STATUS_REPLY, STATUS_REPLY, b"", b"", b"", b"", b"", b""];
 
 #[test]
-fn a_message_authenticator_in_the_body_is_overwritten(rt: HostRuntime) -> Result<(), Fail> {
-    let mut frames = empty_frames(rt.alloc())?;
-    seal_accepts(rt.alloc(), &mut frames)?;
+fn a_message_authenticator_in_the_body_is_overwritten(rt: HostRuntime) {
+    let mut frames = empty_frames(&rt, rt.alloc());
+    seal_accepts(&rt, rt.alloc(), &mut frames);
     are_written(&rt, &frames, &ACCEPTS);
-    Ok(())
 }

@@ -2,46 +2,21 @@
 ghost use Rattle.std.specs.Prelude.{◌≤◌};
 ghost use Rattle.rad_packet.specs.Attributes.{value_max};
 
+use super::Attribute::{Address, Name, Password, Port, Proxy, Short, Status, Text, Zeros};
 use super::{
-    ACCESS_REQUEST, CLIENT, OTHER_CLIENT, OTHER_SECRET, PROXIED_START, Pair, REQUEST_AUTHENTICATOR,
-    RFC_ACCOUNTING_STATUS, RFC_STATUS, SECRET, SIGNED_REQUEST, START, STATUS_SERVER, are_octets,
-    extend, extend_by_proxies, has_verdict, holds, sign, three_clients,
+    ACCESS_REQUEST, Attribute, CLIENT, OTHER_CLIENT, OTHER_SECRET, PROXIED_START,
+    REQUEST_AUTHENTICATOR, RFC_ACCOUNTING_STATUS, RFC_STATUS, SECRET, SIGNED_REQUEST, START,
+    STATUS_SERVER, extend, extend_by_proxies, has_verdict, holds, new_frame, sign, three_clients,
 };
 use rad_auth::Discard::{BadAuthenticator, BadMessageAuthenticator};
 use rad_auth::Door::{Acct, Auth};
 use rad_auth::{Clients, Discard, Door, Secret};
-use rad_packet::attribute::{
-    ACCT_STATUS_TYPE, MESSAGE_AUTHENTICATOR, NAS_IP_ADDRESS, NAS_PORT, PROXY_STATE, USER_NAME,
-    USER_PASSWORD,
-};
 use rad_packet::{Body, Frame, TooLong, code};
-use std::alloc::{AllocError, Global};
+use std::alloc::Global;
 use std::process::Abort;
-use std::test::Fail;
 
 // An Authenticator that isn't used.
 const UNUSED: &[u8; 16] = &[9; 16];
-
-const STATUS: Pair = (ACCT_STATUS_TYPE, b"\0\0\0\x01");
-
-const PROXY: Pair = (PROXY_STATE, b"abc");
-
-const ZEROS: Pair = (MESSAGE_AUTHENTICATOR, &[0; 16]);
-
-const TEXT: Pair = (MESSAGE_AUTHENTICATOR, b"Sixteen octets..");
-
-const SHORT: Pair = (MESSAGE_AUTHENTICATOR, b"abc");
-
-const NAME: Pair = (USER_NAME, b"nemo");
-
-const PASSWORD: Pair = (
-    USER_PASSWORD,
-    b"\x0d\xbe\x70\x8d\x93\xd4\x13\xce\x31\x96\xe4\x3f\x78\x2a\x0a\xee",
-);
-
-const ADDRESS: Pair = (NAS_IP_ADDRESS, b"\xc0\xa8\x01\x10");
-
-const PORT: Pair = (NAS_PORT, b"\0\0\0\x03");
 
 const START_WITH_ZEROS: &[u8; 44] = b"\
     \x04\x07\x00\x2c\
@@ -75,30 +50,27 @@ const EMPTY_STATUS: &[u8; 20] = b"\x0c\x00\x00\x14\0\0\0\0\0\0\0\0\0\0\0\0\0\0\0
 
 // A request to be signed: its Code, its Identifier, an Authenticator and its attributes. Those of an Access-Request follow
 // the RFC's.
-type Case = (u8, u8, &'static [u8; 16], &'static [Pair]);
+type Case = (u8, u8, &'static [u8; 16], &'static [Attribute]);
 
 // Its name, the request, and the octets that it is signed as.
 type Signed = (&'static str, Case, &'static [u8]);
 
-const STARTS: [Signed; 3] = [
+const SIGNED: [Signed; 12] = [
     (
         "a start",
-        (code::ACCOUNTING_REQUEST, 7, UNUSED, &[STATUS]),
+        (code::ACCOUNTING_REQUEST, 7, UNUSED, &[Status]),
         START,
     ),
     (
         "a start with a Message-Authenticator, which is left as it is",
-        (code::ACCOUNTING_REQUEST, 7, UNUSED, &[STATUS, ZEROS]),
+        (code::ACCOUNTING_REQUEST, 7, UNUSED, &[Status, Zeros]),
         START_WITH_ZEROS,
     ),
     (
         "a start with a Proxy-State",
-        (code::ACCOUNTING_REQUEST, 7, UNUSED, &[STATUS, PROXY]),
+        (code::ACCOUNTING_REQUEST, 7, UNUSED, &[Status, Proxy]),
         PROXIED_START,
     ),
-];
-
-const ACCESS_REQUESTS: [Signed; 5] = [
     (
         "an Access-Request with no room for an HMAC",
         (code::ACCESS_REQUEST, 0, REQUEST_AUTHENTICATOR, &[]),
@@ -106,7 +78,7 @@ const ACCESS_REQUESTS: [Signed; 5] = [
     ),
     (
         "an Access-Request with room for one",
-        (code::ACCESS_REQUEST, 0, REQUEST_AUTHENTICATOR, &[ZEROS]),
+        (code::ACCESS_REQUEST, 0, REQUEST_AUTHENTICATOR, &[Zeros]),
         SIGNED_REQUEST,
     ),
     (
@@ -115,13 +87,13 @@ const ACCESS_REQUESTS: [Signed; 5] = [
             code::ACCESS_REQUEST,
             0,
             REQUEST_AUTHENTICATOR,
-            &[ZEROS, TEXT],
+            &[Zeros, Text],
         ),
         HMAC_AND_TEXT,
     ),
     (
         "an Access-Request with text in the HMAC's place",
-        (code::ACCESS_REQUEST, 0, REQUEST_AUTHENTICATOR, &[TEXT]),
+        (code::ACCESS_REQUEST, 0, REQUEST_AUTHENTICATOR, &[Text]),
         SIGNED_REQUEST,
     ),
     (
@@ -130,13 +102,10 @@ const ACCESS_REQUESTS: [Signed; 5] = [
             code::ACCESS_REQUEST,
             0,
             REQUEST_AUTHENTICATOR,
-            &[SHORT, ZEROS],
+            &[Short, Zeros],
         ),
         SHORT_AND_HMAC,
     ),
-];
-
-const STATUS_SERVERS: [Signed; 4] = [
     (
         "a Status-Server with no room for an HMAC",
         (code::STATUS_SERVER, 0, &[0; 16], &[]),
@@ -144,7 +113,7 @@ const STATUS_SERVERS: [Signed; 4] = [
     ),
     (
         "a Status-Server",
-        (code::STATUS_SERVER, 0, &[0; 16], &[ZEROS]),
+        (code::STATUS_SERVER, 0, &[0; 16], &[Zeros]),
         STATUS_SERVER,
     ),
     (
@@ -153,7 +122,7 @@ const STATUS_SERVERS: [Signed; 4] = [
             code::STATUS_SERVER,
             218,
             b"\x8a\x54\xf4\x68\x6f\xb3\x94\xc5\x28\x66\xe3\x02\x18\x5d\x06\x23",
-            &[ZEROS],
+            &[Zeros],
         ),
         RFC_STATUS,
     ),
@@ -163,109 +132,66 @@ const STATUS_SERVERS: [Signed; 4] = [
             code::STATUS_SERVER,
             179,
             b"\x92\x5f\x6b\x66\xdd\x5f\xed\x57\x1f\xcb\x1d\xb7\xad\x38\x82\x60",
-            &[ZEROS],
+            &[Zeros],
         ),
         RFC_ACCOUNTING_STATUS,
     ),
 ];
 
 // The attributes of the request of RFC 2865, section 7.1.
-const OF_THE_RFC: [Pair; 4] = [NAME, PASSWORD, ADDRESS, PORT];
+const OF_THE_RFC: [Attribute; 4] = [Name, Password, Address, Port];
 
-// Adds attributes to a body, and to that of an Access-Request the RFC's before them.
-fn fill(rt: &impl Abort, body: &mut Body, pairs: &[Pair]) -> Result<(), AllocError> {
-    if body.code() == code::ACCESS_REQUEST {
-        extend(rt, body, &OF_THE_RFC)?;
-    }
-    extend(rt, body, pairs)
-}
-
-fn body_of(rt: &impl Abort, alloc: Global, code: u8, pairs: &[Pair]) -> Result<Body, AllocError> {
+// A body with these attributes, and in an Access-Request the RFC's before them.
+fn body_of(rt: &impl Abort, alloc: Global, code: u8, attributes: &[Attribute]) -> Body {
     let mut body = Body::new(alloc, code);
-    fill(rt, &mut body, pairs)?;
-    Ok(body)
+    if code == code::ACCESS_REQUEST {
+        extend(rt, &mut body, &OF_THE_RFC);
+    }
+    extend(rt, &mut body, attributes);
+    body
 }
 
 // Asserts the octets of a request under the first client's secret.
-fn has_octets(
-    rt: &impl Abort,
-    frame: &mut Frame,
-    body: &Body,
-    from: (u8, &[u8; 16]),
-    want: &[u8],
-    name: &str,
-) -> Result<(), Fail> {
-    sign(rt, frame, body, from, &Secret::new(SECRET))?;
-    are_octets(rt, frame.octets(), want, name);
-    Ok(())
-}
-
-fn is_signed(
-    rt: &impl Abort,
-    alloc: Global,
-    frame: &mut Frame,
-    (name, (code, identifier, authenticator, pairs), want): Signed,
-) -> Result<(), Fail> {
-    let body = body_of(rt, alloc, code, pairs)?;
-    has_octets(rt, frame, &body, (identifier, authenticator), want, name)
-}
-
-fn are_signed(
-    rt: &impl Abort,
-    alloc: Global,
-    frame: &mut Frame,
-    cases: &[Signed],
-) -> Result<(), Fail> {
-    for case in cases {
-        is_signed(rt, alloc, frame, *case)?;
-    }
-    Ok(())
-}
-
-fn starts_are_signed(rt: &impl Abort, alloc: Global, frame: &mut Frame) -> Result<(), Fail> {
-    are_signed(rt, alloc, frame, &STARTS)
-}
-
-fn access_requests_are_signed(
-    rt: &impl Abort,
-    alloc: Global,
-    frame: &mut Frame,
-) -> Result<(), Fail> {
-    are_signed(rt, alloc, frame, &ACCESS_REQUESTS)
-}
-
-fn status_servers_are_signed(
-    rt: &impl Abort,
-    alloc: Global,
-    frame: &mut Frame,
-) -> Result<(), Fail> {
-    are_signed(rt, alloc, frame, &STATUS_SERVERS)
-}
-
-fn each_is_signed(rt: &impl Abort, alloc: Global, frame: &mut Frame) -> Result<(), Fail> {
-    starts_are_signed(rt, alloc, frame)?;
-    access_requests_are_signed(rt, alloc, frame)?;
-    status_servers_are_signed(rt, alloc, frame)
+fn is_signed(rt: &impl Abort, alloc: Global, frame: &mut Frame, (name, case, want): Signed) {
+    let (code, identifier, authenticator, attributes) = case;
+    let body = body_of(rt, alloc, code, attributes);
+    let from = (identifier, authenticator);
+    sign(rt, frame, &body, from, &Secret::new(SECRET)).expect(rt, name);
+    holds(rt, frame.octets() == want, name);
 }
 
 // One frame serves all. The first Message-Authenticator of 16 octets gets the HMAC.
 #[test]
-fn requests_get_their_authenticators(rt: HostRuntime) -> Result<(), Fail> {
-    each_is_signed(&rt, rt.alloc(), &mut Frame::new(rt.alloc())?)
+fn requests_get_their_authenticators(rt: HostRuntime) {
+    let mut frame = new_frame(&rt, rt.alloc());
+    for signed in SIGNED.iter() {
+        is_signed(&rt, rt.alloc(), &mut frame, *signed);
+    }
 }
 
+// A request's Code, an attribute, the port that it goes to, and why it is discarded from another client.
+type Admitted = (u8, Attribute, Door, Discard);
+
+const ADMITTED: [Admitted; 4] = [
+    (code::ACCESS_REQUEST, Zeros, Auth, BadMessageAuthenticator),
+    (code::STATUS_SERVER, Zeros, Auth, BadMessageAuthenticator),
+    (code::STATUS_SERVER, Zeros, Acct, BadMessageAuthenticator),
+    (code::ACCOUNTING_REQUEST, Status, Acct, BadAuthenticator),
+];
+
 // Signs a request under a secret, Identifier 5, and asserts that it is admitted from the client at this place, whose secret
-// it is, and discarded for this reason from another.
+// it is, and discarded from another.
 fn is_admitted_from(
     rt: &impl Abort,
+    alloc: Global,
     frame: &mut Frame,
     clients: &Clients,
-    body: &Body,
+    (code, attribute, door, refused): Admitted,
     secret: &Secret,
     (own, place, stranger): (u32, u32, u32),
-    (door, refused): (Door, Discard),
-) -> Result<(), Fail> {
-    sign(rt, frame, body, (5, REQUEST_AUTHENTICATOR), secret)?;
+) {
+    let body = body_of(rt, alloc, code, &[attribute]);
+    sign(rt, frame, &body, (5, REQUEST_AUTHENTICATOR), secret).expect(rt, "its own");
     let octets = frame.octets();
     has_verdict(rt, clients, (own, door), octets, Ok((place, 5)), "its own");
     has_verdict(
@@ -276,153 +202,68 @@ fn is_admitted_from(
         Err(refused),
         "another's",
     );
-    Ok(())
-}
-
-// Asserts it of the first client and of the other.
-fn is_admitted(
-    rt: &impl Abort,
-    frame: &mut Frame,
-    clients: &Clients,
-    body: &Body,
-    by: (Door, Discard),
-) -> Result<(), Fail> {
-    let first = (CLIENT, 0, OTHER_CLIENT);
-    is_admitted_from(rt, frame, clients, body, &Secret::new(SECRET), first, by)?;
-    let other = (OTHER_CLIENT, 1, CLIENT);
-    let secret = Secret::new(OTHER_SECRET);
-    is_admitted_from(rt, frame, clients, body, &secret, other, by)
-}
-
-// A request's Code, its attributes, the port that it goes to, and why it is discarded from another client.
-type Admitted = (u8, &'static [Pair], (Door, Discard));
-
-const ADMITTED: [Admitted; 4] = [
-    (
-        code::ACCESS_REQUEST,
-        &[ZEROS],
-        (Auth, BadMessageAuthenticator),
-    ),
-    (
-        code::STATUS_SERVER,
-        &[ZEROS],
-        (Auth, BadMessageAuthenticator),
-    ),
-    (
-        code::STATUS_SERVER,
-        &[ZEROS],
-        (Acct, BadMessageAuthenticator),
-    ),
-    (
-        code::ACCOUNTING_REQUEST,
-        &[STATUS],
-        (Acct, BadAuthenticator),
-    ),
-];
-
-fn is_row_admitted(
-    rt: &impl Abort,
-    alloc: Global,
-    frame: &mut Frame,
-    clients: &Clients,
-    (code, pairs, by): Admitted,
-) -> Result<(), Fail> {
-    let body = body_of(rt, alloc, code, pairs)?;
-    is_admitted(rt, frame, clients, &body, by)
-}
-
-fn are_admitted(
-    rt: &impl Abort,
-    alloc: Global,
-    frame: &mut Frame,
-    clients: &Clients,
-) -> Result<(), Fail> {
-    for row in ADMITTED.iter() {
-        is_row_admitted(rt, alloc, frame, clients, *row)?;
-    }
-    Ok(())
-}
-
-fn each_is_admitted(rt: &impl Abort, alloc: Global, clients: &Clients) -> Result<(), Fail> {
-    are_admitted(rt, alloc, &mut Frame::new(alloc)?, clients)
 }
 
 #[test]
-fn signed_requests_are_admitted(rt: HostRuntime) -> Result<(), Fail> {
-    each_is_admitted(&rt, rt.alloc(), &three_clients(&rt, rt.alloc())?)
+fn signed_requests_are_admitted(rt: HostRuntime) {
+    let clients = three_clients(&rt, rt.alloc());
+    let mut frame = new_frame(&rt, rt.alloc());
+    let (secret, other_secret) = (Secret::new(SECRET), Secret::new(OTHER_SECRET));
+    let first = (CLIENT, 0, OTHER_CLIENT);
+    let other = (OTHER_CLIENT, 1, CLIENT);
+    for row in ADMITTED.iter() {
+        is_admitted_from(&rt, rt.alloc(), &mut frame, &clients, *row, &secret, first);
+        is_admitted_from(
+            &rt,
+            rt.alloc(),
+            &mut frame,
+            &clients,
+            *row,
+            &other_secret,
+            other,
+        );
+    }
 }
 
 // A body whose last Proxy-State has a Value of so many octets: with 249 the request has 4,096.
-fn proxied(alloc: Global, code: u8, last: usize) -> Result<Body, AllocError>
+fn proxied(rt: &impl Abort, alloc: Global, code: u8, last: usize) -> Body
     requires { last ≤ value_max }
 {
     let mut body = Body::new(alloc, code);
-    extend_by_proxies(&mut body, 15, last)?;
-    Ok(body)
+    extend_by_proxies(rt, &mut body, 15, last);
+    body
 }
 
-// Signs a request into a frame, where it has 4,096 octets.
-fn is_taken(rt: &impl Abort, frame: &mut Frame, most: &Body) -> Result<(), Fail> {
-    sign(rt, frame, most, (7, UNUSED), &Secret::new(SECRET))?;
+// Signs the greatest request into both frames, and then one of an octet more into the first. It is refused, and the frame
+// stays as it was, as the other shows.
+fn is_bounded(rt: &impl Abort, alloc: Global, frame: &mut Frame, kept: &mut Frame, code: u8) {
+    let secret = Secret::new(SECRET);
+    let most = proxied(rt, alloc, code, 249);
+    sign(rt, frame, &most, (7, UNUSED), &secret).expect(rt, "the greatest");
+    sign(rt, kept, &most, (7, UNUSED), &secret).expect(rt, "the greatest");
     holds(rt, frame.octets().len() == 4096, "the greatest");
-    Ok(())
-}
-
-// Signs a request of 4,097 octets into a frame, which stays as it was, with these octets.
-fn is_refused(rt: &impl Abort, frame: &mut Frame, over: &Body, before: &[u8]) {
+    let over = proxied(rt, alloc, code, 250);
     holds(rt, over.size() == 4077, "octets of attributes");
-    let signed = sign(rt, frame, over, (8, UNUSED), &Secret::new(SECRET));
+    let signed = sign(rt, frame, &over, (8, UNUSED), &secret);
     holds(rt, signed == Err(TooLong), "a refusal");
-    are_octets(rt, frame.octets(), before, "a frame after a refusal");
-}
-
-fn is_taken_with_4096_octets(
-    rt: &impl Abort,
-    alloc: Global,
-    frame: &mut Frame,
-    code: u8,
-) -> Result<(), Fail> {
-    is_taken(rt, frame, &proxied(alloc, code, 249)?)
-}
-
-fn is_refused_with_4097_octets(
-    rt: &impl Abort,
-    alloc: Global,
-    frame: &mut Frame,
-    code: u8,
-    before: &[u8],
-) -> Result<(), Fail> {
-    is_refused(rt, frame, &proxied(alloc, code, 250)?, before);
-    Ok(())
-}
-
-// Signs the greatest request into both frames, of which the first then stays as it was, as the other shows.
-fn is_bounded(
-    rt: &impl Abort,
-    alloc: Global,
-    frame: &mut Frame,
-    kept: &mut Frame,
-    code: u8,
-) -> Result<(), Fail> {
-    is_taken_with_4096_octets(rt, alloc, frame, code)?;
-    is_taken_with_4096_octets(rt, alloc, kept, code)?;
-    is_refused_with_4097_octets(rt, alloc, frame, code, kept.octets())
-}
-
-fn each_is_bounded(
-    rt: &impl Abort,
-    alloc: Global,
-    frame: &mut Frame,
-    kept: &mut Frame,
-) -> Result<(), Fail> {
-    is_bounded(rt, alloc, frame, kept, code::ACCESS_REQUEST)?;
-    is_bounded(rt, alloc, frame, kept, code::ACCOUNTING_REQUEST)?;
-    is_bounded(rt, alloc, frame, kept, code::STATUS_SERVER)
+    holds(
+        rt,
+        frame.octets() == kept.octets(),
+        "a frame after a refusal",
+    );
 }
 
 #[test]
-fn a_request_of_more_than_4096_octets_is_refused(rt: HostRuntime) -> Result<(), Fail> {
-    let mut frame = Frame::new(rt.alloc())?;
-    let mut kept = Frame::new(rt.alloc())?;
-    each_is_bounded(&rt, rt.alloc(), &mut frame, &mut kept)
+fn a_request_of_more_than_4096_octets_is_refused(rt: HostRuntime) {
+    let mut frame = new_frame(&rt, rt.alloc());
+    let mut kept = new_frame(&rt, rt.alloc());
+    for code in [
+        code::ACCESS_REQUEST,
+        code::ACCOUNTING_REQUEST,
+        code::STATUS_SERVER,
+    ]
+    .iter()
+    {
+        is_bounded(&rt, rt.alloc(), &mut frame, &mut kept, *code);
+    }
 }
