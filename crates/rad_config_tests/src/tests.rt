@@ -135,16 +135,14 @@ fn fault(rt: &impl AllocGlobal, text: &str) -> Option<ConfigFault> {
 }
 
 // Asserts the outcome of a text.
-fn reads_as<R: Abort + AllocGlobal>(rt: &R, text: &str, want: &str) -> Result<(), AllocError> {
-    let printed = outcome(rt, text)?;
+fn reads_as<R: Abort + AllocGlobal>(rt: &R, text: &str, want: &str) {
+    let printed = outcome(rt, text).expect(rt, text);
     is_printed(rt, printed.as_str(), want, text);
-    Ok(())
 }
 
 // Asserts the outcome of each text.
-fn read_as<R: Abort + AllocGlobal>(rt: &R, cases: &[(&str, &str)]) -> Result<(), AllocError> {
+fn read_as<R: Abort + AllocGlobal>(rt: &R, cases: &[(&str, &str)]) {
     for (text, want) in cases {
-        reads_as(rt, text, want)?;
+        reads_as(rt, text, want);
     }
-    Ok(())
 }

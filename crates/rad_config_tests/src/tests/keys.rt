@@ -1,7 +1,6 @@
 use super::{read_as, reads_as};
 use std::alloc::AllocError;
 use std::process::Abort;
-use std::test::Fail;
 
 // Keys that hold a number, each with values that fit, values that don't, and the fault of these.
 const NUMBERS: [(&str, [i64; 2], [i64; 2], &str); 6] = [
@@ -54,76 +53,50 @@ const NO_NUMBERS: [&str; 6] = [
 ];
 
 // Asserts the outcome of a text with this value at a key.
-fn reads_as_at<R: Abort + AllocGlobal>(
-    rt: &R,
-    key: &str,
-    value: &str,
-    after: &str,
-    want: &str,
-) -> Result<(), AllocError> {
-    let text = format!(in rt.alloc(); "{key} = {value}{after}")?;
-    reads_as(rt, text.as_str(), want)
+fn reads_as_at<R: Abort + AllocGlobal>(rt: &R, key: &str, value: &str, after: &str, want: &str) {
+    let text = format!(in rt.alloc(); "{key} = {value}{after}");
+    reads_as(rt, text.expect(rt, key).as_str(), want);
 }
 
 // Asserts the outcome of a text with this number at a key.
-fn number_reads_as<R: Abort + AllocGlobal>(
-    rt: &R,
-    key: &str,
-    number: i64,
-    want: &str,
-) -> Result<(), AllocError> {
-    let text = format!(in rt.alloc(); "{key} = {number}")?;
-    reads_as(rt, text.as_str(), want)
+fn number_reads_as<R: Abort + AllocGlobal>(rt: &R, key: &str, number: i64, want: &str) {
+    let text = format!(in rt.alloc(); "{key} = {number}");
+    reads_as(rt, text.expect(rt, key).as_str(), want);
 }
 
 // The same with each of these numbers.
-fn numbers_read_as<R: Abort + AllocGlobal>(
-    rt: &R,
-    key: &str,
-    numbers: &[i64],
-    want: &str,
-) -> Result<(), AllocError> {
+fn numbers_read_as<R: Abort + AllocGlobal>(rt: &R, key: &str, numbers: &[i64], want: &str) {
     for number in numbers {
-        number_reads_as(rt, key, *number, want)?;
+        number_reads_as(rt, key, *number, want);
     }
-    Ok(())
 }
 
 // The same with each of these values.
-fn read_as_at<R: Abort + AllocGlobal>(
-    rt: &R,
-    key: &str,
-    values: &[&str],
-    want: &str,
-) -> Result<(), AllocError> {
+fn read_as_at<R: Abort + AllocGlobal>(rt: &R, key: &str, values: &[&str], want: &str) {
     for value in values {
-        reads_as_at(rt, key, value, "", want)?;
+        reads_as_at(rt, key, value, "", want);
     }
-    Ok(())
 }
 
 #[test]
-fn numbers_have_ranges(rt: HostRuntime) -> Result<(), Fail> {
+fn numbers_have_ranges(rt: HostRuntime) {
     for (key, fit, _, _) in &NUMBERS {
-        numbers_read_as(&rt, key, fit, "read")?;
+        numbers_read_as(&rt, key, fit, "read");
     }
-    Ok(())
 }
 
 #[test]
-fn no_number_is_past_its_range(rt: HostRuntime) -> Result<(), Fail> {
+fn no_number_is_past_its_range(rt: HostRuntime) {
     for (key, _, refused, bad) in &NUMBERS {
-        numbers_read_as(&rt, key, refused, bad)?;
+        numbers_read_as(&rt, key, refused, bad);
     }
-    Ok(())
 }
 
 #[test]
-fn only_numbers_are_numbers(rt: HostRuntime) -> Result<(), Fail> {
+fn only_numbers_are_numbers(rt: HostRuntime) {
     for (key, _, _, bad) in &NUMBERS {
-        read_as_at(&rt, key, &NO_NUMBERS, bad)?;
+        read_as_at(&rt, key, &NO_NUMBERS, bad);
     }
-    Ok(())
 }
 
 // Keys that hold a text, each with what follows it, lengths that fit, lengths that don't, and the fault of these.
@@ -192,9 +165,9 @@ fn letters_read_as<R: Abort + AllocGlobal>(
     (letter, count): (&str, usize),
     after: &str,
     want: &str,
-) -> Result<(), AllocError> {
-    let value = spelled(rt, letter, count)?;
-    reads_as_at(rt, key, value.as_str(), after, want)
+) {
+    let value = spelled(rt, letter, count).expect(rt, key);
+    reads_as_at(rt, key, value.as_str(), after, want);
 }
 
 // The same with each of these lengths.
@@ -204,35 +177,31 @@ fn lengths_read_as<R: Abort + AllocGlobal>(
     lengths: &[usize],
     after: &str,
     want: &str,
-) -> Result<(), AllocError> {
+) {
     for length in lengths {
-        letters_read_as(rt, key, ("x", *length), after, want)?;
+        letters_read_as(rt, key, ("x", *length), after, want);
     }
-    Ok(())
 }
 
 #[test]
-fn texts_have_lengths(rt: HostRuntime) -> Result<(), Fail> {
+fn texts_have_lengths(rt: HostRuntime) {
     for (key, after, fit, _, _) in &TEXTS {
-        lengths_read_as(&rt, key, fit, after, "read")?;
+        lengths_read_as(&rt, key, fit, after, "read");
     }
-    Ok(())
 }
 
 #[test]
-fn no_text_is_past_its_lengths(rt: HostRuntime) -> Result<(), Fail> {
+fn no_text_is_past_its_lengths(rt: HostRuntime) {
     for (key, after, _, refused, bad) in &TEXTS {
-        lengths_read_as(&rt, key, refused, after, bad)?;
+        lengths_read_as(&rt, key, refused, after, bad);
     }
-    Ok(())
 }
 
 #[test]
-fn numbers_are_no_texts(rt: HostRuntime) -> Result<(), Fail> {
+fn numbers_are_no_texts(rt: HostRuntime) {
     for (key, after, _, _, bad) in &TEXTS {
-        reads_as_at(&rt, key, "5", after, bad)?;
+        reads_as_at(&rt, key, "5", after, bad);
     }
-    Ok(())
 }
 
 // How many letters of two octets a secret has, and the outcome.
@@ -242,12 +211,11 @@ const LETTERS: [(usize, &str); 2] = [
 ];
 
 #[test]
-fn octets_are_counted(rt: HostRuntime) -> Result<(), Fail> {
-    for (count, want) in LETTERS {
+fn octets_are_counted(rt: HostRuntime) {
+    for (count, want) in LETTERS.iter() {
         let key = "[[client]]\naddress = \"1.2.3.4\"\nsecret";
-        letters_read_as(&rt, key, ("ä", count), "", want)?;
+        letters_read_as(&rt, key, ("ä", *count), "", want);
     }
-    Ok(())
 }
 
 // Texts with a zero, and the outcome of each.
@@ -280,9 +248,8 @@ const ZEROS: [(&str, &str); 7] = [
 ];
 
 #[test]
-fn only_passwords_and_answers_have_no_zero(rt: HostRuntime) -> Result<(), Fail> {
-    read_as(&rt, &ZEROS)?;
-    Ok(())
+fn only_passwords_and_answers_have_no_zero(rt: HostRuntime) {
+    read_as(&rt, &ZEROS);
 }
 
 // Addresses of clients, and the outcome of each.
@@ -305,21 +272,16 @@ const ADDRESSES: [(&str, &str); 12] = [
 ];
 
 // Asserts the outcome of a text with this client.
-fn client_reads_as<R: Abort + AllocGlobal>(
-    rt: &R,
-    address: &str,
-    want: &str,
-) -> Result<(), AllocError> {
-    let text = format!(in rt.alloc(); "[[client]]\naddress = \"{address}\"\nsecret = \"s\"")?;
-    reads_as(rt, text.as_str(), want)
+fn client_reads_as<R: Abort + AllocGlobal>(rt: &R, address: &str, want: &str) {
+    let text = format!(in rt.alloc(); "[[client]]\naddress = \"{address}\"\nsecret = \"s\"");
+    reads_as(rt, text.expect(rt, address).as_str(), want);
 }
 
 #[test]
-fn addresses_have_ranges(rt: HostRuntime) -> Result<(), Fail> {
-    for (address, want) in ADDRESSES {
-        client_reads_as(&rt, address, want)?;
+fn addresses_have_ranges(rt: HostRuntime) {
+    for (address, want) in ADDRESSES.iter() {
+        client_reads_as(&rt, address, want);
     }
-    Ok(())
 }
 
 // First and last addresses of pools, and the outcome of each pair.
@@ -355,24 +317,18 @@ const POOLS: [(&str, &str, &str); 8] = [
 ];
 
 // Asserts the outcome of a text with this pool.
-fn pool_reads_as<R: Abort + AllocGlobal>(
-    rt: &R,
-    first: &str,
-    last: &str,
-    want: &str,
-) -> Result<(), AllocError> {
+fn pool_reads_as<R: Abort + AllocGlobal>(rt: &R, first: &str, last: &str, want: &str) {
     let text = format!(in rt.alloc();
         "[[pool]]\nname = \"a\"\nfirst = \"{first}\"\nlast = \"{last}\""
-    )?;
-    reads_as(rt, text.as_str(), want)
+    );
+    reads_as(rt, text.expect(rt, first).as_str(), want);
 }
 
 #[test]
-fn pools_have_bounds(rt: HostRuntime) -> Result<(), Fail> {
-    for (first, last, want) in POOLS {
-        pool_reads_as(&rt, first, last, want)?;
+fn pools_have_bounds(rt: HostRuntime) {
+    for (first, last, want) in POOLS.iter() {
+        pool_reads_as(&rt, first, last, want);
     }
-    Ok(())
 }
 
 // Texts with a flag, and the outcome of each.
@@ -396,7 +352,6 @@ const FLAGS: [(&str, &str); 4] = [
 ];
 
 #[test]
-fn a_flag_is_a_boolean(rt: HostRuntime) -> Result<(), Fail> {
-    read_as(&rt, &FLAGS)?;
-    Ok(())
+fn a_flag_is_a_boolean(rt: HostRuntime) {
+    read_as(&rt, &FLAGS);
 }

@@ -45,8 +45,8 @@ const PLACES: [(&str, Option<u32>); 4] = [
 
 // Asserts the place of each name.
 fn are_placed(rt: &impl Abort, config: &Config) {
-    for (name, want) in PLACES {
-        holds(rt, config.user(name.as_bytes()) == want, name);
+    for (name, want) in PLACES.iter() {
+        holds(rt, config.user(name.as_bytes()) == *want, name);
     }
 }
 
