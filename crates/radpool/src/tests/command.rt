@@ -3,27 +3,20 @@
 use crate::command::Fault;
 use crate::tests::fake::Fake;
 use rad_replay::RunFault;
-use std::alloc::{AllocError, Global};
+use std::alloc::Global;
 use std::process::Abort;
-use std::test::Fail;
 
 /// Options of `make`, and the request.
 type Made = (&'static str, &'static str);
 
-fn is_made(rt: &impl Abort, alloc: Global, options: &str, request: &str) -> Result<(), AllocError> {
-    let line = ["radpool make --secret xyzzy5461 ", options].concat(alloc)?;
+fn is_made(rt: &impl Abort, alloc: Global, options: &str, request: &str) {
+    let line = ["radpool make --secret xyzzy5461 ", options].concat(alloc);
+    let line = line.expect(rt, options);
     Fake::new(alloc, line.as_bytes()).ends(rt, 0, request, "");
-    Ok(())
 }
 
-fn are_made(rt: &impl Abort, alloc: Global, rows: &[Made]) -> Result<(), AllocError> {
-    for (options, request) in rows {
-        is_made(rt, alloc, options, request)?;
-    }
-    Ok(())
-}
-
-const ACCOUNTING_REQUESTS: [Made; 9] = [
+const REQUESTS: [Made; 36] = [
+    // Accounting-Requests.
     (
         "--kind account --id 7",
         "0407001abf750299ba7111cf8a9def2b872d436c280600000001\n",
@@ -60,15 +53,7 @@ const ACCOUNTING_REQUESTS: [Made; 9] = [
         "--kind account --id 7 --chap 7 --password arctangent",
         "0407001abf750299ba7111cf8a9def2b872d436c280600000001\n",
     ),
-];
-
-#[test]
-fn accounting_requests(rt: HostRuntime) -> Result<(), Fail> {
-    are_made(&rt, rt.alloc(), &ACCOUNTING_REQUESTS)?;
-    Ok(())
-}
-
-const STATUS_SERVERS: [Made; 5] = [
+    // Status-Servers.
     (
         "--kind status",
         "0c0000260000000000000000000000000000000050121b46ac6e2d069e881c85e22b935d4655\n",
@@ -89,15 +74,7 @@ const STATUS_SERVERS: [Made; 5] = [
         "--kind status --chap 7 --password arctangent",
         "0c0000260000000000000000000000000000000050121b46ac6e2d069e881c85e22b935d4655\n",
     ),
-];
-
-#[test]
-fn status_servers(rt: HostRuntime) -> Result<(), Fail> {
-    are_made(&rt, rt.alloc(), &STATUS_SERVERS)?;
-    Ok(())
-}
-
-const ACCESS_REQUESTS: [Made; 7] = [
+    // Access-Requests.
     (
         "--kind access --status 4294967295",
         "0100001400000000000000000000000000000000\n",
@@ -127,15 +104,7 @@ const ACCESS_REQUESTS: [Made; 7] = [
         "--kind access --extra 2102",
         "01000016000000000000000000000000000000002102\n",
     ),
-];
-
-#[test]
-fn access_requests(rt: HostRuntime) -> Result<(), Fail> {
-    are_made(&rt, rt.alloc(), &ACCESS_REQUESTS)?;
-    Ok(())
-}
-
-const HIDDEN_PASSWORDS: [Made; 8] = [
+    // Hidden passwords.
     // RFC 2865, section 7.1.
     (
         "--kind access --random 0f403f9473978057bd83d5cb98f4227a --user nemo --password arctangent --extra 0406c0a80110050600000003",
@@ -170,15 +139,7 @@ const HIDDEN_PASSWORDS: [Made; 8] = [
         "--kind access --random 0f403f9473978057bd83d5cb98f4227a --password=-x",
         "010000260f403f9473978057bd83d5cb98f4227a021241b413f9f2ba74ab5fe2e43f782a0aee\n",
     ),
-];
-
-#[test]
-fn hidden_passwords(rt: HostRuntime) -> Result<(), Fail> {
-    are_made(&rt, rt.alloc(), &HIDDEN_PASSWORDS)?;
-    Ok(())
-}
-
-const CHAP_PASSWORDS: [Made; 7] = [
+    // CHAP-Passwords.
     // RFC 2865, section 7.2. It doesn't tell the password, but its response is the one that this password gives.
     (
         "--kind access --id 1 --random 2aee86f08d0d55969ca5978e0d3367a2 --user flopsy --chap 22 --password arctangent --extra 0406c0a80110050600000014060600000002070600000001",
@@ -212,9 +173,10 @@ const CHAP_PASSWORDS: [Made; 7] = [
 ];
 
 #[test]
-fn chap_passwords(rt: HostRuntime) -> Result<(), Fail> {
-    are_made(&rt, rt.alloc(), &CHAP_PASSWORDS)?;
-    Ok(())
+fn requests(rt: HostRuntime) {
+    for (options, request) in REQUESTS.iter() {
+        is_made(&rt, rt.alloc(), options, request);
+    }
 }
 
 const MAKE_HELP: &str = "\
@@ -364,23 +326,19 @@ const UNFIT: [(&str, &str, &str); 20] = [
     ("access --extra 210521", "", BAD_ATTRIBUTES),
 ];
 
-fn is_unfit(
-    rt: &impl Abort,
-    alloc: Global,
-    (options, value, text): (&str, &str, &str),
-) -> Result<(), AllocError> {
-    let line = ["radpool make --secret x --kind ", options].concat(alloc)?;
-    let text = ["error: invalid value ", value, "for ", text].concat(alloc)?;
+fn is_unfit(rt: &impl Abort, alloc: Global, options: &str, value: &str, text: &str) {
+    let line = ["radpool make --secret x --kind ", options].concat(alloc);
+    let line = line.expect(rt, options);
+    let text = ["error: invalid value ", value, "for ", text].concat(alloc);
+    let text = text.expect(rt, options);
     Fake::new(alloc, line.as_bytes()).ends(rt, 2, "", &text);
-    Ok(())
 }
 
 #[test]
-fn unfit_values(rt: HostRuntime) -> Result<(), Fail> {
-    for row in UNFIT.iter() {
-        is_unfit(&rt, rt.alloc(), *row)?;
+fn unfit_values(rt: HostRuntime) {
+    for (options, value, text) in UNFIT.iter() {
+        is_unfit(&rt, rt.alloc(), options, value, text);
     }
-    Ok(())
 }
 
 /// Inputs of a replay, the output, the text on standard error, and the status.
@@ -448,21 +406,15 @@ const FAULTY: [(&[u8], &str); 11] = [
     (b"# \xff\n---", "1 Syntax\n"),
 ];
 
-fn is_faulty(
-    rt: &impl Abort,
-    alloc: Global,
-    input: &'static [u8],
-    fault: &str,
-) -> Result<(), AllocError> {
-    let text = ["radpool: config fault ", fault].concat(alloc)?;
+fn is_faulty(rt: &impl Abort, alloc: Global, input: &'static [u8], fault: &str) {
+    let text = ["radpool: config fault ", fault].concat(alloc);
+    let text = text.expect(rt, fault);
     Fake::replay(alloc, input).ends(rt, 1, "", &text);
-    Ok(())
 }
 
 #[test]
-fn faulty_configurations(rt: HostRuntime) -> Result<(), Fail> {
+fn faulty_configurations(rt: HostRuntime) {
     for (input, fault) in FAULTY.iter() {
-        is_faulty(&rt, rt.alloc(), input, fault)?;
+        is_faulty(&rt, rt.alloc(), input, fault);
     }
-    Ok(())
 }

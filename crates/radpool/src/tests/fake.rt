@@ -150,22 +150,16 @@ impl<'a> Fake<'a> {
     /// Asserts that the status is right, the whole output, and how the error's text begins.
     fn has_said(self, rt: &impl Abort, is_status: bool, out: &str, err: &str) {
         let line = std::str::from_utf8(self.line).unwrap_or("a line that is not UTF-8");
-        holds(rt, is_status, "status", line);
-        is_output(rt, self.out.into_inner().as_str(), out, line);
-        is_error(rt, self.err.into_inner().as_str(), err, line);
+        let (said, said_of_error) = (self.out.into_inner(), self.err.into_inner());
+        // It is empty where nothing is to be said.
+        let is_error = said_of_error.starts_with(err) && said_of_error.is_empty() == err.is_empty();
+        is_said(rt, is_status, "status", line, "wrong");
+        is_said(rt, said.as_str() == out, "output", line, said.as_str());
+        is_said(rt, is_error, "error", line, said_of_error.as_str());
     }
 }
 
-fn holds(rt: &impl Abort, is_so: bool, what: &str, line: &str) {
-    assert!(rt; is_so, "the {what} of {line}");
-}
-
-fn is_output(rt: &impl Abort, said: &str, want: &str, line: &str) {
-    assert_eq!(rt; said, want, "the output of {line}");
-}
-
-/// The error's text begins so; it is empty where nothing is to be said.
-fn is_error(rt: &impl Abort, said: &str, want: &str, line: &str) {
-    let is_so = said.starts_with(want) && said.is_empty() == want.is_empty();
-    assert!(rt; is_so, "the error of {line}: {said}");
+/// Asserts that what a line says is right, or ends with what it was.
+fn is_said(rt: &impl Abort, is_right: bool, what: &str, line: &str, said: &str) {
+    assert!(rt; is_right, "the {what} of {line}: {said}");
 }
