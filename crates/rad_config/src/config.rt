@@ -84,7 +84,7 @@ impl Config {
         })
     }
 
-    /// How long a repeated request gets the stored reply, in seconds: 1 to 3,600. An ended session keeps its address until this
+    /// How long a repeated request gets the kept reply, in seconds: 1 to 3,600. An ended session keeps its address until this
     /// long after it was made.
     pub fn window(&self) -> u32
         ensures value { result ≡ self.now.window }

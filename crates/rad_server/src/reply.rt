@@ -55,7 +55,7 @@ pub(crate) fn access_reject(
     Ok(body)
 }
 
-/// The Accounting-ChapPassword.
+/// The Accounting-Response.
 #[tactic(auto, using(crate::proofs::ReplyLemmas::accounting_is_reply))]
 pub(crate) fn accounting_response(alloc: Global, packet: &Packet) -> Result<Body, AllocError>
     requires { proxy_states_size packet.now ≤ proxy_states_max }
