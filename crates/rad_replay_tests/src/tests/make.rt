@@ -148,8 +148,8 @@ fn with_password<R: Abort + AllocGlobal>(
 /// `extra`.
 #[test]
 fn long_passwords(rt: HostRuntime) -> Result<(), Fail> {
-    for (make, len, want) in PASSWORDS {
-        with_password(&rt, make, len, want)?;
+    for (make, len, want) in PASSWORDS.iter() {
+        with_password(&rt, *make, *len, want)?;
     }
     Ok(())
 }

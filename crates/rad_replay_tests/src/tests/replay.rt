@@ -331,15 +331,9 @@ fn printed(rt: &impl AllocGlobal, ended: Result<(), RunFault>) -> Result<String,
 }
 
 /// Asserts how a replay ended: with this printed fault, or with none.
-pub fn ends<R: Abort + AllocGlobal>(
-    rt: &R,
-    ended: Result<(), RunFault>,
-    fault: &str,
-    what: &str,
-) -> Result<(), AllocError> {
-    let text = printed(rt, ended)?;
+pub fn ends<R: Abort + AllocGlobal>(rt: &R, ended: Result<(), RunFault>, fault: &str, what: &str) {
+    let text = printed(rt, ended).expect(rt, what);
     is_text(rt, text.as_str(), fault, what);
-    Ok(())
 }
 
 /// Asserts what a replay of octets writes, and the printed fault that it ends with.
@@ -349,11 +343,11 @@ fn replays_octets<R: Abort + AllocGlobal>(
     output: &[u8],
     fault: &str,
     what: &str,
-) -> Result<(), AllocError> {
+) {
     let mut written = Vec::new(rt.alloc());
     let ended = run_replay(rt.alloc(), &mut input, &mut written);
     are_octets(rt, written.as_slice(), output, what);
-    ends(rt, ended, fault, what)
+    ends(rt, ended, fault, what);
 }
 
 /// The same of an input and an output in parts.
@@ -363,23 +357,22 @@ fn replays<R: Abort + AllocGlobal>(
     output: &[&str],
     fault: &str,
     what: &str,
-) -> Result<(), AllocError> {
-    let input = concat(rt, input)?;
-    let output = concat(rt, output)?;
-    replays_octets(rt, input.as_bytes(), output.as_bytes(), fault, what)
+) {
+    let input = concat(rt, input).expect(rt, what);
+    let output = concat(rt, output).expect(rt, what);
+    replays_octets(rt, input.as_bytes(), output.as_bytes(), fault, what);
 }
 
 #[test]
-fn scenarios(rt: HostRuntime) -> Result<(), Fail> {
-    for it in SCENARIOS {
-        replays(&rt, it.input, it.output, it.fault, it.name)?;
+fn scenarios(rt: HostRuntime) {
+    for it in SCENARIOS.iter() {
+        replays(&rt, it.input, it.output, it.fault, it.name);
     }
-    Ok(())
 }
 
 #[test]
-fn printed_faults(rt: HostRuntime) -> Result<(), Fail> {
-    for (fault, text) in [
+fn printed_faults(rt: HostRuntime) {
+    let faults = [
         (RunFault::Read, "read failed"),
         (RunFault::TooLong, "input too long"),
         (RunFault::NoDivider, "no divider"),
@@ -390,10 +383,10 @@ fn printed_faults(rt: HostRuntime) -> Result<(), Fail> {
         (RunFault::BadLine(7), "datagram 7 is malformed"),
         (RunFault::Write, "write failed"),
         (RunFault::NoMemory, "out of memory"),
-    ] {
-        ends(&rt, Err(fault), text, text)?;
+    ];
+    for (fault, text) in faults.iter() {
+        ends(&rt, Err(*fault), text, text);
     }
-    Ok(())
 }
 
 /// Fourteen Proxy-States of 255 octets, in hexadecimal.
@@ -423,7 +416,7 @@ fn the_most_proxy_states(rt: HostRuntime) -> Result<(), Fail> {
         "210e626262626262626262626262\n",
         "2 drop 11 ProxyStateTooLong\n",
     ];
-    replays(&rt, &input, &output, "", "3,584 octets of Proxy-State")?;
+    replays(&rt, &input, &output, "", "3,584 octets of Proxy-State");
     Ok(())
 }
 
@@ -454,7 +447,7 @@ fn replies_to_the_longest_request(rt: HostRuntime) -> Result<(), Fail> {
     is_number(&rt, request.len(), 2 * 4096, "the digits of the request");
     let input = [GATEWAY, "7 acct 192.168.1.16:1813 ", request.as_str(), "\n"];
     let output = "1 reply 05090014275f977e196fa30d9e7b0c0a6a1933c5\n";
-    replays(&rt, &input, &[output], "", "a request of 4,096 octets")?;
+    replays(&rt, &input, &[output], "", "a request of 4,096 octets");
     Ok(())
 }
 
@@ -477,7 +470,7 @@ fn replays_long<R: Abort + AllocGlobal>(
 ) -> Result<(), Fail> {
     let input = commented(rt, len)?;
     let output = concat(rt, output)?;
-    replays_octets(rt, input.as_slice(), output.as_bytes(), fault, what)?;
+    replays_octets(rt, input.as_slice(), output.as_bytes(), fault, what);
     Ok(())
 }
 

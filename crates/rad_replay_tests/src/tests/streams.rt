@@ -3,11 +3,9 @@
 use crate::tests::replay::{GATEWAY, SECOND, SECOND_REPLY, START, START_REPLY, ends};
 use crate::tests::{are_octets, concat, holds, is_number};
 use rad_replay::run_replay;
-use std::alloc::AllocError;
 use std::io;
 use std::io::{Read, Write};
 use std::process::Abort;
-use std::test::Fail;
 
 /// Two requests.
 const PAIR: [&str; 5] = [GATEWAY, START, "\n", SECOND, "\n"];
@@ -95,25 +93,24 @@ const HALTS: [Halt; 4] = [
     },
 ];
 
-fn replays<R: Abort + AllocGlobal>(rt: &R, halt: Halt) -> Result<(), AllocError> {
+fn replays<R: Abort + AllocGlobal>(rt: &R, halt: Halt) {
     let Halt { name, step, .. } = halt;
-    let input = concat(rt, &PAIR)?;
-    let output = concat(rt, halt.output)?;
+    let input = concat(rt, &PAIR).expect(rt, name);
+    let output = concat(rt, halt.output).expect(rt, name);
     let (inner, calls) = (input.as_bytes(), halt.reads);
     let mut reader = Halting { inner, step, calls };
     let (inner, calls) = (Vec::new(rt.alloc()), halt.writes);
     let mut writer = Halting { inner, step, calls };
     let ended = run_replay(rt.alloc(), &mut reader, &mut writer);
     are_octets(rt, writer.inner.as_slice(), output.as_bytes(), name);
-    ends(rt, ended, halt.fault, name)
+    ends(rt, ended, halt.fault, name);
 }
 
 #[test]
-fn few_octets_and_faults(rt: HostRuntime) -> Result<(), Fail> {
-    for halt in HALTS {
-        replays(&rt, halt)?;
+fn few_octets_and_faults(rt: HostRuntime) {
+    for halt in HALTS.iter() {
+        replays(&rt, *halt);
     }
-    Ok(())
 }
 
 /// Gives at most `step` octets a call. The call after so many fails, and those after it give octets again.
@@ -139,13 +136,8 @@ impl<'a> Read for Stumbling<'a> {
 }
 
 /// Asserts that a replay ends at the fault after so many calls, when so many octets were given.
-fn ends_at_fault<R: Abort + AllocGlobal>(
-    rt: &R,
-    step: usize,
-    calls: usize,
-    given: usize,
-) -> Result<(), AllocError> {
-    let input = concat(rt, &PAIR)?;
+fn ends_at_fault<R: Abort + AllocGlobal>(rt: &R, step: usize, calls: usize, given: usize) {
+    let input = concat(rt, &PAIR).expect(rt, "a transcript");
     let mut reader = Stumbling {
         rest: input.as_bytes(),
         step,
@@ -163,16 +155,15 @@ fn ends_at_fault<R: Abort + AllocGlobal>(
         input.len(),
         "octets that were given",
     );
-    ends(rt, ended, "read failed", "after a fault")
+    ends(rt, ended, "read failed", "after a fault");
 }
 
 /// Nothing is read after the first fault.
 #[test]
-fn a_reader_that_goes_on_after_a_fault(rt: HostRuntime) -> Result<(), Fail> {
-    for (step, calls, given) in [(100, 0, 0), (1, 1, 1), (100, 2, 200), (7, 9, 63)] {
-        ends_at_fault(&rt, step, calls, given)?;
+fn a_reader_that_goes_on_after_a_fault(rt: HostRuntime) {
+    for (step, calls, given) in [(100, 0, 0), (1, 1, 1), (100, 2, 200), (7, 9, 63)].iter() {
+        ends_at_fault(&rt, *step, *calls, *given);
     }
-    Ok(())
 }
 
 /// Gives so many octets, a line feed each.
@@ -193,7 +184,7 @@ impl Read for LineFeeds {
 }
 
 #[test]
-fn reads_one_octet_past_the_most(rt: HostRuntime) -> Result<(), Fail> {
+fn reads_one_octet_past_the_most(rt: HostRuntime) {
     let mut reader = LineFeeds {
         left: 20_000_000,
         given: 0,
@@ -206,6 +197,5 @@ fn reads_one_octet_past_the_most(rt: HostRuntime) -> Result<(), Fail> {
         reader.given <= 16_777_217,
         "at most one octet more was read",
     );
-    ends(&rt, ended, "input too long", "20,000,000 octets")?;
-    Ok(())
+    ends(&rt, ended, "input too long", "20,000,000 octets");
 }

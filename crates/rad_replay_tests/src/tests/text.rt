@@ -16,7 +16,7 @@ fn is_read(rt: &impl Abort, line: &[u8], want: Option<DatagramLine>) {
 
 #[test]
 fn reads_datagram_lines(rt: HostRuntime) {
-    for (line, moment, source, port, door, len) in [
+    let lines = [
         (
             b"0 acct 192.168.1.17:1813 -".as_slice(),
             0,
@@ -41,13 +41,14 @@ fn reads_datagram_lines(rt: HostRuntime) {
             Door::Auth,
             1,
         ),
-    ] {
+    ];
+    for (line, moment, source, port, door, len) in lines.iter() {
         let found = DatagramLine {
-            moment,
-            source,
-            port,
-            door,
-            len,
+            moment: *moment,
+            source: *source,
+            port: *port,
+            door: *door,
+            len: *len,
         };
         is_read(&rt, line, Some(found));
     }
@@ -63,7 +64,7 @@ fn decodes_octets(rt: HostRuntime) {
 
 #[test]
 fn refuses_other_lines(rt: HostRuntime) {
-    for line in [
+    let lines = [
         b"".as_slice(),
         b"4611686018427387905 auth 1.2.3.4:5 00",
         b"00000000000000000042 auth 1.2.3.4:5 00",
@@ -89,7 +90,8 @@ fn refuses_other_lines(rt: HostRuntime) {
         b"1  auth 1.2.3.4:5 00",
         b"1 auth 1.2.3.4:5  00",
         b"1 auth 1.2.3.4:5 00 ",
-    ] {
+    ];
+    for line in lines.iter() {
         is_read(&rt, line, None);
     }
 }
@@ -126,7 +128,7 @@ fn is_divided(rt: &impl Abort, text: &[u8], want: Option<(&[u8], &[u8])>) {
 
 #[test]
 fn divides_texts(rt: HostRuntime) {
-    for (text, before, after) in [
+    let texts = [
         (
             b"a\r\nb\n---\r\nc\n---\n".as_slice(),
             b"a\r\nb\n".as_slice(),
@@ -139,21 +141,23 @@ fn divides_texts(rt: HostRuntime) {
             b"---\r\r\n----\n--\n\n",
             b"x",
         ),
-    ] {
+    ];
+    for (text, before, after) in texts.iter() {
         is_divided(&rt, text, Some((before, after)));
     }
 }
 
 #[test]
 fn finds_no_divider(rt: HostRuntime) {
-    for text in [
+    let texts = [
         b"".as_slice(),
         b"\n",
         b"a",
         b"---\r\r",
         b" ---\n",
         b"--- \n",
-    ] {
+    ];
+    for text in texts.iter() {
         is_divided(&rt, text, None);
     }
 }
