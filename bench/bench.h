@@ -8,9 +8,18 @@ static inline void end(const char *why) {
     exit(1);
 }
 
+static inline double nanoseconds(clockid_t clock) {
+    struct timespec t;
+    clock_gettime(clock, &t);
+    return (double)t.tv_sec * 1e9 + (double)t.tv_nsec;
+}
+
 // Nanoseconds since some moment.
 static inline double now(void) {
-    struct timespec t;
-    clock_gettime(CLOCK_MONOTONIC, &t);
-    return (double)t.tv_sec * 1e9 + (double)t.tv_nsec;
+    return nanoseconds(CLOCK_MONOTONIC);
+}
+
+// Nanoseconds for which the program had a processor.
+static inline double processor_time(void) {
+    return nanoseconds(CLOCK_PROCESS_CPUTIME_ID);
 }

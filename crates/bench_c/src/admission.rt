@@ -10,7 +10,7 @@
 //! then its digest. Nothing else of admission is done.
 ghost use Rattle.std.specs.Prelude.{◌<◌};
 
-mod bodies;
+pub(crate) mod bodies;
 mod lot;
 
 use crate::admission::bodies::Kind;

@@ -6,3 +6,4 @@ mod config;
 mod digests;
 mod passwords;
 mod plain;
+mod step;

@@ -20,13 +20,13 @@ const SESSION_TIMEOUT: u8 = 27;
 
 const CALLING_STATION_ID: u8 = 31;
 
-const ACCT_DELAY_TIME: u8 = 41;
+pub(crate) const ACCT_DELAY_TIME: u8 = 41;
 
 const ACCT_INPUT_OCTETS: u8 = 42;
 
 const ACCT_OUTPUT_OCTETS: u8 = 43;
 
-const ACCT_SESSION_ID: u8 = 44;
+pub(crate) const ACCT_SESSION_ID: u8 = 44;
 
 const ACCT_SESSION_TIME: u8 = 46;
 
@@ -34,12 +34,12 @@ const ACCT_INPUT_PACKETS: u8 = 47;
 
 const ACCT_OUTPUT_PACKETS: u8 = 48;
 
-const EVENT_TIMESTAMP: u8 = 55;
+pub(crate) const EVENT_TIMESTAMP: u8 = 55;
 
 const NAS_PORT_TYPE: u8 = 61;
 
-// What all Access-Requests say.
-const ACCESS: [(u8, &[u8]); 4] = [
+/// What all Access-Requests say.
+pub(crate) const ACCESS: [(u8, &[u8]); 4] = [
     (attribute::MESSAGE_AUTHENTICATOR, &[0; 16]),
     (attribute::NAS_IP_ADDRESS, b"\xc0\xa8\x01\x10"),
     (NAS_PORT_TYPE, b"\0\0\0\x0f"),
@@ -104,8 +104,8 @@ pub(crate) fn request(alloc: Global, kind: Kind, place: u8) -> Result<Body, Allo
     }
 }
 
-// The body with more attributes, after the others.
-fn with(body: Body, attributes: &[(u8, &[u8])]) -> Result<Body, AllocError>
+/// The body with more attributes, after the others.
+pub(crate) fn with(body: Body, attributes: &[(u8, &[u8])]) -> Result<Body, AllocError>
     requires { All (λ attribute. length attribute.1.now ≤ 253) attributes.now }
     ensures { IfOk result (λ more. more.code ≡ body.code) }
 {

@@ -1,0 +1,114 @@
+//! Steps of the server: `bench/step.c`.
+//!
+//! The export opens a server, grants it sessions, and takes steps with one admitted request on copies of it. All moments are
+//! 0, so that no session expires. It returns how many replies had the wanted Code; 0 without memory.
+ghost use Rattle.std.specs.Prelude.{◌≡◌, IfSome};
+ghost use Rattle.rad_auth.specs.Admission.{IsAdmitted};
+
+mod requests;
+
+use crate::step::requests::{AUTHENTICATOR, CLIENT, Kind, request};
+use rad_auth::{Arrival, Clients, Request, check8, sign_request};
+use rad_config::Config;
+use rad_packet::Frame;
+use rad_server::{Answer, Server};
+use std::alloc::Global;
+
+// One client, and a user who may have as many sessions as there may be.
+const CONFIGURATION: &str = "[[client]]\naddress = \"192.168.1.16\"\nsecret = \"xyzzy5461\"\n\
+    [[user]]\nname = \"many\"\npassword = \"a good password\"\nsessions = 4096\n\
+    service = 2\nprotocol = 1\ntimeout = 3600\n";
+
+// Takes steps on copies of a server that has so many sessions.
+fn step_on_copies(
+    alloc: Global,
+    kind: Kind,
+    sessions: u32,
+    copies: u32,
+    steps: u32,
+) -> Option<usize> {
+    let config = Config::read(alloc, CONFIGURATION).ok()?;
+    let server = server_with(alloc, &config, sessions)?;
+    let datagram = datagram(alloc, config.clients(), kind, sessions)?;
+    let request = admit(config.clients(), kind, datagram.octets())?;
+    let mut replies: usize = 0;
+    for _ in 0..copies {
+        let mut copy = server.copy().ok()?;
+        replies = replies.wrapping_add(take_steps(&mut copy, &request, kind, steps)?);
+    }
+    Some(replies)
+}
+
+// A server that has so many sessions, all Pending.
+fn server_with<'c>(alloc: Global, config: &'c Config, sessions: u32) -> Option<Server<'c>>
+    ensures { IfSome result (λ server. server.configuration ≡ config.now) }
+{
+    let mut server = Server::open(alloc, config).ok()?;
+    let datagram = datagram(alloc, config.clients(), Kind::Accept, 0)?;
+    let request = admit(config.clients(), Kind::Accept, datagram.octets())?;
+    let granted = take_steps(&mut server, &request, Kind::Accept, sessions)?;
+    if granted < sessions as usize {
+        return None;
+    }
+    Some(server)
+}
+
+// Takes steps with one request, and returns how many replies were as wanted.
+fn take_steps(server: &mut Server, request: &Request, kind: Kind, steps: u32) -> Option<usize>
+    requires { IsAdmitted server.old.configuration.clients request.now }
+    ensures { server.new.configuration ≡ server.old.configuration }
+{
+    let mut replies: usize = 0;
+    'steps: for _ in 0..steps {
+        let answer = server.step(request, 0, &[0; 16]).ok()?;
+        if is_wanted(&answer, kind) {
+            replies = replies.wrapping_add(1);
+        }
+    }
+    Some(replies)
+}
+
+fn is_wanted(answer: &Answer, kind: Kind) -> bool {
+    match answer {
+        Answer::Send(body) => body.code() == kind.reply_code(),
+        Answer::Busy => false,
+    }
+}
+
+// The request of a kind, signed.
+fn datagram(alloc: Global, clients: &Clients, kind: Kind, sessions: u32) -> Option<Frame> {
+    let secret = clients.secret(clients.find(CLIENT)?);
+    let body = request(alloc, kind, secret, sessions).ok()?;
+    let mut frame = Frame::new(alloc).ok()?;
+    sign_request(&body, 0, &AUTHENTICATOR, secret, &mut frame).ok()?;
+    Some(frame)
+}
+
+fn admit<'a>(clients: &Clients, kind: Kind, octets: &'a [u8]) -> Option<Request<'a>>
+    ensures { IfSome result (IsAdmitted clients.now) }
+{
+    let arrival = Arrival {
+        source: CLIENT,
+        port: 1024,
+        door: kind.door(),
+        octets,
+    };
+    let arrivals = [Some(arrival), None, None, None, None, None, None, None];
+    let mut verdicts = check8(clients, &arrivals).into_iter();
+    match verdicts.next() {
+        Some(Some(Ok(request))) => Some(request),
+        _ => None,
+    }
+}
+
+/// So many steps on each of so many copies of a server with so many sessions.
+#[unsafe(no_mangle)]
+pub extern "C" fn radpool_step(
+    alloc: Global,
+    kind: u32,
+    sessions: u32,
+    copies: u32,
+    steps: u32,
+) -> usize {
+    step_on_copies(alloc, Kind::of(kind), sessions, copies, steps).unwrap_or(0)
+}
