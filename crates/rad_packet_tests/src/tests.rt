@@ -179,7 +179,7 @@ fn is_read_as(
 }
 
 #[test]
-fn tells_the_first_fault(rt: HostRuntime) -> Result<(), Fail> {
+fn reports_the_first_fault(rt: HostRuntime) -> Result<(), Fail> {
     for row in DATAGRAMS.iter() {
         is_read_as(&rt, rt.alloc(), *row)?;
     }

@@ -61,14 +61,14 @@ count_by-map-le {X} p f xs falls =
 found_in_range : (fits : ℕ → Bool) (first n found : ℕ) → find fits (range_with_len first n) ≡ Some found
     → (fits found ≡ true) × (first ≤ found) × (found < first + n)
 found_in_range fits first n found is =
-    let row : List ℕ = range_with_len first n in
-    let place : ℕ = position_or_len fits row in
-    let there : slice_get row place ≡ Some found = sym (find_at fits row) ∙ is in
-    let within : place < length row = slice_get_within row place found there in
-    let read : get_or row place 0 ≡ found = get_or_from_slice_get row place found 0 there in
+    let range : List ℕ = range_with_len first n in
+    let place : ℕ = position_or_len fits range in
+    let there : slice_get range place ≡ Some found = sym (find_at fits range) ∙ is in
+    let within : place < length range = slice_get_within range place found there in
+    let read : get_or range place 0 ≡ found = get_or_from_slice_get range place found 0 there in
     let below : place < n = omega (arith, within, length-range_with_len first n) in
-    let number : get_or row place 0 ≡ first + place = get_or-range_with_len first n place 0 below in
-    (ap fits (sym read) ∙ passes_at_first fits row 0 within, omega (arith, read, number), omega (arith, read, number, below))
+    let number : get_or range place 0 ≡ first + place = get_or-range_with_len first n place 0 below in
+    (ap fits (sym read) ∙ passes_at_first fits range 0 within, omega (arith, read, number), omega (arith, read, number, below))
 
 -- ---- ladders
 
@@ -152,7 +152,7 @@ address_is_free sessions (Some pool) address is = by_search (least_free sessions
         let free : is_held sessions given ≡ false = not-true (is_held sessions given) found.0 in
         subst (λ o. IfSome o (λ a. IsInPool (Some pool) a × (is_held sessions a ≡ false))) same ((low, omega arith), free)
 
--- what a grant tells of the table
+-- what a grant says of the table
 record AllowsGrant (configuration : Configuration) (user : ℕ) (table : Table) (grant : Grant) : Type 0 where
   below : open_sessions user table.sessions < session_limit configuration user
   address : address_from table.sessions (pool_of configuration user) ≡ Ok grant.address
@@ -160,10 +160,10 @@ record AllowsGrant (configuration : Configuration) (user : ℕ) (table : Table) 
   last : table.next ≤ last_number
   number : grant.number ≡ table.next
 
-granted_tells : (configuration : Configuration) (user : ℕ) (table : Table) (grant : Grant) → granted configuration user table ≡ Ok grant
+granted_says : (configuration : Configuration) (user : ℕ) (table : Table) (grant : Grant) → granted configuration user table ≡ Ok grant
     → AllowsGrant configuration user table grant
 unfolding granted
-granted_tells configuration user table grant is =
+granted_says configuration user table grant is =
     let at_limit : Bool = nat_le (session_limit configuration user) (open_sessions user table.sessions) in
     let many : Bool = nat_le sessions_max (length table.sessions) in
     let none_left : Bool = not (nat_le table.next last_number) in
@@ -196,11 +196,11 @@ new_is_lawful : (configuration : Configuration) (client user now : ℕ) (grant :
       phase = Pending;
       made = now;
     })
-new_is_lawful configuration client user now grant table known_client known_user told counted = record {
+new_is_lawful configuration client user now grant table known_client known_user facts counted = record {
   number = (omega arith, omega arith);
   client = known_client;
   user = known_user;
-  address = IfSome_then grant.address (address_is_free table.sessions (pool_of configuration user) grant.address told.address) (λ given free. free.0);
+  address = IfSome_then grant.address (address_is_free table.sessions (pool_of configuration user) grant.address facts.address) (λ given free. free.0);
   made = omega arith;
 }
 
@@ -257,13 +257,13 @@ pub with_session_is_lawful : (configuration : Configuration) (client user now : 
     → IsLawful configuration now table → IsLawful configuration now (with_session client user now grant table)
 with_session_is_lawful configuration client user now grant table known_client known_user is lawful =
     let sessions : List Session = table.sessions in
-    let told = granted_tells configuration user table grant is in
+    let facts = granted_says configuration user table grant is in
     let new : Session = record { number = grant.number; client = client; user = user; address = grant.address; phase = Pending; made = now } in
     let first : 1 ≤ table.next = lawful.next.0 in
     record {
-      next = (omega arith, omega (arith, told.last));
-      few = omega (arith, length_push sessions new, told.few);
-      rising = all_pairs_push IsNumberedBefore sessions new lawful.rising (λ k d within. omega (arith, (lawful.sessions k d within).number.1, told.number));
+      next = (omega arith, omega (arith, facts.last));
+      few = omega (arith, length_push sessions new, facts.few);
+      rising = all_pairs_push IsNumberedBefore sessions new lawful.rising (λ k d within. omega (arith, (lawful.sessions k d within).number.1, facts.number));
       sessions = All-push (IsLawfulSession configuration now (table.next + 1)) sessions new
           (All-weaker (IsLawfulSession configuration now table.next) (IsLawfulSession configuration now (table.next + 1)) (λ session known. record {
             number = (known.number.0, omega (arith, known.number.1));
@@ -272,10 +272,10 @@ with_session_is_lawful configuration client user now grant table known_client kn
             address = known.address;
             made = known.made;
           }) sessions lawful.sessions)
-          (new_is_lawful configuration client user now grant table known_client known_user told first);
-      limits = λ other. limits_with_session configuration user other sessions new refl told.below (lawful.limits other);
+          (new_is_lawful configuration client user now grant table known_client known_user facts first);
+      limits = λ other. limits_with_session configuration user other sessions new refl facts.below (lawful.limits other);
       addresses = addresses_with_session sessions new lawful.addresses
-          (IfSome_then grant.address (address_is_free sessions (pool_of configuration user) grant.address told.address) (λ given free. free.1));
+          (IfSome_then grant.address (address_is_free sessions (pool_of configuration user) grant.address facts.address) (λ given free. free.1));
     }
 
 -- ---- Start and Stop

@@ -21,7 +21,7 @@ const EAP: Sent = Plain(EAP_MESSAGE, b"\x02\0\0\x05\x01");
 const ANY_STATE: Sent = Plain(STATE, &[0; 24]);
 
 #[test]
-fn the_first_reason_is_told(rt: HostRuntime) -> Result<(), Fail> {
+fn the_first_reason_is_reported(rt: HostRuntime) -> Result<(), Fail> {
     let rows = [
         (
             0,

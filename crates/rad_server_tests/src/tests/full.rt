@@ -38,7 +38,7 @@ fn there_are_4096_sessions_and_no_more(rt: HostRuntime) -> Result<(), Fail> {
 }
 
 #[test]
-fn a_full_server_is_told_last(rt: HostRuntime) -> Result<(), Fail> {
+fn a_full_server_is_reported_last(rt: HostRuntime) -> Result<(), Fail> {
     let rows = [
         (0, Fill(4_095), "room for one more"),
         (0, Ask(EXAMPLE, Accept(NEMO_LAST)), "nemo"),

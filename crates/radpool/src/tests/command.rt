@@ -278,7 +278,7 @@ const BAD_DIGITS: &str = "'--extra <HEX>': an even number of hexadecimal digits 
 
 const BAD_ATTRIBUTES: &str = "'--extra <HEX>': whole attributes would fit, ";
 
-/// Options of `make` whose last value doesn't fit, that value where clap tells it, and how the text ends.
+/// Options of `make` whose last value doesn't fit, that value where clap reports it, and how the text ends.
 const UNFIT: [(&str, &str, &str); 20] = [
     (
         "account --id 256",
