@@ -5,8 +5,8 @@
 //! free address of the user's pool, `start` and `stop` change its phase, and `find` is how an Accounting-Request names one.
 //!
 //! Other crates rest on this: what each call does to the list is what `specs/Sessions.antt`, `specs/Grants.antt` and
-//! `specs/Meant.antt` say. `lawful_tables` says what always holds of the list (`specs/Lawful.antt`). How a session is found is
-//! known to `rows.rt` alone.
+//! `specs/Meant.antt` say. `lawful_tables` says what these calls keep true of a lawful table (`specs/Lawful.antt`). How a session
+//! is found is known to `rows.rt` alone.
 #![tactic(auto)]
 
 mod grant;
