@@ -1,4 +1,5 @@
--- The law of the state: what holds of it before the first request, and is kept by each step. `lawful_steps` says so.
+-- The law of the state: what holds of it before the first request, and is kept by each step for a client of the configuration.
+-- `lawful_steps` says so.
 use Rattle.std.specs.Prelude.{◌≡◌, ℕ, ◌+◌, ◌≤◌, ◌<◌, List, [], length}
 use Rattle.std.specs.Int.{IsInRange}
 use Rattle.rad_auth.specs.declared.arrival.Request.{Request}
@@ -13,7 +14,7 @@ use Rattle.rad_server.specs.Steps.{step}
 pub record IsLawful (configuration : Configuration) (state : State) : Type 0 where
   -- the clock shows a moment
   pub clock : state.clock ≤ moment_max
-  -- things are remembered for as long as the configuration says
+  -- window and hold are those of the configuration
   pub spans : state.table.spans ≡ spans_of configuration
   -- the table of sessions is lawful: no address belongs to two of them
   pub table : IsLawfulTable configuration state.clock state.table
@@ -29,7 +30,7 @@ pub record IsLawful (configuration : Configuration) (state : State) : Type 0 whe
 abbrev pub OpeningIsLawful : Type 0
 OpeningIsLawful = (configuration : Configuration) → IsLawful configuration (opening configuration)
 
--- a request of a client of the configuration, whatever it holds, whenever it comes, and with any draw
+-- a request of a client of the configuration, whatever it holds, at any moment up to the last, and with any draw
 abbrev pub StepKeepsTheLaw : Type 0
 StepKeepsTheLaw = (configuration : Configuration) (state : State) (request : Request) (moment : ℕ) (draw : List ℕ)
     → moment ≤ moment_max → request.client < length configuration.clients
