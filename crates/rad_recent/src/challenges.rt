@@ -1,0 +1,220 @@
+//! The table of challenges.
+ghost use Rattle.std.specs.Prelude.{◌≡◌, ◌≤◌, ◌↔◌, IfOk, IsErrOf, IsOk, IsTrue, OnOk, option_map, true};
+ghost use Rattle.std.specs.Iterator.{YieldsFirst, item_count};
+ghost use Rattle.rad_config.specs.Spans.{moment_max, spans_of};
+ghost use Rattle.rad_recent.specs.Challenges.{AreSame, IsIssued, answered, cut_challenges, next_number, opening, without_answered};
+
+use crate::challenge::Challenge;
+use crate::challenge_rows;
+use rad_config::Config;
+use std::alloc::{AllocError, Global};
+use std::marker::Model;
+use thiserror::Error;
+
+/// The most challenges that wait for an answer.
+pub const CHALLENGES_MAX: usize = 1_024;
+
+/// Why no challenge is made. `Full` is reported where both apply.
+#[derive(Clone, Copy, Debug, PartialEq, Eq, Error)]
+pub enum IssueFault {
+    /// `CHALLENGES_MAX` live challenges wait, or no number is left.
+    #[error("no more challenges can wait")]
+    Full = 1,
+    /// An allocation failed.
+    #[error("out of memory")]
+    NoMemory = 2,
+}
+
+/// The challenges that wait for an answer, oldest first, and the number of the next one.
+///
+/// Contracts see the list, the next number, how long a challenge lives, and whether memory is ready for one more. Moments are in
+/// milliseconds, at most `MOMENT_MAX`, and need not rise.
+#[derive(Drop)]
+pub struct Challenges {
+    rows: Vec<Challenge>,
+    // The last number that was given, or 0.
+    last: u64,
+    hold: u64,
+}
+
+impl Model for Challenges {
+    ghost use Rattle.std.specs.Prelude.{◌+◌, nat_lt, vec_len};
+    ghost use Rattle.std.specs.Vec.{vec_capacity};
+    ghost use Rattle.rad_recent.specs.Challenges.{SeenWaiting};
+
+    ghost Value = { SeenWaiting };
+
+    ghost view = { λ challenges. record {
+      table = record { challenges = challenges.rows.items; next = challenges.last + 1; hold = challenges.hold };
+      has_room = nat_lt (vec_len challenges.rows) (vec_capacity challenges.rows);
+    } };
+}
+
+impl Challenges {
+    /// No challenge waits yet. The configuration says how long challenges will wait.
+    pub fn open(alloc: Global, config: &Config) -> Result<Challenges, AllocError>
+        ensures { IfOk result (λ challenges. challenges.table ≡ opening (spans_of config.now).hold) }
+    {
+        Ok(Challenges {
+            rows: Vec::new(alloc),
+            last: 0,
+            hold: config.spans().hold,
+        })
+    }
+
+    /// The challenges, oldest first; also those that are no longer live but not removed yet.
+    pub fn rows(&self) -> ChallengeRows<'_>
+        ensures { result ≡ self.now.table.challenges }
+    {
+        ChallengeRows { rest: &self.rows }
+    }
+
+    /// Removes the challenges that are no longer live.
+    pub fn expire(&mut self, now: u64)
+        requires { now ≤ moment_max }
+        ensures cut { self.new.table ≡ cut_challenges now self.old.table }
+        // Expiring again at the same moment changes nothing.
+        ensures settled { cut_challenges now self.new.table ≡ self.new.table }
+        ensures room { self.old.has_room ≡ true → self.new.has_room ≡ true }
+    {
+        let hold = self.hold;
+        challenge_rows::keep_live(&mut self.rows, hold, now);
+    }
+
+    /// What `issue` would answer at this moment if there is memory.
+    #[tactic(auto, unfolding(crate::specs::Challenges::next_number))]
+    pub fn peek(&self, now: u64) -> Result<u64, IssueFault>
+        requires { now ≤ moment_max }
+        ensures answer { result ≡ next_number (cut_challenges now self.now.table) }
+        ensures number { IfOk result (λ number. number ≡ self.now.table.next) }
+        ensures memory { IsErrOf result IssueFault.NoMemory → ⊥ }
+    {
+        let Challenges { rows, last, hold } = self;
+        if CHALLENGES_MAX <= challenge_rows::count_live(rows, *hold, now) || *last == u64::MAX {
+            return Err(IssueFault::Full);
+        }
+        Ok(*last + 1)
+    }
+
+    /// Makes memory ready for one more challenge.
+    pub fn room(&mut self) -> Result<(), AllocError>
+        ensures unchanged { self.new.table ≡ self.old.table }
+        ensures ready { OnOk result (self.new.has_room ≡ true) }
+        ensures still { self.old.has_room ≡ true → IsOk result }
+    {
+        self.rows.reserve(1)?;
+        Ok(())
+    }
+
+    /// Removes the challenges that are no longer live, and adds one, with the next number, for the user at place `user`.
+    ///
+    /// Refusals are reported in the order of `IssueFault`. After a refusal the table is as it was. The first `issue` after `room`
+    /// doesn't answer `NoMemory`. Source: RFC 2865, section 4.4.
+    pub fn issue(
+        &mut self,
+        client: u32,
+        user: u32,
+        draw: &[u8; 16],
+        now: u64,
+    ) -> Result<u64, IssueFault>
+        requires { now ≤ moment_max }
+        ensures outcome { IsIssued client user draw.now now self.old.table result self.new.table }
+        ensures after_room { self.old.has_room ≡ true → IsErrOf result IssueFault.NoMemory → ⊥ }
+    {
+        let number = self.peek(now)?;
+        if self.room().is_err() {
+            return Err(IssueFault::NoMemory);
+        }
+        self.expire(now);
+        let challenge = Challenge {
+            number,
+            draw: *draw,
+            client,
+            user,
+            made: now,
+        };
+        if self.rows.push(challenge).is_err() {
+            return Err(IssueFault::NoMemory);
+        }
+        self.last = number;
+        Ok(number)
+    }
+
+    /// Removes the challenges that are no longer live, and the one that the client at place `client` answers with this State, which
+    /// is returned.
+    ///
+    /// Source: RFC 2865, section 5.24.
+    pub fn take(&mut self, state: &[u8], client: u32, now: u64) -> Option<Challenge>
+        requires { now ≤ moment_max }
+        ensures taken { result ≡ answered state.now client
+            (cut_challenges now self.old.table) }
+        ensures left { self.new.table ≡ without_answered state.now client
+            (cut_challenges now self.old.table) }
+        ensures settled { cut_challenges now self.new.table ≡ self.new.table }
+        ensures room { self.old.has_room ≡ true → self.new.has_room ≡ true }
+    {
+        let hold = self.hold;
+        let taken = challenge_rows::find(&self.rows, hold, now, state, client);
+        challenge_rows::keep_live(&mut self.rows, hold, now);
+        challenge_rows::remove_answered(&mut self.rows, state, client);
+        taken
+    }
+
+    /// The place of the user of the challenge that `take` would return.
+    pub fn seek(&self, state: &[u8], client: u32, now: u64) -> Option<u32>
+        requires { now ≤ moment_max }
+        ensures { result ≡ option_map (λ challenge. challenge.user)
+            (answered state.now client (cut_challenges now self.now.table)) }
+    {
+        let challenge = challenge_rows::find(&self.rows, self.hold, now, state, client)?;
+        Some(challenge.user)
+    }
+
+    /// An equal table.
+    pub fn copy(&self) -> Result<Challenges, AllocError>
+        ensures { IfOk result (λ copy. copy.table ≡ self.now.table) }
+    {
+        let rows = self.rows.clone()?;
+        Ok(Challenges {
+            rows,
+            last: self.last,
+            hold: self.hold,
+        })
+    }
+
+    /// Whether the other table has the same challenges and the same next number.
+    pub fn same(&self, other: &Challenges) -> bool
+        ensures { IsTrue result ↔ AreSame self.now.table other.now.table }
+    {
+        self.last == other.last && challenge_rows::same(&self.rows, &other.rows)
+    }
+}
+
+/// The challenges that are left, oldest first. Contracts see them as a list.
+#[derive(Drop)]
+pub struct ChallengeRows<'a> {
+    rest: &'a [Challenge],
+}
+
+impl<'a> Model for ChallengeRows<'a> {
+    ghost use Rattle.std.specs.Prelude.{List};
+    ghost use Rattle.rad_recent.specs.declared.challenge.Challenge.{Challenge};
+
+    ghost Value = { List Challenge };
+
+    ghost view = { λ rows. rows.rest.now };
+}
+
+impl<'a> Iterator for ChallengeRows<'a> {
+    type Item = Challenge;
+
+    ghost next_gives = { YieldsFirst (λ s. s) };
+
+    ghost remaining = { item_count (λ s. s) };
+
+    fn next(&mut self) -> Option<Challenge> {
+        let (first, rest) = self.rest.split_first()?;
+        self.rest = rest;
+        Some(*first)
+    }
+}
