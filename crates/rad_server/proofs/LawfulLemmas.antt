@@ -1,145 +1,503 @@
--- A step leads from a lawful state to a lawful one.
-use Rattle.std.proofs.Common.{◌≡◌, ℕ, ◌≤◌, ◌<◌, Bool, true, false, cond, List, [], length, Option, Some, None, refl, ap, sym, subst, ◌∙◌, arith}
-use Rattle.std.proofs.lemmas.List.Quantifiers.{position-Some}
+-- The state before the first request is lawful, and a step for a request that may be answered leads from a lawful state to a lawful
+-- one. The law of the table comes from rad_pool.
+use Rattle.std.proofs.Common.{◌≡◌, ℕ, ◌+◌, ◌≤◌, ◌<◌, Bool, true, false, cond, not, ◌||◌, ◌==◌, nat_le, List, [], ◌∷◌, ◌++◌, length, filter, find, All, Option, Some, None, IfSome, option_map, Result, Ok, Err, ok_or, arith, refl, ap, sym, subst, ◌∙◌}
+use Rattle.std.proofs.lemmas.Bool.{cond_both, eq-eqb, eqb-false, eqb-true, leb-false, leb-true, ltb-true, ne_eqb, not-true}
+use Rattle.std.proofs.lemmas.List.{length_push}
+use Rattle.std.proofs.lemmas.List.Elements.{All-filter, All-head, All-nil, All-push, All-tail, All-weaker, filter_passes}
+use Rattle.std.proofs.lemmas.List.Kept.{AllPairs-filter}
+use Rattle.std.proofs.lemmas.List.Quantifiers.{all_pairs_push}
+use Rattle.std.proofs.lemmas.List.Sums.{count_by-le-length, length-filter}
+use Rattle.std.proofs.lemmas.Option.{IfSome_then, slice_get-get_or}
+use Rattle.std.specs.List.{position_or_len}
 use Rattle.std.specs.Str.{bytes_eq}
-use Rattle.std.specs.Prelude.{◌==◌, IfOk, Result, Ok, Err, filter, is_some, max, ok_or, not}
+use Rattle.std.specs.Prelude.{IfOk, is_some, max, nat_lt}
+use Rattle.rad_packet.specs.Attributes.{value_max}
+use Rattle.rad_packet.specs.Bodies.{Body}
 use Rattle.rad_packet.specs.Codes.{code_status_server}
-use Rattle.rad_packet.specs.Types.{type_acct_status_type}
 use Rattle.rad_packet.specs.Ladders.{◌>>=◌, refuse_if}
+use Rattle.rad_packet.specs.Packets.{packet_octets}
+use Rattle.rad_packet.specs.Types.{type_acct_status_type}
+use Rattle.rad_auth.specs.Admission.{IsAnswerable}
+use Rattle.rad_auth.specs.Authenticators.{sixteen_zeros}
+use Rattle.rad_auth.specs.Sealing.{IsReply}
 use Rattle.rad_auth.specs.declared.arrival.Door.{Door}
 use Rattle.rad_auth.specs.declared.arrival.Door.TheVariants.{Auth, Acct}
 use Rattle.rad_auth.specs.declared.arrival.Request.{Request}
 use Rattle.rad_config.specs.Configurations.{Configuration, user_place}
-use Rattle.rad_config.specs.Spans.{moment_max}
+use Rattle.rad_config.specs.Ranges.{HasLength, IsConfiguration, IsUser}
+use Rattle.rad_config.specs.Spans.{moment_max, spans_of}
+use Rattle.rad_config.specs.declared.user.User.{User}
 use Rattle.rad_pool.specs.Grants.{granted}
-use Rattle.rad_pool.specs.Lawful.{ExpiryKeepsTheLaw, GrantKeepsTheLaw, IsLawful as IsLawfulTable, StartKeepsTheLaw, StopKeepsTheLaw}
+use Rattle.rad_pool.specs.Lawful.{ExpiryKeepsTheLaw, GrantKeepsTheLaw, IsLawful as IsLawfulTable, OpeningIsLawful as EmptyTableIsLawful, StartKeepsTheLaw, StopKeepsTheLaw}
 use Rattle.rad_pool.specs.Sessions.{Table, started, stopped}
 use Rattle.rad_pool.specs.declared.grant.Grant.{Grant}
 use Rattle.rad_pool.specs.declared.grant.Refusal.{Refusal}
-use Rattle.rad_server.specs.Access.{Challenged, Decision, Granted, access, access_with, answered_challenge, challenge_or_denial, decided, decision, decision_on_answer, decision_on_password, password_matches, session_for, session_or_denial, user_at, user_by_answer, user_by_password, without_challenge}
+use Rattle.rad_recent.specs.Challenges.{Waiting, answered, challenges_max, has_state, is_challenge_live, last_challenge, next_number, with_challenge}
+use Rattle.rad_recent.specs.Recent.{Replies, is_full, is_reply_live, kept_max, same_door, same_key}
+use Rattle.rad_recent.specs.declared.challenge.Challenge.{Challenge}
+use Rattle.rad_recent.specs.declared.challenges.IssueFault.{IssueFault}
+use Rattle.rad_recent.specs.declared.challenges.IssueFault.TheVariants.{Full}
+use Rattle.rad_recent.specs.declared.kept.Kept.{Kept}
+use Rattle.rad_recent.specs.declared.key.Key.{Key}
+use Rattle.rad_server.proofs.ReplyLemmas.{accept_is_reply, accounting_is_reply, challenge_is_reply, reject_is_reply}
+use Rattle.rad_server.specs.Access.{Challenged, Decision, Granted, access, access_with, answer_matches, answered_challenge, challenge_for, challenge_or_denial, decided, decision, decision_on_answer, decision_on_password, is_name_of, password_matches, session_for, session_or_denial, user_at, user_by_answer, user_by_password, without_challenge}
 use Rattle.rad_server.specs.Accounting.{account, changed, first_integer, reported, session_meant, status_start, status_stop}
 use Rattle.rad_server.specs.Credentials.{Credentials, credentials_in}
-use Rattle.rad_server.specs.Lawful.{IsLawful}
-use Rattle.rad_server.specs.States.{State, at_moment}
-use Rattle.rad_server.specs.Steps.{answer, reply_by_port, step}
+use Rattle.rad_server.specs.Lawful.{AreLawfulChallenges, AreLawfulReplies, HaveDifferentKeys, IsLawful, IsLawfulChallenge, IsLawfulReply, IsNumberedBefore}
+use Rattle.rad_server.specs.Replies.{accounting_response}
+use Rattle.rad_server.specs.States.{State, at_moment, opening}
+use Rattle.rad_server.specs.Steps.{answer, answer_with, key_of, reply_by_port, reply_kept, sent_and_kept, step, with_reply, without_reply}
 use Rattle.rad_server.specs.declared.answer.Answer.{Answer}
+use Rattle.rad_server.specs.declared.answer.Answer.TheVariants.{Busy}
 use Rattle.rad_server.specs.declared.denial.Denial.{Denial}
-use Rattle.rad_server.specs.declared.denial.Denial.TheVariants.{AccessDenied}
+use Rattle.rad_server.specs.declared.denial.Denial.TheVariants.{AccessDenied, StateUnknown, WrongState}
 
--- what the law of the table says
+-- what keeps the law of the table
 pub record TableLaws : Type 0 where
   pub expiry : ExpiryKeepsTheLaw
   pub grant : GrantKeepsTheLaw
   pub start : StartKeepsTheLaw
   pub stop : StopKeepsTheLaw
 
--- ---- the clock
+-- ---- lists
 
-at_moment_is_lawful : TableLaws → (configuration : Configuration) (state : State) (moment : ℕ) → moment ≤ moment_max → IsLawful configuration state → IsLawful configuration (at_moment moment state)
-at_moment_is_lawful laws configuration state moment within lawful = record {
-  clock = omega (arith, within, lawful.clock);
-  spans = lawful.spans;
-  table = laws.expiry configuration state.clock (max state.clock moment) state.table (omega arith) lawful.table;
-  kept = ap (filter _) lawful.kept;
-  challenges = ap (filter _) lawful.challenges;
-  next_challenge = lawful.next_challenge;
+-- a filter lets no more than the list has through
+length-filter-le : {X : Type 0} (p : X → Bool) (xs : List X) (most : ℕ) → length xs ≤ most → length (filter p xs) ≤ most
+length-filter-le p xs most few = omega (arith, length-filter p xs, count_by-le-length p xs, few)
+
+-- what holds of each element holds of the one that is found
+IfSome-find : {X : Type 0} (P : X → Type 0) (p : X → Bool) (xs : List X) → All P xs → IfSome (find p xs) P
+IfSome-find P p [] each = tt
+IfSome-find P p (x ∷ xs) each =
+    cond_both (p x) (Some x) (find p xs) (λ o. IfSome o P) (λ _. All-head P x xs each) (λ _. IfSome-find P p xs (All-tail P x xs each))
+
+-- what holds of each image holds of the image of the value, if there is one
+IfSome-map : {X Y : Type 0} (f : X → Y) (P : Y → Type 0) (o : Option X) → IfSome o (λ x. P (f x)) → IfSome (option_map f o) P
+IfSome-map f P None holds = tt
+IfSome-map f P (Some x) holds = holds
+
+-- ---- ladders
+
+-- what holds of the value that follows a check holds of the check's too, since a refusal has none
+IfOk-refuse_if : {A E : Type 0} (P : A → Type 0) (refused : Bool) (refusal : E) (next : Unit {0} → Result A E) → IfOk (next tt) P
+    → IfOk (refuse_if refused refusal >>= next) P
+IfOk-refuse_if P true refusal next holds = tt
+IfOk-refuse_if P false refusal next holds = holds
+
+-- what holds of the last value, where it follows from what holds of a step's
+IfOk-ok_or : {A B E : Type 0} (P : A → Type 0) (Q : B → Type 0) (o : Option A) (refusal : E) (next : A → Result B E) → IfSome o P
+    → ((x : A) → P x → IfOk (next x) Q) → IfOk (ok_or o refusal >>= next) Q
+IfOk-ok_or P Q None refusal next holds follows = tt
+IfOk-ok_or P Q (Some x) refusal next holds follows = follows x holds
+
+-- ---- keys
+
+-- the tests of numbers, ports and keys give the same answer both ways
+eqb_symmetric : (m n : ℕ) → (m == n) ≡ (n == m)
+eqb_symmetric m n = at (m == n) refl
+  where
+    at : (b : Bool) → (m == n) ≡ b → b ≡ (n == m)
+    at true is = sym (eq-eqb n m (sym (eqb-true m n is)))
+    at false is = sym (ne_eqb n m (λ same. eqb-false m n is (sym same)))
+
+same_door_symmetric : (one other : Door) → same_door one other ≡ same_door other one
+same_door_symmetric Auth Auth = refl
+same_door_symmetric Auth Acct = refl
+same_door_symmetric Acct Auth = refl
+same_door_symmetric Acct Acct = refl
+
+same_key_symmetric : (one other : Key) → same_key one other ≡ same_key other one
+same_key_symmetric one other =
+    let first = eqb_symmetric one.source other.source in
+    let last = eqb_symmetric one.id other.id in
+    rw (first, eqb_symmetric one.port other.port, same_door_symmetric one.door other.door, last) refl
+
+-- ---- kept replies
+
+-- no kept reply is to a request with this key
+abbrev HasNoReplyTo : Key → Replies → Type 0
+HasNoReplyTo key replies = All (λ reply. same_key reply.key key ≡ false) replies.kept
+
+-- lawful replies stay so while the clock goes on
+replies_later : (clock now : ℕ) (replies : Replies) → clock ≤ now → AreLawfulReplies clock replies → AreLawfulReplies now replies
+replies_later clock now replies later lawful = record {
+  few = lawful.few;
+  keys = lawful.keys;
+  each = All-weaker (IsLawfulReply clock) (IsLawfulReply now) (λ reply known. record {
+    sealable = known.sealable;
+    request = known.request;
+    made = omega (arith, known.made, later);
+  }) replies.kept lawful.each;
 }
 
--- a state in which no reply is kept, and no challenge waits for an answer
-abbrev bare : ℕ → Table → ℕ → State
-bare clock table next = record { clock = clock; table = table; kept = []; challenges = []; next_challenge = next }
+-- lawful replies stay so while some of them go
+replies_left : (clock : ℕ) (stays : Kept → Bool) (replies : Replies) → AreLawfulReplies clock replies
+    → AreLawfulReplies clock (record replies { kept = filter stays replies.kept })
+replies_left clock stays replies lawful = record {
+  few = length-filter-le stays replies.kept kept_max lawful.few;
+  keys = AllPairs-filter HaveDifferentKeys stays replies.kept lawful.keys;
+  each = All-filter stays (IsLawfulReply clock) replies.kept lawful.each;
+}
 
-lawful_is_bare : (configuration : Configuration) (state : State) → IsLawful configuration state → bare state.clock state.table state.next_challenge ≡ state
-lawful_is_bare configuration state lawful =
-    ap (λ k. record state { kept = k; challenges = [] }) (sym lawful.kept) ∙ ap (λ ch. record state { challenges = ch }) (sym lawful.challenges)
+-- lawful replies stay so with one more, to a request with a key of its own, if there is room
+replies_added : (clock : ℕ) (reply : Kept) (replies : Replies) → is_full replies ≡ false → HasNoReplyTo reply.key replies → IsLawfulReply clock reply
+    → AreLawfulReplies clock replies → AreLawfulReplies clock (record replies { kept = replies.kept ++ reply ∷ [] })
+replies_added clock reply replies room own known lawful = record {
+  few = omega (arith, leb-false kept_max (length replies.kept) room, length_push replies.kept reply);
+  keys = all_pairs_push HaveDifferentKeys replies.kept reply lawful.keys own;
+  each = All-push (IsLawfulReply clock) replies.kept reply lawful.each known;
+}
 
--- ---- access
+-- ---- challenges
 
--- a decision is no challenge, and a session that it grants is what the rule grants a user of the configuration
+-- a challenge stays lawful while the clock goes on and numbers are given
+challenge_later : (configuration : Configuration) (clock now next beyond : ℕ) → clock ≤ now → next ≤ beyond → (challenge : Challenge)
+    → IsLawfulChallenge configuration clock next challenge → IsLawfulChallenge configuration now beyond challenge
+challenge_later configuration clock now next beyond later further challenge known = record {
+  number = (known.number.0, omega (arith, known.number.1, further));
+  draw = known.draw;
+  client = known.client;
+  user = known.user;
+  answer = known.answer;
+  made = omega (arith, known.made, later);
+}
+
+-- lawful challenges stay so while the clock goes on
+challenges_later : (configuration : Configuration) (clock now : ℕ) (waiting : Waiting) → clock ≤ now
+    → AreLawfulChallenges configuration clock waiting → AreLawfulChallenges configuration now waiting
+challenges_later configuration clock now waiting later lawful = record {
+  next = lawful.next;
+  few = lawful.few;
+  rising = lawful.rising;
+  each = All-weaker (IsLawfulChallenge configuration clock waiting.next) (IsLawfulChallenge configuration now waiting.next)
+      (challenge_later configuration clock now waiting.next waiting.next later (omega arith)) waiting.challenges lawful.each;
+}
+
+-- lawful challenges stay so while some of them go
+challenges_left : (configuration : Configuration) (clock : ℕ) (stays : Challenge → Bool) (waiting : Waiting)
+    → AreLawfulChallenges configuration clock waiting
+    → AreLawfulChallenges configuration clock (record waiting { challenges = filter stays waiting.challenges })
+challenges_left configuration clock stays waiting lawful = record {
+  next = lawful.next;
+  few = length-filter-le stays waiting.challenges challenges_max lawful.few;
+  rising = AllPairs-filter IsNumberedBefore stays waiting.challenges lawful.rising;
+  each = All-filter stays (IsLawfulChallenge configuration clock waiting.next) waiting.challenges lawful.each;
+}
+
+-- one more challenge may wait, and there is a number for it
+record HasRoom (waiting : Waiting) : Type 0 where
+  few : length waiting.challenges < challenges_max
+  last : waiting.next ≤ last_challenge
+
+-- a number is given only where there is room
+next_number_says : (waiting : Waiting) (number : ℕ) → next_number waiting ≡ Ok number → HasRoom waiting
+unfolding next_number
+next_number_says waiting number is = at (nat_le challenges_max (length waiting.challenges)) (nat_le waiting.next last_challenge) refl refl is
+  where
+    at : (many fits : Bool) → nat_le challenges_max (length waiting.challenges) ≡ many → nat_le waiting.next last_challenge ≡ fits
+        → cond (many || not fits) (Err Full) (Ok waiting.next) ≡ Ok number → HasRoom waiting
+    at true fits many_is fits_is is = absurd (cc)
+    at false false many_is fits_is is = absurd (cc)
+    at false true many_is fits_is is = record {
+      few = leb-false challenges_max (length waiting.challenges) many_is;
+      last = leb-true waiting.next last_challenge fits_is;
+    }
+
+-- lawful challenges stay so with one more, for a client and a user of the configuration who has an answer, if there is room
+challenges_added : (configuration : Configuration) (client user now : ℕ) (draw : List ℕ) (waiting : Waiting) → HasRoom waiting
+    → client < length configuration.clients → user < length configuration.users → is_some (user_at configuration user).answer ≡ true
+    → length draw ≡ length sixteen_zeros → AreLawfulChallenges configuration now waiting
+    → AreLawfulChallenges configuration now (with_challenge client user draw now waiting)
+challenges_added configuration client user now draw waiting room known_client known_user answer drawn lawful =
+    let challenges : List Challenge = waiting.challenges in
+    let next : ℕ = waiting.next in
+    let new : Challenge = record { number = next; draw = draw; client = client; user = user; made = now } in
+    let first : 1 ≤ next = lawful.next.0 in
+    record {
+      next = (omega arith, omega (arith, room.last));
+      few = omega (arith, length_push challenges new, room.few);
+      rising = all_pairs_push IsNumberedBefore challenges new lawful.rising (λ k d within. (lawful.each k d within).number.1);
+      each = All-push (IsLawfulChallenge configuration now (next + 1)) challenges new
+          (All-weaker (IsLawfulChallenge configuration now next) (IsLawfulChallenge configuration now (next + 1))
+          (challenge_later configuration now now next (next + 1) (omega arith) (omega arith)) challenges lawful.each)
+          (record {
+            number = (first, omega arith);
+            draw = drawn;
+            client = known_client;
+            user = known_user;
+            answer = answer;
+            made = omega arith;
+          });
+    }
+
+-- ---- the clock
+
+-- the state before the first request is lawful
+pub opening_is_lawful : EmptyTableIsLawful → (configuration : Configuration) → IsLawful configuration (opening configuration)
+opening_is_lawful empty configuration = record {
+  clock = omega arith;
+  spans = refl;
+  window = refl;
+  hold = refl;
+  table = empty configuration 0 (spans_of configuration);
+  replies = record {
+    few = omega arith;
+    keys = λ i j d before within. absurd (omega arith);
+    each = All-nil (IsLawfulReply 0);
+  };
+  waiting = record {
+    next = (omega arith, omega arith);
+    few = omega arith;
+    rising = λ i j d before within. absurd (omega arith);
+    each = All-nil (IsLawfulChallenge configuration 0 1);
+  };
+}
+
+-- a lawful state is lawful at each later moment
+at_moment_is_lawful : TableLaws → (configuration : Configuration) (state : State) (moment : ℕ) → moment ≤ moment_max → IsLawful configuration state
+    → IsLawful configuration (at_moment moment state)
+at_moment_is_lawful laws configuration state moment within lawful =
+    let now : ℕ = max state.clock moment in
+    let later : state.clock ≤ now = omega arith in
+    record {
+      clock = omega (arith, within, lawful.clock);
+      spans = lawful.spans;
+      window = lawful.window;
+      hold = lawful.hold;
+      table = laws.expiry configuration state.clock now state.table later lawful.table;
+      replies = replies_left now (is_reply_live state.replies.window now) state.replies
+          (replies_later state.clock now state.replies later lawful.replies);
+      waiting = challenges_left configuration now (is_challenge_live state.waiting.hold now) state.waiting
+          (challenges_later configuration state.clock now state.waiting later lawful.waiting);
+    }
+
+-- ---- users
+
+-- a place of the configuration's users
+abbrev IsPlace : Configuration → ℕ → Type 0
+IsPlace configuration user = user < length configuration.users
+
+-- the user at a place is one of the configuration
+user_is_known : (configuration : Configuration) (user : ℕ) → IsConfiguration configuration → IsPlace configuration user
+    → IsUser (length configuration.pools) (user_at configuration user)
+user_is_known configuration user is within =
+    let row : User = user_at configuration user in
+    rw (slice_get-get_or configuration.users user row within) (is.users user row within)
+
+-- a text of the configuration fits an attribute
+text_fits : (text : Option (List ℕ)) → IfSome text (HasLength 1 value_max) → IfSome text (λ octets. length octets ≤ value_max)
+text_fits text has = IfSome_then text has (λ octets known. known.1)
+
+-- the user with a name, if there is one, has a place
+place_of_name : (configuration : Configuration) (name : List ℕ) → IfSome (user_place configuration.users name) (IsPlace configuration)
+place_of_name configuration name =
+    let users : List User = configuration.users in
+    let place : ℕ = position_or_len (λ (user : User). bytes_eq name user.name) users in
+    cond_both (nat_lt place (length users)) (Some place) None (λ o. IfSome o (IsPlace configuration))
+    (λ is. ltb-true place (length users) is) (λ _. tt)
+
+-- the user of a challenge that is answered has a place
+place_of_challenge : (configuration : Configuration) (clock client : ℕ) (value : Option (List ℕ)) (waiting : Waiting)
+    → AreLawfulChallenges configuration clock waiting
+    → IfSome (option_map (λ challenge. challenge.user) (answered_challenge client value waiting)) (IsPlace configuration)
+place_of_challenge configuration clock client None waiting lawful = tt
+place_of_challenge configuration clock client (Some value) waiting lawful =
+    let IsKnown : Challenge → Type 0 = IsLawfulChallenge configuration clock waiting.next in
+    let found : IfSome (answered value client waiting) IsKnown = IfSome-find IsKnown (has_state value client) waiting.challenges lawful.each in
+    IfSome-map (λ (challenge : Challenge). challenge.user) (IsPlace configuration) (answered value client waiting)
+    (IfSome_then (answered value client waiting) found (λ challenge known. known.user))
+
+-- the user whose password was sent has a place
+place_by_password : (configuration : Configuration) (request : Request) (credentials : Credentials)
+    → IfOk (user_by_password configuration request credentials) (IsPlace configuration)
+unfolding user_by_password
+place_by_password configuration request credentials =
+    let Known : ℕ → Type 0 = IsPlace configuration in
+    IfOk-ok_or Known Known (user_place configuration.users credentials.name) AccessDenied _ (place_of_name configuration credentials.name)
+    (λ user within.
+    let right : Bool = password_matches configuration request credentials.password (user_at configuration user).password in
+    IfOk-refuse_if Known (not right) AccessDenied _ within)
+
+-- the user whose answer was sent has a place, if the one whose challenge is answered has
+place_by_answer : (configuration : Configuration) (request : Request) (challenged : Option ℕ) (credentials : Credentials)
+    → IfSome challenged (IsPlace configuration) → IfOk (user_by_answer configuration request challenged credentials) (IsPlace configuration)
+unfolding user_by_answer
+place_by_answer configuration request challenged credentials known =
+    let Known : ℕ → Type 0 = IsPlace configuration in
+    IfOk-ok_or Known Known challenged StateUnknown _ known
+    (λ user within.
+    let right : Bool = answer_matches configuration request credentials.password (user_at configuration user).answer in
+    IfOk-refuse_if Known (not (is_name_of configuration user credentials.name)) WrongState _ (IfOk-refuse_if Known (not right) AccessDenied _ within))
+
+-- ---- the decision
+
+-- What a decision promises: a challenge is for a user who has one, where one more may be made; a session is what the rule grants.
 abbrev IsSound : Configuration → State → Result Decision Denial → Type 0
-IsSound configuration state (Ok (Challenged user)) = ⊥
-IsSound configuration state (Ok (Granted user grant)) = (user < length configuration.users) × (granted configuration user state.table ≡ Ok grant)
 IsSound configuration state (Err denial) = Unit {0}
+IsSound configuration state (Ok (Challenged user)) =
+    IsPlace configuration user × (is_some (user_at configuration user).challenge ≡ true) × HasRoom state.waiting
+IsSound configuration state (Ok (Granted user grant)) = IsPlace configuration user × (granted configuration user state.table ≡ Ok grant)
 
-session_is_sound : (configuration : Configuration) (state : State) (user : ℕ) → user < length configuration.users → IsSound configuration state (session_for configuration state user)
+-- a session that is granted to a user of the configuration is sound
+session_is_sound : (configuration : Configuration) (state : State) (user : ℕ) → IsPlace configuration user
+    → IsSound configuration state (session_for configuration state user)
 session_is_sound configuration state user within = at (granted configuration user state.table) refl
   where
     at : (r : Result Grant Refusal) → granted configuration user state.table ≡ r → IsSound configuration state (session_or_denial user r)
-    at (Ok grant) e = (within, e)
-    at (Err refusal) e = tt
+    at (Ok grant) is = (within, is)
+    at (Err refusal) is = tt
 
-place_within : (configuration : Configuration) (name : List ℕ) (place : ℕ) → user_place configuration.users name ≡ Some place → place < length configuration.users
-place_within configuration name place e = (position-Some (λ user. bytes_eq name user.name) configuration.users place (user_at configuration 0) e).0
-
-user_within : (configuration : Configuration) (request : Request) (credentials : Credentials) → IfOk (user_by_password configuration request credentials) (λ user. user < length configuration.users)
-unfolding user_by_password
-user_within configuration request credentials = at (user_place configuration.users credentials.name) refl
+-- a challenge for a user of the configuration who has one is sound
+challenge_is_sound : (configuration : Configuration) (state : State) (user : ℕ) → IsPlace configuration user
+    → is_some (user_at configuration user).challenge ≡ true → IsSound configuration state (challenge_for state user)
+challenge_is_sound configuration state user within has = at (next_number state.waiting) refl
   where
-    right : (place : ℕ) → place < length configuration.users → (b : Bool) → IfOk (refuse_if b AccessDenied >>= (λ right. Ok place)) (λ user. user < length configuration.users)
-    right place within true = tt
-    right place within false = within
+    at : (r : Result ℕ IssueFault) → next_number state.waiting ≡ r → IsSound configuration state (challenge_or_denial user r)
+    at (Ok number) is = (within, has, next_number_says state.waiting number is)
+    at (Err fault) is = tt
 
-    at : (o : Option ℕ) → user_place configuration.users credentials.name ≡ o
-        → IfOk (ok_or o AccessDenied >>= (λ user. refuse_if (not (password_matches configuration request credentials.password (user_at configuration user).password)) AccessDenied >>= (λ right. Ok user))) (λ user. user < length configuration.users)
-    at None e = tt
-    at (Some place) e = right place (place_within configuration credentials.name place e) (not (password_matches configuration request credentials.password (user_at configuration place).password))
+-- what is decided for a user is sound, if it is for each user of the configuration
+sound_step : (configuration : Configuration) (state : State) (user : Result ℕ Denial) (next : ℕ → Result Decision Denial)
+    → IfOk user (IsPlace configuration) → ((place : ℕ) → IsPlace configuration place → IsSound configuration state (next place))
+    → IsSound configuration state (user >>= next)
+sound_step configuration state (Err denial) next known sound = tt
+sound_step configuration state (Ok place) next known sound = sound place known
 
-decision_is_sound : (configuration : Configuration) (clock : ℕ) (table : Table) (next : ℕ) (request : Request) (credentials : Credentials)
-    → IsSound configuration (bare clock table next) (decision configuration (bare clock table next) request None credentials)
-unfolding decision_on_answer decision_on_password challenge_or_denial user_by_answer
-decision_is_sound configuration clock table next request credentials = at (is_some credentials.state)
-  where
-    state : State
-    state = bare clock table next
+-- the decision on a request that answers a challenge is sound
+on_answer_is_sound : (configuration : Configuration) (state : State) (request : Request) (challenged : Option ℕ) (credentials : Credentials)
+    → IfSome challenged (IsPlace configuration) → IsSound configuration state (decision_on_answer configuration state request challenged credentials)
+unfolding decision_on_answer
+on_answer_is_sound configuration state request challenged credentials known =
+    sound_step configuration state (user_by_answer configuration request challenged credentials) (session_for configuration state)
+    (place_by_answer configuration request challenged credentials known) (session_is_sound configuration state)
 
-    challenged : (user : ℕ) → user < length configuration.users → (b : Bool)
-        → IsSound configuration state (cond b (challenge_or_denial (bare clock table next) user) (session_for configuration (bare clock table next) user))
-    challenged user within true = tt
-    challenged user within false = session_is_sound configuration state user within
+-- the decision on another request is sound
+on_password_is_sound : (configuration : Configuration) (state : State) (request : Request) (credentials : Credentials)
+    → IsSound configuration state (decision_on_password configuration state request credentials)
+unfolding decision_on_password
+on_password_is_sound configuration state request credentials =
+    sound_step configuration state (user_by_password configuration request credentials) _ (place_by_password configuration request credentials)
+    (λ user within.
+    let challenge : Result Decision Denial = challenge_for state user in
+    let session : Result Decision Denial = session_for configuration state user in
+    cond_both (is_some (user_at configuration user).challenge) challenge session (IsSound configuration state)
+    (challenge_is_sound configuration state user within) (λ _. session_is_sound configuration state user within))
 
-    on_user : (r : Result ℕ Denial) → IfOk r (λ user. user < length configuration.users)
-        → IsSound configuration state (r >>= (λ user. cond (is_some (user_at configuration user).challenge) (challenge_or_denial (bare clock table next) user) (session_for configuration (bare clock table next) user)))
-    on_user (Err denial) within = tt
-    on_user (Ok user) within = challenged user within (is_some (user_at configuration user).challenge)
+-- the decision is sound
+decision_is_sound : (configuration : Configuration) (state : State) (request : Request) (challenged : Option ℕ) (credentials : Credentials)
+    → IfSome challenged (IsPlace configuration) → IsSound configuration state (decision configuration state request challenged credentials)
+decision_is_sound configuration state request challenged credentials known =
+    cond_both (is_some credentials.state) (decision_on_answer configuration state request challenged credentials)
+    (decision_on_password configuration state request credentials) (IsSound configuration state)
+    (λ _. on_answer_is_sound configuration state request challenged credentials known)
+    (λ _. on_password_is_sound configuration state request credentials)
 
-    at : (b : Bool) → IsSound configuration state (cond b (decision_on_answer configuration (bare clock table next) request None credentials) (decision_on_password configuration (bare clock table next) request credentials))
-    at true = tt
-    at false = on_user (user_by_password configuration request credentials) (user_within configuration request credentials)
+-- ---- access
 
-decided_is_lawful : TableLaws → (configuration : Configuration) (state : State) (request : Request) (draw : List ℕ) (d : Result Decision Denial) → request.client < length configuration.clients
-    → IsLawful configuration state → IsSound configuration state d → IsLawful configuration (decided configuration state request draw d).1
-decided_is_lawful laws configuration state request draw (Err denial) client lawful sound = lawful
-decided_is_lawful laws configuration state request draw (Ok (Challenged user)) client lawful sound = absurd sound
-decided_is_lawful laws configuration state request draw (Ok (Granted user grant)) client lawful sound = record {
+-- a request that may be answered by a server with this configuration, with this draw
+pub record IsGiven (configuration : Configuration) (request : Request) (draw : List ℕ) : Type 0 where
+  pub valid : IsConfiguration configuration
+  pub answerable : IsAnswerable configuration.clients request
+  pub drawn : length draw ≡ length sixteen_zeros
+
+-- what a rule gives in a state: a reply that can be sealed, and a lawful state with the same clock and the same kept replies
+record IsLawfulResult (configuration : Configuration) (state : State) (result : Body × State) : Type 0 where
+  reply : IsReply result.0
+  new : IsLawful configuration result.1
+  clock : result.1.clock ≡ state.clock
+  replies : result.1.replies ≡ state.replies
+
+-- a sound decision gives a lawful result
+decided_is_lawful : TableLaws → (configuration : Configuration) (state : State) (request : Request) (draw : List ℕ) (d : Result Decision Denial)
+    → IsGiven configuration request draw → IsLawful configuration state → IsSound configuration state d
+    → IsLawfulResult configuration state (decided configuration state request draw d)
+decided_is_lawful laws configuration state request draw (Err denial) given lawful sound = record {
+  reply = reject_is_reply denial request.packet given.answerable.proxy_states;
+  new = lawful;
+  clock = refl;
+  replies = refl;
+}
+decided_is_lawful laws configuration state request draw (Ok (Challenged user)) given lawful sound =
+    let known = user_is_known configuration user given.valid sound.0 in
+    let row : User = user_at configuration user in
+    record {
+      reply = challenge_is_reply row state.waiting.next draw request.packet (text_fits row.challenge known.challenge) given.drawn
+          given.answerable.proxy_states;
+      new = record {
+        clock = lawful.clock;
+        spans = lawful.spans;
+        window = lawful.window;
+        hold = lawful.hold;
+        table = lawful.table;
+        replies = lawful.replies;
+        waiting = challenges_added configuration request.client user state.clock draw state.waiting sound.2 given.answerable.client sound.0
+            (sym known.paired ∙ sound.1) given.drawn lawful.waiting;
+      };
+      clock = refl;
+      replies = refl;
+    }
+decided_is_lawful laws configuration state request draw (Ok (Granted user grant)) given lawful sound =
+    let known = user_is_known configuration user given.valid sound.0 in
+    let row : User = user_at configuration user in
+    record {
+      reply = accept_is_reply row grant request.packet (text_fits row.message known.message) given.answerable.proxy_states;
+      new = record {
+        clock = lawful.clock;
+        spans = lawful.spans;
+        window = lawful.window;
+        hold = lawful.hold;
+        table = laws.grant configuration request.client user state.clock grant state.table given.answerable.client sound.0 sound.1 lawful.table;
+        replies = lawful.replies;
+        waiting = lawful.waiting;
+      };
+      clock = refl;
+      replies = refl;
+    }
+
+-- a lawful state is lawful without the challenge that is answered
+without_challenge_is_lawful : (configuration : Configuration) (client : ℕ) (value : Option (List ℕ)) (state : State) → IsLawful configuration state
+    → IsLawful configuration (without_challenge client value state)
+without_challenge_is_lawful configuration client None state lawful = lawful
+without_challenge_is_lawful configuration client (Some value) state lawful = record {
   clock = lawful.clock;
   spans = lawful.spans;
-  table = laws.grant configuration request.client user state.clock grant state.table client sound.0 sound.1 lawful.table;
-  kept = lawful.kept;
-  challenges = lawful.challenges;
-  next_challenge = lawful.next_challenge;
+  window = lawful.window;
+  hold = lawful.hold;
+  table = lawful.table;
+  replies = lawful.replies;
+  waiting = challenges_left configuration state.clock (λ challenge. not (has_state value client challenge)) state.waiting lawful.waiting;
 }
 
-access_is_lawful : TableLaws → (configuration : Configuration) (clock : ℕ) (table : Table) (next : ℕ) (request : Request) (draw : List ℕ) → request.client < length configuration.clients
-    → IsLawful configuration (bare clock table next) → IsLawful configuration (access configuration (bare clock table next) request draw).1
-access_is_lawful laws configuration clock table next request draw client lawful = with_result (credentials_in request.packet.attributes)
+-- without it the clock and the kept replies are the same, so a lawful result there is one here
+result_without_challenge : (configuration : Configuration) (client : ℕ) (value : Option (List ℕ)) (state : State) (result : Body × State)
+    → IsLawfulResult configuration (without_challenge client value state) result → IsLawfulResult configuration state result
+result_without_challenge configuration client None state result known = known
+result_without_challenge configuration client (Some value) state result known =
+    record { reply = known.reply; new = known.new; clock = known.clock; replies = known.replies }
+
+-- the rule for Access-Requests gives a lawful result
+access_is_lawful : TableLaws → (configuration : Configuration) (state : State) (request : Request) (draw : List ℕ)
+    → IsGiven configuration request draw → IsLawful configuration state → IsLawfulResult configuration state (access configuration state request draw)
+access_is_lawful laws configuration state request draw given lawful = with_result (credentials_in request.packet.attributes)
   where
-    state : State
-    state = bare clock table next
-
-    with_state : (credentials : Credentials) (value : Option (List ℕ))
-        → IsLawful configuration (decided configuration (without_challenge (answered_challenge request.client value []) (bare clock table next)) request draw
-        (decision configuration (without_challenge (answered_challenge request.client value []) (bare clock table next)) request (answered_challenge request.client value []) credentials)).1
-    with_state credentials None = decided_is_lawful laws configuration state request draw _ client lawful (decision_is_sound configuration clock table next request credentials)
-    with_state credentials (Some value) = decided_is_lawful laws configuration state request draw _ client lawful (decision_is_sound configuration clock table next request credentials)
-
-    with_result : (r : Result Credentials Denial) → IsLawful configuration (access_with configuration (bare clock table next) request draw r).1
-    with_result (Err denial) = lawful
-    with_result (Ok credentials) = with_state credentials credentials.state
+    with_result : (r : Result Credentials Denial) → IsLawfulResult configuration state (access_with configuration state request draw r)
+    with_result (Err denial) = decided_is_lawful laws configuration state request draw (Err denial) given lawful tt
+    with_result (Ok credentials) =
+        let value : Option (List ℕ) = credentials.state in
+        let challenged : Option ℕ = option_map (λ challenge. challenge.user) (answered_challenge request.client value state.waiting) in
+        let left : State = without_challenge request.client value state in
+        let known = place_of_challenge configuration state.clock request.client value state.waiting lawful.waiting in
+        result_without_challenge configuration request.client value state _
+        (decided_is_lawful laws configuration left request draw (decision configuration left request challenged credentials) given
+        (without_challenge_is_lawful configuration request.client value state lawful)
+        (decision_is_sound configuration left request challenged credentials known))
 
 -- ---- accounting
 
-account_is_lawful : TableLaws → (configuration : Configuration) (state : State) (request : Request) → IsLawful configuration state → IsLawful configuration (account configuration state request).1
-account_is_lawful laws configuration state request lawful =
+-- the rule for Accounting-Requests gives a lawful result
+account_is_lawful : TableLaws → (configuration : Configuration) (state : State) (request : Request) → IsAnswerable configuration.clients request
+    → IsLawful configuration state → IsLawfulResult configuration state (account configuration state request)
+account_is_lawful laws configuration state request answerable lawful =
     with_table (reported (first_integer type_acct_status_type request.packet.attributes) session state.table)
     (with_status (first_integer type_acct_status_type request.packet.attributes))
   where
@@ -149,14 +507,21 @@ account_is_lawful laws configuration state request lawful =
     IsKept : Table → Type 0
     IsKept table = IsLawfulTable configuration state.clock table × (table.spans ≡ state.table.spans)
 
-    with_table : (table : Table) → IsKept table → IsLawful configuration (record state { table = table })
+    with_table : (table : Table) → IsKept table
+        → IsLawfulResult configuration state (accounting_response request.packet, record state { table = table })
     with_table table kept = record {
-      clock = lawful.clock;
-      spans = kept.1 ∙ lawful.spans;
-      table = kept.0;
-      kept = lawful.kept;
-      challenges = lawful.challenges;
-      next_challenge = lawful.next_challenge;
+      reply = accounting_is_reply request.packet answerable.proxy_states;
+      new = record {
+        clock = lawful.clock;
+        spans = kept.1 ∙ lawful.spans;
+        window = lawful.window;
+        hold = lawful.hold;
+        table = kept.0;
+        replies = lawful.replies;
+        waiting = lawful.waiting;
+      };
+      clock = refl;
+      replies = refl;
     }
 
     same : IsKept state.table
@@ -170,7 +535,8 @@ account_is_lawful laws configuration state request lawful =
     stop None = same
     stop (Some number) = (laws.stop configuration state.clock number state.table lawful.table, refl)
 
-    with_number : (is_start is_stop : Bool) → IsKept (cond is_start (changed started session state.table) (cond is_stop (changed stopped session state.table) state.table))
+    with_number : (is_start is_stop : Bool)
+        → IsKept (cond is_start (changed started session state.table) (cond is_stop (changed stopped session state.table) state.table))
     with_number true is_stop = start session
     with_number false true = stop session
     with_number false false = same
@@ -181,26 +547,83 @@ account_is_lawful laws configuration state request lawful =
 
 -- ---- the step
 
-answer_is_lawful : TableLaws → (configuration : Configuration) (clock : ℕ) (table : Table) (next : ℕ) (request : Request) (draw : List ℕ) → request.client < length configuration.clients
-    → IsLawful configuration (bare clock table next) → IsLawful configuration (answer configuration (bare clock table next) request draw).1
-answer_is_lawful laws configuration clock table next request draw client lawful = either (request.packet.code == code_status_server) _ _ lawful (by_port request.door)
+-- a lawful state is lawful without a reply to a request with this one's key
+without_reply_is_lawful : (configuration : Configuration) (state : State) (request : Request) → IsLawful configuration state
+    → IsLawful configuration (without_reply request state)
+without_reply_is_lawful configuration state request lawful = record {
+  clock = lawful.clock;
+  spans = lawful.spans;
+  window = lawful.window;
+  hold = lawful.hold;
+  table = lawful.table;
+  replies = replies_left state.clock (λ reply. not (same_key (key_of request) reply.key)) state.replies lawful.replies;
+  waiting = lawful.waiting;
+}
+
+-- no reply to a request with this one's key is left
+without_reply_has_none : (state : State) (request : Request) → HasNoReplyTo (key_of request) (without_reply request state).replies
+without_reply_has_none state request =
+    let other : Kept → Bool = λ reply. not (same_key (key_of request) reply.key) in
+    All-weaker (λ reply. other reply ≡ true) (λ reply. same_key reply.key (key_of request) ≡ false)
+    (λ reply passes. same_key_symmetric reply.key (key_of request) ∙ not-true (same_key (key_of request) reply.key) passes)
+    (filter other state.replies.kept) (filter_passes other state.replies.kept)
+
+-- a lawful state is lawful with a reply that is kept for repeats of a request, which is no Status-Server
+with_reply_is_lawful : (configuration : Configuration) (state : State) (request : Request) (body : Body)
+    → (request.packet.code == code_status_server) ≡ false → is_full state.replies ≡ false → HasNoReplyTo (key_of request) state.replies → IsReply body
+    → IsLawful configuration state → IsLawful configuration (with_reply request body state)
+with_reply_is_lawful configuration state request body other room none sealable lawful =
+    let reply : Kept = record { key = key_of request; octets = packet_octets request.packet; body = body; made = state.clock } in
+    record {
+      clock = lawful.clock;
+      spans = lawful.spans;
+      window = lawful.window;
+      hold = lawful.hold;
+      table = lawful.table;
+      replies = replies_added state.clock reply state.replies room none (record { sealable = sealable; request = other; made = omega arith })
+          lawful.replies;
+      waiting = lawful.waiting;
+    }
+
+-- the state after a lawful result is sent and kept is lawful
+kept_is_lawful : (configuration : Configuration) (before : State) (request : Request) (result : Body × State)
+    → (request.packet.code == code_status_server) ≡ false → is_full before.replies ≡ false → HasNoReplyTo (key_of request) before.replies
+    → IsLawfulResult configuration before result → IsLawful configuration (sent_and_kept request result).1
+kept_is_lawful configuration before request (body, state) other room none known =
+    let room_left = ap is_full known.replies ∙ room in
+    let none_there = subst (HasNoReplyTo (key_of request)) (sym known.replies) none in
+    with_reply_is_lawful configuration state request body other room_left none_there known.reply known.new
+
+-- the state after an answer is lawful
+answer_is_lawful : TableLaws → (configuration : Configuration) (state : State) (request : Request) (draw : List ℕ)
+    → IsGiven configuration request draw → IsLawful configuration state → IsLawful configuration (answer configuration state request draw).1
+answer_is_lawful laws configuration state request draw given lawful =
+    cond_both (request.packet.code == code_status_server) _ _ Keeps (λ _. lawful) (λ other. with_kept other (reply_kept request state))
   where
-    state : State
-    state = bare clock table next
+    Keeps : Answer × State → Type 0
+    Keeps result = IsLawful configuration result.1
 
-    either : (b : Bool) (one other : Answer × State) → IsLawful configuration one.1 → IsLawful configuration other.1 → IsLawful configuration (cond b one other).1
-    either true one other first second = first
-    either false one other first second = second
+    left : State
+    left = without_reply request state
 
-    by_port : (door : Door) → IsLawful configuration (reply_by_port door configuration (bare clock table next) request draw).1
-    by_port Auth = access_is_lawful laws configuration clock table next request draw client lawful
-    by_port Acct = account_is_lawful laws configuration state request lawful
+    left_lawful : IsLawful configuration left
+    left_lawful = without_reply_is_lawful configuration state request lawful
 
-pub step_is_lawful : TableLaws → (configuration : Configuration) (state : State) (request : Request) (moment : ℕ) (draw : List ℕ) → moment ≤ moment_max → request.client < length configuration.clients
-    → IsLawful configuration state → IsLawful configuration (step configuration state request moment draw).1
-step_is_lawful laws configuration state request moment draw within client lawful =
-    let current = at_moment moment state in
+    by_port : (door : Door) → IsLawfulResult configuration left (reply_by_port door configuration left request draw)
+    by_port Auth = access_is_lawful laws configuration left request draw given left_lawful
+    by_port Acct = account_is_lawful laws configuration left request given.answerable left_lawful
+
+    with_kept : (request.packet.code == code_status_server) ≡ false → (o : Option Kept) → Keeps (answer_with configuration state request draw o)
+    with_kept other (Some reply) = lawful
+    with_kept other None =
+        let result : Body × State = reply_by_port request.door configuration left request draw in
+        cond_both (is_full left.replies) (Busy, left) (sent_and_kept request result) Keeps (λ _. left_lawful)
+        (λ room. kept_is_lawful configuration left request result other room (without_reply_has_none state request) (by_port request.door))
+
+-- the state after a step is lawful
+pub step_is_lawful : TableLaws → (configuration : Configuration) (state : State) (request : Request) (moment : ℕ) (draw : List ℕ)
+    → IsGiven configuration request draw → moment ≤ moment_max → IsLawful configuration state
+    → IsLawful configuration (step configuration state request moment draw).1
+step_is_lawful laws configuration state request moment draw given within lawful =
     let now = at_moment_is_lawful laws configuration state moment within lawful in
-    let is = lawful_is_bare configuration current now in
-    subst (λ (s : State). IsLawful configuration (answer configuration s request draw).1) is
-    (answer_is_lawful laws configuration current.clock current.table current.next_challenge request draw client (subst (IsLawful configuration) (sym is) now))
+    answer_is_lawful laws configuration (at_moment moment state) request draw given now

@@ -1,4 +1,6 @@
 mod LawfulLemmas
 mod OccurrenceLemmas
+mod PlanLemmas
+mod RepeatLemmas
 mod ReplyLemmas
 mod ReportLemmas

@@ -1,5 +1,6 @@
 -- What the server replies can be sealed: it fits a packet, and has a Message-Authenticator first or none.
 use Rattle.std.proofs.Common.{◌≡◌, ◌⊎◌, ℕ, ◌+◌, ◌≤◌, Bool, true, false, cond, eqb, List, [], ◌∷◌, ◌++◌, length, Option, Some, None, refl, ap, ◌∙◌, arith, inl, inr}
+use Rattle.std.specs.Int.{w64, to_be_bytes}
 use Rattle.std.specs.Prelude.{IfSome, option_map}
 use Rattle.std.proofs.lemmas.Bool.{eqb-true, ne_eqb}
 use Rattle.std.proofs.lemmas.Grind.{flat_map-append}
@@ -12,8 +13,9 @@ use Rattle.rad_auth.specs.Authenticators.{sixteen_zeros}
 use Rattle.rad_auth.specs.Sealing.{IsReply}
 use Rattle.rad_config.specs.declared.user.User.{User}
 use Rattle.rad_pool.specs.declared.grant.Grant.{Grant}
+use Rattle.rad_recent.specs.Challenges.{state_value}
 use Rattle.rad_server.specs.Denials.{denial_text}
-use Rattle.rad_server.specs.Replies.{accept_attributes, access_accept, access_reject, access_reply, accounting_response, attribute, attribute_if_any, class_value, four_octets}
+use Rattle.rad_server.specs.Replies.{accept_attributes, access_accept, access_challenge, access_reject, access_reply, accounting_response, attribute, attribute_if_any, class_value, four_octets}
 use Rattle.rad_server.specs.declared.denial.Denial.{Denial}
 use Rattle.rad_server.specs.declared.denial.Denial.TheVariants.{EapNotSupported, MalformedRequest, StateUnknown, WrongState, AccessDenied, SessionLimit, NoAddressLeft, ServerFull}
 
@@ -115,6 +117,16 @@ accept_is_reply user grant p message le = access_is_reply 2 (accept_attributes u
         own-append 279 14 474 _ (attribute 25 (class_value grant.number)) (omega arith)
         (own-append 24 255 279 _ (attribute_if_any 18 user.message) (omega arith) integers (own-text 18 user.message (λ e. omega (arith, e)) message))
         (own-one 25 12 (class_value grant.number) (λ e. omega (arith, e)) (omega arith))
+
+pub challenge_is_reply : (user : User) (number : ℕ) (draw : List ℕ) (p : Packet) → IfSome user.challenge (λ text. length text ≤ value_max) → length draw ≡ 16 → proxy_states_size p ≤ proxy_states_max
+    → IsReply (access_challenge user number draw p)
+challenge_is_reply user number draw p text drawn le =
+    access_is_reply 11 (attribute_if_any 18 user.challenge ++ attribute 24 (state_value number draw)) p (inr (inr refl)) own le
+  where
+    own : IsOwn 474 (attribute_if_any 18 user.challenge ++ attribute 24 (state_value number draw))
+    own =
+        own-append 255 26 474 _ (attribute 24 (state_value number draw)) (omega arith) (own-text 18 user.challenge (λ e. omega (arith, e)) text)
+        (own-one 24 24 (state_value number draw) (λ e. omega (arith, e)) (omega (arith, length-append (to_be_bytes w64 number) draw, drawn)))
 
 pub status_is_reply : (p : Packet) → proxy_states_size p ≤ proxy_states_max → IsReply (access_reply 2 [] p)
 status_is_reply p le = access_is_reply 2 [] p (inl refl) (record { size = omega arith; none = refl }) le

@@ -1,37 +1,102 @@
--- The law of the state: what holds of it before the first request, and is kept by each step for a client of the configuration.
+-- The law of the state: what holds of it before the first request, and is kept by each step for a request that may be answered.
 -- `lawful_steps` says so.
-use Rattle.std.specs.Prelude.{◌≡◌, ℕ, ◌+◌, ◌≤◌, ◌<◌, List, [], length}
+use Rattle.std.specs.Prelude.{◌≡◌, ℕ, ◌+◌, ◌≤◌, ◌<◌, ◌==◌, false, true, is_some, List, length, slice_index_or, All, AllPairs}
 use Rattle.std.specs.Int.{IsInRange}
+use Rattle.rad_packet.specs.Codes.{code_status_server}
+use Rattle.rad_auth.specs.Admission.{IsAnswerable}
+use Rattle.rad_auth.specs.Authenticators.{sixteen_zeros}
+use Rattle.rad_auth.specs.Sealing.{IsReply}
 use Rattle.rad_auth.specs.declared.arrival.Request.{Request}
 use Rattle.rad_config.specs.Configurations.{Configuration}
+use Rattle.rad_config.specs.Ranges.{IsConfiguration}
 use Rattle.rad_config.specs.Spans.{moment_max, spans_of}
-use Rattle.rad_pool.specs.Grants.{last_number}
 use Rattle.rad_pool.specs.Lawful.{IsLawful as IsLawfulTable}
+use Rattle.rad_recent.specs.Challenges.{Waiting, challenges_max, last_challenge}
+use Rattle.rad_recent.specs.Recent.{Replies, kept_max, same_key}
+use Rattle.rad_recent.specs.declared.challenge.Challenge.{Challenge}
+use Rattle.rad_recent.specs.declared.kept.Kept.{Kept}
+use Rattle.rad_server.specs.Access.{user_at}
 use Rattle.rad_server.specs.States.{State, opening}
 use Rattle.rad_server.specs.Steps.{step}
+
+-- ---- kept replies
+
+-- what holds of each kept reply of a lawful state
+pub record IsLawfulReply (clock : ℕ) (reply : Kept) : Type 0 where
+  -- it can be sealed
+  pub sealable : IsReply reply.body
+  -- its request was no Status-Server, whose Code would be the first octet
+  pub request : (slice_index_or reply.octets 0 0 == code_status_server) ≡ false
+  -- it was not made after the clock
+  pub made : reply.made ≤ clock
+
+-- two kept replies are to requests with different keys
+abbrev pub HaveDifferentKeys : Kept → Kept → Type 0
+HaveDifferentKeys earlier later = same_key earlier.key later.key ≡ false
+
+pub record AreLawfulReplies (clock : ℕ) (replies : Replies) : Type 0 where
+  -- there are no more than there may be
+  pub few : length replies.kept ≤ kept_max
+  -- no two are to requests with one key
+  pub keys : AllPairs HaveDifferentKeys replies.kept
+  -- each is lawful
+  pub each : All (IsLawfulReply clock) replies.kept
+
+-- ---- challenges
+
+-- what holds of each challenge of a lawful state, when the number of the next one is given
+pub record IsLawfulChallenge (configuration : Configuration) (clock next : ℕ) (challenge : Challenge) : Type 0 where
+  -- its number counts from 1, and the next one is greater
+  pub number : (1 ≤ challenge.number) × (challenge.number < next)
+  -- its draw has 16 octets
+  pub draw : length challenge.draw ≡ length sixteen_zeros
+  -- its client and its user are places of the configuration
+  pub client : challenge.client < length configuration.clients
+  pub user : challenge.user < length configuration.users
+  -- its user has an answer
+  pub answer : is_some (user_at configuration challenge.user).answer ≡ true
+  -- it was not made after the clock
+  pub made : challenge.made ≤ clock
+
+-- the earlier of two challenges has the smaller number
+abbrev pub IsNumberedBefore : Challenge → Challenge → Type 0
+IsNumberedBefore earlier later = earlier.number < later.number
+
+pub record AreLawfulChallenges (configuration : Configuration) (clock : ℕ) (waiting : Waiting) : Type 0 where
+  -- the next number counts from 1; after the last number there is only one more
+  pub next : IsInRange 1 (last_challenge + 1) waiting.next
+  -- there are no more than there may be
+  pub few : length waiting.challenges ≤ challenges_max
+  -- numbers rise along the list, so no two challenges have the same
+  pub rising : AllPairs IsNumberedBefore waiting.challenges
+  -- each is lawful
+  pub each : All (IsLawfulChallenge configuration clock waiting.next) waiting.challenges
+
+-- ---- the state
 
 -- what holds of the state of a server with this configuration
 pub record IsLawful (configuration : Configuration) (state : State) : Type 0 where
   -- the clock shows a moment
   pub clock : state.clock ≤ moment_max
-  -- window and hold are those of the configuration
+  -- sessions, replies and challenges live as long as the configuration says
   pub spans : state.table.spans ≡ spans_of configuration
+  pub window : state.replies.window ≡ (spans_of configuration).window
+  pub hold : state.waiting.hold ≡ (spans_of configuration).hold
   -- the table of sessions is lawful: no address belongs to two of them
   pub table : IsLawfulTable configuration state.clock state.table
-  -- no reply is kept yet
-  pub kept : state.kept ≡ []
-  -- no challenge waits for an answer yet
-  pub challenges : state.challenges ≡ []
-  -- the next number of a challenge counts from 1; after the last number there is only one more
-  pub next_challenge : IsInRange 1 (last_number + 1) state.next_challenge
+  -- the kept replies are lawful
+  pub replies : AreLawfulReplies state.clock state.replies
+  -- the challenges that wait for an answer are lawful
+  pub waiting : AreLawfulChallenges configuration state.clock state.waiting
 
 -- ---- what keeps the law
 
 abbrev pub OpeningIsLawful : Type 0
 OpeningIsLawful = (configuration : Configuration) → IsLawful configuration (opening configuration)
 
--- a request of a client of the configuration, whatever it holds, at any moment up to the last, and with any draw
+-- a request that may be answered, at any moment up to the last, and with any draw of 16 octets
 abbrev pub StepKeepsTheLaw : Type 0
 StepKeepsTheLaw = (configuration : Configuration) (state : State) (request : Request) (moment : ℕ) (draw : List ℕ)
-    → moment ≤ moment_max → request.client < length configuration.clients
+    → IsConfiguration configuration → IsAnswerable configuration.clients request
+    → moment ≤ moment_max → length draw ≡ length sixteen_zeros
     → IsLawful configuration state → IsLawful configuration (step configuration state request moment draw).1

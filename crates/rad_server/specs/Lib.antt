@@ -5,7 +5,9 @@ pub mod Denials
 pub mod Lawful
 pub mod Occurrences
 pub mod Plans
+pub mod Repeats
 pub mod Replies
+pub mod Runs
 pub mod Servers
 pub mod States
 pub mod Steps

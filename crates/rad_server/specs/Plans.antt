@@ -1,30 +1,36 @@
 -- What the code's values stand for, and what a plan says. No other crate cites these.
-use Rattle.std.specs.Prelude.{◌≡◌, ℕ, ◌<◌, ◌==◌, ◌&&◌, ◌||◌, Bool, true, if◌then◌else◌, List, ◌++◌, length, drop, take, Option, Some, None, option_copied, Result, Ok, Err, IsTrue}
+use Rattle.std.specs.Prelude.{◌≡◌, ℕ, ◌<◌, ◌≤◌, ◌==◌, ◌&&◌, ◌||◌, true, false, if◌then◌else◌, List, ◌++◌, length, drop, take, All, Option, Some, None, option_copied, option_map, Result, Ok, Err, IsOk, IsTrue}
 use Rattle.std.specs.Int.{w32, w64, from_be_bytes}
 use Rattle.std.specs.Option.{option_or}
 use lib.Pointwise.{pointwise}
 use Rattle.rad_packet.specs.Attributes.{Attribute, first_value, has, integer_size, is_of}
 use Rattle.rad_packet.specs.Bodies.{Body}
+use Rattle.rad_packet.specs.Packets.{packet_octets}
 use Rattle.rad_packet.specs.Types.{type_acct_status_type, type_chap_challenge, type_chap_password, type_class, type_eap_message, type_framed_ip_address, type_message_authenticator, type_state, type_user_name, type_user_password}
 use Rattle.rad_auth.specs.Authenticators.{sixteen_zeros}
 use Rattle.rad_auth.specs.Chap.{chap_value_size}
 use Rattle.rad_auth.specs.Passwords.{value_fits}
+use Rattle.rad_auth.specs.Sealing.{IsReply}
 use Rattle.rad_auth.specs.declared.arrival.Request.{Request}
 use Rattle.rad_config.specs.Configurations.{Configuration}
 use Rattle.rad_pool.specs.Grants.{granted, with_session}
 use Rattle.rad_pool.specs.Meant.{meant}
-use Rattle.rad_pool.specs.Sessions.{Table, started, stopped}
-use Rattle.rad_server.specs.Access.{Decision, Granted, access, decided}
+use Rattle.rad_pool.specs.Sessions.{AreSame as AreSameSessions, Table, cut, started, stopped}
+use Rattle.rad_recent.specs.Challenges.{AreSame as AreSameChallenges, Waiting, cut_challenges, next_number, without_answered}
+use Rattle.rad_recent.specs.Recent.{cut_replies, is_full, kept_max, without_key}
+use Rattle.rad_recent.specs.declared.kept.Kept.{Kept}
+use Rattle.rad_server.specs.Access.{Challenged, Decision, Granted, access, answered_challenge, decision, with_challenge, without_challenge}
 use Rattle.rad_server.specs.Accounting.{account, changed, class_number, class_size, first_integer}
 use Rattle.rad_server.specs.Credentials.{Credentials, SentPassword, UserPassword, ChapPassword}
 use Rattle.rad_server.specs.Occurrences.{Occurrence, Absent, Once, Repeated, occurrence}
 use Rattle.rad_server.specs.Replies.{attribute, class_prefix}
 use Rattle.rad_server.specs.Servers.{state_with}
 use Rattle.rad_server.specs.States.{State, without_expired}
-use Rattle.rad_server.specs.Steps.{answer}
-use Rattle.rad_server.specs.declared.access.NewSession.{NewSession}
+use Rattle.rad_server.specs.Steps.{answer, key_of, reply_by_port, sent_and_kept, without_reply}
+use Rattle.rad_server.specs.declared.access.Decision.{Decision as DecisionOfCode}
+use Rattle.rad_server.specs.declared.access.Decision.TheVariants as decisions
 use Rattle.rad_server.specs.declared.accounting.Report.{Report}
-use Rattle.rad_server.specs.declared.answer.Answer.TheVariants.{Send}
+use Rattle.rad_server.specs.declared.answer.Answer.TheVariants.{Send, Busy}
 use Rattle.rad_server.specs.declared.credentials.Credentials.{Credentials as CredentialsOfCode}
 use Rattle.rad_server.specs.declared.credentials.SentPassword.{SentPassword as SentPasswordOfCode}
 use Rattle.rad_server.specs.declared.credentials.SentPassword.TheVariants as sent
@@ -34,8 +40,12 @@ use Rattle.rad_server.specs.declared.occurrence.Occurrence.TheVariants as code
 use Rattle.rad_server.specs.declared.denial.Denial.{Denial}
 use Rattle.rad_server.specs.declared.plan.Change.{Change}
 use Rattle.rad_server.specs.declared.plan.Change.TheVariants as changes
+use Rattle.rad_server.specs.declared.plan.NewReply.{NewReply}
 use Rattle.rad_server.specs.declared.plan.Plan.{Plan}
+use Rattle.rad_server.specs.declared.plan.Plan.TheVariants as plans
 use Rattle.rad_server.specs.declared.plan.Reference.{Reference}
+use Rattle.rad_server.specs.declared.plan.ToKeep.{ToKeep}
+use Rattle.rad_server.specs.declared.tables.Tables.{Tables}
 
 -- what a call returned, seen by view, is what is defined
 abbrev pub Gives : {X Y E : Type 0} → (X → Y) → Result X E → Result Y E → Type 0
@@ -135,75 +145,156 @@ with_attributes list body = record body { attributes = body.attributes ++ list }
 abbrev pub access_front : ℕ → Body
 access_front code = record { code = code; attributes = attribute type_message_authenticator sixteen_zeros }
 
+-- ---- decisions
+
+-- the state with what is live at a moment
+abbrev pub live_state : ℕ → Tables → State
+live_state now tables = without_expired (state_with now tables)
+
+-- the same without a reply to a request with the same key: in it, a request that is no repeat is answered
+abbrev pub state_for : Request → ℕ → Tables → State
+state_for request now tables = without_reply request (live_state now tables)
+
+-- what plans rest on, which each lawful state has: no more replies than may be kept, which all can be sealed, and challenges of users
+-- of the configuration
+pub record AreUsable (configuration : Configuration) (tables : Tables) : Type 0 where
+  pub few : length tables.recent.table.kept ≤ kept_max
+  pub sealable : All (λ reply. IsReply reply.body) tables.recent.table.kept
+  pub users : All (λ challenge. challenge.user < length configuration.users) tables.challenges.table.challenges
+
+abbrev pub decision_of : DecisionOfCode → Decision
+decision_of (decisions.Challenge user number) = Challenged user
+decision_of (decisions.Session session) = Granted session.user session.grant
+
+-- the user whose challenge a request answers, if it answers one
+abbrev pub user_challenged : Request → Option (List ℕ) → State → Option ℕ
+user_challenged request value state = option_map (λ challenge. challenge.user) (answered_challenge request.client value state.waiting)
+
+-- the decision on a request with these credentials
+abbrev pub decision_in : Configuration → State → Request → Credentials → Result Decision Denial
+decision_in configuration state request credentials =
+    decision configuration (without_challenge request.client credentials.state state) request
+    (user_challenged request credentials.state state) credentials
+
+-- what a decision gives can be given: a challenge with the next number, or a session that the rule grants
+abbrev pub CanBeGiven : Configuration → State → DecisionOfCode → Type 0
+CanBeGiven configuration state (decisions.Challenge user number) =
+    (user < length configuration.users) × ((next_number state.waiting ≡ Ok number) × (number ≡ state.waiting.next))
+CanBeGiven configuration state (decisions.Session session) =
+    (session.user < length configuration.users) × (granted configuration session.user state.table ≡ Ok session.grant)
+
 -- ---- plans
-
--- the state with this clock and the live ones of these sessions
-abbrev pub live_state : ℕ → Table → State
-live_state now table = without_expired (state_with now table)
-
--- the decision that a new session is
-abbrev pub decision_of : NewSession → Decision
-decision_of session = Granted session.user session.grant
-
--- what an Access-Request is given in a state, whatever the draw: a session, or a denial that changes nothing
-abbrev pub IsDecision : Configuration → State → Request → Result NewSession Denial → Type 0
-IsDecision configuration state request result =
-    (draw : List ℕ) → access configuration state request draw ≡ decided configuration state request draw (decision_result result)
-  where
-    decision_result : Result NewSession Denial → Result Decision Denial
-    decision_result (Ok session) = Ok (decision_of session)
-    decision_result (Err denial) = Err denial
-
--- a new session is what the rule grants its user, who is in the configuration
-pub record IsGrantOf (configuration : Configuration) (table : Table) (session : NewSession) : Type 0 where
-  pub user : session.user < length configuration.users
-  pub granted : granted configuration session.user table ≡ Ok session.grant
-
--- a new session that a change has is what the rule grants
-abbrev pub IsGrantable : Configuration → Table → Change → Type 0
-IsGrantable configuration table changes.Nothing = Unit {0}
-IsGrantable configuration table (changes.Grant session) = IsGrantOf configuration table session
-IsGrantable configuration table (changes.Start reference) = Unit {0}
-IsGrantable configuration table (changes.Stop reference) = Unit {0}
-
--- memory is ready for a new session, if a change has one
-abbrev pub IsReadyFor : Change → Bool → Type 0
-IsReadyFor changes.Nothing has_room = Unit {0}
-IsReadyFor (changes.Grant session) has_room = has_room ≡ true
-IsReadyFor (changes.Start reference) has_room = Unit {0}
-IsReadyFor (changes.Stop reference) has_room = Unit {0}
 
 -- the number of the session that a client means, if it means one
 abbrev pub session_of : ℕ → Reference → Table → Option ℕ
 session_of client reference table = meant client reference.number reference.address reference.name table.sessions
 
 -- the state after a change that a request of a client makes
-abbrev pub after : ℕ → Change → State → State
-after client changes.Nothing state = state
-after client (changes.Grant session) state =
+abbrev pub changed_by : ℕ → List ℕ → Change → State → State
+changed_by client draw changes.Nothing state = state
+changed_by client draw (changes.Challenge user) state = with_challenge client user draw state
+changed_by client draw (changes.Grant session) state =
     record state { table = with_session client session.user state.clock session.grant state.table }
-after client (changes.Start reference) state =
+changed_by client draw (changes.Start reference) state =
     record state { table = changed started (session_of client reference state.table) state.table }
-after client (changes.Stop reference) state =
+changed_by client draw (changes.Stop reference) state =
     record state { table = changed stopped (session_of client reference state.table) state.table }
 
--- a plan says the answer to a request in the current state, whatever the draw, and the change that leads to the next state
-abbrev pub IsPlanOf : Configuration → State → Request → Plan → Type 0
-IsPlanOf configuration current request plan =
-    (draw : List ℕ) → answer configuration current request draw ≡ (Send plan.body, after request.client plan.change current)
+-- the state after it, without the challenge that was answered
+abbrev pub after : ℕ → List ℕ → Option (List ℕ) → Change → State → State
+after client draw value change state = changed_by client draw change (without_challenge client value state)
 
--- the same of an Access-Request, and of an Accounting-Request in any state
-abbrev pub IsAccessPlan : Configuration → State → Request → Plan → Type 0
-IsAccessPlan configuration current request plan =
-    (draw : List ℕ) → access configuration current request draw ≡ (plan.body, after request.client plan.change current)
+-- a change can be made
+abbrev pub CanBeMade : Configuration → State → Change → Type 0
+CanBeMade configuration state changes.Nothing = Unit {0}
+CanBeMade configuration state (changes.Challenge user) = IsOk (next_number state.waiting)
+CanBeMade configuration state (changes.Grant session) =
+    (session.user < length configuration.users) × (granted configuration session.user state.table ≡ Ok session.grant)
+CanBeMade configuration state (changes.Start reference) = Unit {0}
+CanBeMade configuration state (changes.Stop reference) = Unit {0}
 
-abbrev pub IsAccountingPlan : Configuration → Request → Plan → Type 0
-IsAccountingPlan configuration request plan =
-    (current : State) → account configuration current request ≡ (plan.body, after request.client plan.change current)
+-- A new reply, given the current state: what is said of it, and what changes, is what a rule gives in the state without a reply to a
+-- request with the same key.
+pub record IsReplyOf (rule : State → Body × State) (configuration : Configuration) (current : State) (request : Request) (draw : List ℕ) (reply : NewReply) : Type 0 where
+  pub planned : rule (without_reply request current)
+      ≡ (reply.body, after request.client draw (option_copied reply.answered) reply.change (without_reply request current))
+  pub possible : CanBeMade configuration (without_challenge request.client (option_copied reply.answered) current) reply.change
+  pub sealable : IsReply reply.body
 
--- a change that grants no session
-abbrev pub IsReport : Change → Type 0
-IsReport changes.Nothing = Unit {0}
-IsReport (changes.Grant session) = ⊥
-IsReport (changes.Start reference) = Unit {0}
-IsReport (changes.Stop reference) = Unit {0}
+-- by the rule of access
+abbrev pub IsAccessReply : Configuration → State → Request → List ℕ → NewReply → Type 0
+IsAccessReply configuration current request draw reply =
+    IsReplyOf (λ state. access configuration state request draw) configuration current request draw reply
+
+-- by the rule of accounting
+abbrev pub IsAccountingReply : Configuration → State → Request → List ℕ → NewReply → Type 0
+IsAccountingReply configuration current request draw reply =
+    IsReplyOf (λ state. account configuration state request) configuration current request draw reply
+
+-- by the rule of the server's port
+abbrev pub IsNewReply : Configuration → State → Request → List ℕ → NewReply → Type 0
+IsNewReply configuration current request draw reply =
+    IsReplyOf (λ state. reply_by_port request.door configuration state request draw) configuration current request draw reply
+
+-- what is kept of a reply is what it says, with what its request is recognised by
+pub record IsToBeKept (request : Request) (body : Body) (to_keep : ToKeep) : Type 0 where
+  pub key : to_keep.key ≡ key_of request
+  pub octets : to_keep.octets.items ≡ packet_octets request.packet
+  pub says : to_keep.body ≡ body
+
+-- a new reply and what is kept of it answer a request that is no repeat, when one more may be kept
+pub record IsNewAnswer (configuration : Configuration) (current : State) (request : Request) (draw : List ℕ) (reply : NewReply) (to_keep : ToKeep) : Type 0 where
+  pub answered : answer configuration current request draw
+      ≡ sent_and_kept request (reply_by_port request.door configuration (without_reply request current) request draw)
+  pub fits : is_full (without_key (key_of request) current.replies) ≡ false
+  pub rule : IsNewReply configuration current request draw reply
+  pub kept : IsToBeKept request reply.body to_keep
+
+-- a plan says the answer to a request in the current state, and what the next state is
+abbrev pub IsPlanOf : Configuration → State → Request → List ℕ → Plan → Type 0
+IsPlanOf configuration current request draw (plans.Unchanged body) =
+    (answer configuration current request draw ≡ (Send body, current)) × IsReply body
+IsPlanOf configuration current request draw plans.Busy = answer configuration current request draw ≡ (Busy, current)
+IsPlanOf configuration current request draw (plans.New reply to_keep) = IsNewAnswer configuration current request draw reply to_keep
+
+-- the challenges without the one that a client answers with a State, if it sent one
+abbrev pub waiting_without : ℕ → Option (List ℕ) → Waiting → Waiting
+waiting_without client None waiting = waiting
+waiting_without client (Some value) waiting = without_answered value client waiting
+
+-- the reply that is kept at a moment
+abbrev pub kept_at : ℕ → ToKeep → Kept
+kept_at now to_keep = record { key = to_keep.key; octets = to_keep.octets.items; body = to_keep.body; made = now }
+
+-- memory is ready for a change
+abbrev pub IsReadyFor : Change → Tables → Type 0
+IsReadyFor changes.Nothing tables = Unit {0}
+IsReadyFor (changes.Challenge user) tables = tables.challenges.has_room ≡ true
+IsReadyFor (changes.Grant session) tables = tables.sessions.has_room ≡ true
+IsReadyFor (changes.Start reference) tables = Unit {0}
+IsReadyFor (changes.Stop reference) tables = Unit {0}
+
+-- memory is ready for a plan
+abbrev pub IsReadyForPlan : Plan → Tables → Type 0
+IsReadyForPlan (plans.Unchanged body) tables = Unit {0}
+IsReadyForPlan plans.Busy tables = Unit {0}
+IsReadyForPlan (plans.New reply to_keep) tables =
+    IsReadyFor reply.change tables × (tables.recent.ready ≡ Some to_keep.key)
+
+-- nothing in the tables is past its life
+pub record AreLive (now : ℕ) (tables : Tables) : Type 0 where
+  pub sessions : cut now tables.sessions.table ≡ tables.sessions.table
+  pub replies : cut_replies now tables.recent.table ≡ tables.recent.table
+  pub challenges : cut_challenges now tables.challenges.table ≡ tables.challenges.table
+
+-- memory that was ready still is
+pub record HaveRoomOf (old new : Tables) : Type 0 where
+  pub sessions : old.sessions.has_room ≡ true → new.sessions.has_room ≡ true
+  pub replies : new.recent.ready ≡ old.recent.ready
+  pub challenges : old.challenges.has_room ≡ true → new.challenges.has_room ≡ true
+
+-- the same rows and the same next numbers
+pub record AreTheSame (tables others : Tables) : Type 0 where
+  pub sessions : AreSameSessions tables.sessions.table others.sessions.table
+  pub replies : tables.recent.table.kept ≡ others.recent.table.kept
+  pub challenges : AreSameChallenges tables.challenges.table others.challenges.table

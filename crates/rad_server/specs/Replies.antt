@@ -15,6 +15,7 @@ use Rattle.rad_auth.specs.declared.arrival.Door.{Door}
 use Rattle.rad_auth.specs.declared.arrival.Door.TheVariants.{Auth, Acct}
 use Rattle.rad_config.specs.declared.user.User.{User}
 use Rattle.rad_pool.specs.declared.grant.Grant.{Grant}
+use Rattle.rad_recent.specs.Challenges.{state_value}
 use Rattle.rad_server.specs.Denials.{denial_text}
 use Rattle.rad_server.specs.declared.denial.Denial.{Denial}
 
@@ -40,10 +41,6 @@ class_prefix = codes "RAP1"
 -- the Class of a session (RFC 2865, section 5.25)
 abbrev pub class_value : ℕ → List ℕ
 class_value number = class_prefix ++ to_be_bytes w64 number
-
--- the State of a challenge (RFC 2865, section 5.24)
-abbrev pub state_value : ℕ → List ℕ → List ℕ
-state_value number draw = to_be_bytes w64 number ++ draw
 
 -- ---- replies
 

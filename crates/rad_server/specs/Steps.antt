@@ -1,8 +1,7 @@
 -- The step of the server: from a configuration, a state and an admitted request, with its moment in milliseconds and its draw
 -- of 16 octets, to the answer and the next state. A repeated request gets the reply that is kept (RFC 2865, section 3; RFC 5080,
 -- section 2.2.2); that Accounting-Requests are treated alike is our choice.
-use Rattle.std.specs.Prelude.{ℕ, ◌==◌, ◌&&◌, nat_le, not, Bool, true, false, if◌then◌else◌, List, length, find, filter, Option, Some, None}
-use lib.Pointwise.{pointwise}
+use Rattle.std.specs.Prelude.{ℕ, ◌==◌, if◌then◌else◌, List, Option, Some, None}
 use Rattle.rad_packet.specs.Bodies.{Body}
 use Rattle.rad_packet.specs.Codes.{code_status_server}
 use Rattle.rad_packet.specs.Packets.{packet_octets}
@@ -11,52 +10,46 @@ use Rattle.rad_auth.specs.declared.arrival.Door.{Door}
 use Rattle.rad_auth.specs.declared.arrival.Door.TheVariants.{Auth, Acct}
 use Rattle.rad_auth.specs.declared.arrival.Request.{Request}
 use Rattle.rad_config.specs.Configurations.{Configuration}
+use Rattle.rad_recent.specs.Recent.{is_full, reply_to, without_key}
+use Rattle.rad_recent.specs.Recent as replies
+use Rattle.rad_recent.specs.declared.kept.Kept.{Kept}
+use Rattle.rad_recent.specs.declared.key.Key.{Key}
 use Rattle.rad_server.specs.Access.{access}
 use Rattle.rad_server.specs.Accounting.{account}
 use Rattle.rad_server.specs.Replies.{status_reply}
-use Rattle.rad_server.specs.States.{Kept, Key, State, at_moment}
+use Rattle.rad_server.specs.States.{State, at_moment}
 use Rattle.rad_server.specs.declared.answer.Answer.{Answer}
 use Rattle.rad_server.specs.declared.answer.Answer.TheVariants.{Send, Busy}
 
--- the most replies that are kept
-abbrev pub kept_max : ℕ
-kept_max = 4096
-
 -- ---- repeated requests
 
+-- what a request is recognised by, beside its octets
 abbrev pub key_of : Request → Key
 key_of request = record {
   source = request.source;
   port = request.port;
   door = request.door;
-  identifier = request.packet.identifier;
+  id = request.packet.identifier;
 }
 
-abbrev pub same_door : Door → Door → Bool
-same_door Auth Auth = true
-same_door Auth Acct = false
-same_door Acct Auth = false
-same_door Acct Acct = true
+-- the kept reply to a request, if it is a repeat: if it has the key and the octets up to Length of one that was answered
+abbrev pub reply_kept : Request → State → Option Kept
+reply_kept request state = reply_to (key_of request) (packet_octets request.packet) state.replies
 
-abbrev pub same_key : Key → Key → Bool
-same_key key other =
-    (key.source == other.source) && (key.port == other.port) && same_door key.door other.door && (key.identifier == other.identifier)
+-- the state without a reply to a request with the same key
+abbrev pub without_reply : Request → State → State
+without_reply request state = record state { replies = without_key (key_of request) state.replies }
 
--- whether a request repeats the one whose reply was kept: it has its key and its octets up to Length
-abbrev pub is_repeat : Request → Kept → Bool
-is_repeat request reply = same_key (key_of request) reply.key && pointwise ◌==◌ (packet_octets request.packet) reply.octets
-
--- the kept reply to a request, if it is a repeat
-abbrev pub reply_kept : Request → List Kept → Option Kept
-reply_kept request kept = find (is_repeat request) kept
-
--- the state without a kept reply of this key
-abbrev pub without_key : Key → State → State
-without_key key state = record state { kept = filter (λ reply. not (same_key key reply.key)) state.kept }
-
--- the state in which a reply is kept for repeats of its request: none is kept yet
+-- the state in which a reply is kept for repeats of its request, after the others
 abbrev pub with_reply : Request → Body → State → State
-with_reply request body state = state
+with_reply request body state = record state {
+  replies = replies.with_reply (record {
+    key = key_of request;
+    octets = packet_octets request.packet;
+    body = body;
+    made = state.clock;
+  }) state.replies;
+}
 
 -- ---- the step
 
@@ -72,19 +65,19 @@ sent_and_kept request (body, state) = (Send body, with_reply request body state)
 -- the answer to a request that is no repeat, and the state after it; without room to keep a reply there is none
 abbrev pub new_answer : Configuration → State → Request → List ℕ → Answer × State
 new_answer configuration state request draw =
-    if nat_le kept_max (length state.kept) then (Busy, state) else sent_and_kept request (reply_by_port request.door configuration state request draw)
+    if is_full state.replies then (Busy, state) else sent_and_kept request (reply_by_port request.door configuration state request draw)
 
 -- the answer to a request, given the kept reply if it is a repeat, and the state after it
 abbrev pub answer_with : Configuration → State → Request → List ℕ → Option Kept → Answer × State
 answer_with configuration state request draw (Some reply) = (Send reply.body, state)
-answer_with configuration state request draw None = new_answer configuration (without_key (key_of request) state) request draw
+answer_with configuration state request draw None = new_answer configuration (without_reply request state) request draw
 
 -- The answer to a request in the current state, and the state after it. A Status-Server is neither looked up nor kept, which
 -- is our choice.
 abbrev pub answer : Configuration → State → Request → List ℕ → Answer × State
 answer configuration current request draw =
     if request.packet.code == code_status_server then (Send (status_reply request.door request.packet), current)
-    else answer_with configuration current request draw (reply_kept request current.kept)
+    else answer_with configuration current request draw (reply_kept request current)
 
 -- the answer to a request at a moment, and the state after it
 abbrev pub step : Configuration → State → Request → ℕ → List ℕ → Answer × State

@@ -1,16 +1,17 @@
 //! Who is granted access.
-ghost use Rattle.std.specs.Prelude.{◌≡◌, ◌≤◌, ◌<◌, IfOk, None, length};
+ghost use Rattle.std.specs.Prelude.{◌≡◌, ◌≤◌, ◌<◌, IfOk, IfSome, Some, length, option_map};
 ghost use Rattle.rad_auth.specs.Admission.{IsAnswerable};
 ghost use Rattle.rad_config.specs.Spans.{moment_max};
-ghost use Rattle.rad_pool.specs.Sessions.{cut};
-ghost use Rattle.rad_server.specs.Access.{decision, decision_on_password, password_matches, session_for, user_by_password};
-ghost use Rattle.rad_server.specs.Plans.{Gives, IsDecision, IsGrantOf, IsSent, credentials_of, decision_of, live_state, sent_password_of};
+ghost use Rattle.rad_recent.specs.Challenges.{answered, cut_challenges};
+ghost use Rattle.rad_server.specs.Access.{decision_on_answer, decision_on_password, password_matches, user_by_answer, user_by_password, without_challenge};
+ghost use Rattle.rad_server.specs.Plans.{AreUsable, CanBeGiven, Gives, IsSent, credentials_of, decision_in, decision_of, live_state, sent_password_of, state_for, user_challenged};
 
 use crate::credentials::{Credentials, SentPassword};
 use crate::denial::Denial;
+use crate::tables::Tables;
 use rad_auth::{Request, chap_right, password_right};
-use rad_config::Config;
-use rad_pool::{Grant, Sessions};
+use rad_config::{Config, User};
+use rad_pool::Grant;
 
 /// A session that the rule grants.
 #[derive(Clone, Copy)]
@@ -20,68 +21,142 @@ pub(crate) struct NewSession {
     pub grant: Grant,
 }
 
-/// The session that an Access-Request is granted at a moment, or why access is denied.
-pub(crate) fn decide(
-    config: &Config,
-    sessions: &Sessions,
-    now: u64,
-    request: &Request,
-) -> Result<NewSession, Denial>
-    requires moment { now ≤ moment_max }
-    requires answerable { IsAnswerable config.now.clients request.now }
-    ensures decided { IsDecision config.now (live_state now sessions.now.table) request.now result }
-    ensures granted { IfOk result (IsGrantOf config.now (cut now sessions.now.table)) }
-{
-    let credentials = Credentials::of(&request.packet)?;
-    decide_on(config, sessions, now, request, &credentials)
+/// What a user is given, if access isn't denied.
+#[derive(Clone, Copy)]
+pub(crate) enum Decision {
+    /// A challenge for the user at this place, with this number.
+    Challenge(u32, u64),
+    Session(NewSession),
 }
 
-// The session that these credentials are granted. No challenge is made yet, so no State is known, and nobody who has a
-// challenge is granted a session.
-fn decide_on(
+/// What an Access-Request with these credentials is given at a moment, or why access is denied.
+pub(crate) fn decide(
     config: &Config,
-    sessions: &Sessions,
+    tables: &Tables,
     now: u64,
     request: &Request,
     credentials: &Credentials,
-) -> Result<NewSession, Denial>
+) -> Result<Decision, Denial>
     requires moment { now ≤ moment_max }
     requires answerable { IsAnswerable config.now.clients request.now }
     requires sent { IsSent (sent_password_of credentials.now.password) }
+    requires usable { AreUsable config.now tables.now }
     ensures decided { Gives decision_of result
-        (decision config.now (live_state now sessions.now.table)
-        request.now None (credentials_of credentials.now)) }
-    ensures granted { IfOk result (IsGrantOf config.now (cut now sessions.now.table)) }
+        (decision_in config.now (state_for request.now now tables.now)
+        request.now (credentials_of credentials.now)) }
+    ensures given { IfOk result (CanBeGiven config.now
+        (without_challenge request.now.client (credentials_of credentials.now).state
+        (live_state now tables.now))) }
 {
-    if credentials.state.is_some() {
-        return Err(Denial::StateUnknown);
+    match credentials.state {
+        Some(state) => decide_on_answer(config, tables, now, request, state, credentials),
+        None => decide_on_password(config, tables, now, request, credentials),
     }
-    decide_on_password(config, sessions, now, request, credentials)
+}
+
+// The same for the answer to a challenge with this State.
+#[tactic(auto, unfolding(crate::specs::Access::decision_on_answer))]
+fn decide_on_answer(
+    config: &Config,
+    tables: &Tables,
+    now: u64,
+    request: &Request,
+    state: &[u8],
+    credentials: &Credentials,
+) -> Result<Decision, Denial>
+    requires moment { now ≤ moment_max }
+    requires answerable { IsAnswerable config.now.clients request.now }
+    requires sent { IsSent (sent_password_of credentials.now.password) }
+    requires usable { AreUsable config.now tables.now }
+    ensures decided { Gives decision_of result
+        (decision_on_answer config.now
+        (without_challenge request.now.client (Some state.now) (state_for request.now now tables.now))
+        request.now (user_challenged request.now (Some state.now) (state_for request.now now tables.now))
+        (credentials_of credentials.now)) }
+    ensures given { IfOk result (CanBeGiven config.now
+        (without_challenge request.now.client (Some state.now) (live_state now tables.now))) }
+{
+    let user = user_by_answer(config, tables, now, request, state, credentials)?;
+    let grant = tables.sessions.peek(config, request.client, user, now)?;
+    Ok(Decision::Session(NewSession { user, grant }))
 }
 
 // The same where no challenge is answered.
-#[tactic(auto, unfolding(crate::specs::Access::decision_on_password, crate::specs::Access::challenge_or_denial))]
+#[tactic(auto, unfolding(crate::specs::Access::decision_on_password))]
 fn decide_on_password(
     config: &Config,
-    sessions: &Sessions,
+    tables: &Tables,
     now: u64,
     request: &Request,
     credentials: &Credentials,
-) -> Result<NewSession, Denial>
+) -> Result<Decision, Denial>
     requires moment { now ≤ moment_max }
     requires answerable { IsAnswerable config.now.clients request.now }
     requires sent { IsSent (sent_password_of credentials.now.password) }
     ensures decided { Gives decision_of result
-        (decision_on_password config.now (live_state now sessions.now.table)
+        (decision_on_password config.now (state_for request.now now tables.now)
         request.now (credentials_of credentials.now)) }
-    ensures granted { IfOk result (IsGrantOf config.now (cut now sessions.now.table)) }
+    ensures given { IfOk result (CanBeGiven config.now (live_state now tables.now)) }
 {
     let user = user_by_password(config, request, credentials)?;
     if config.user_at(user).challenge.is_some() {
-        return Err(Denial::ServerFull);
+        return match tables.challenges.peek(now) {
+            Ok(number) => Ok(Decision::Challenge(user, number)),
+            Err(_) => Err(Denial::ServerFull),
+        };
     }
-    let grant = sessions.peek(config, request.client, user, now)?;
-    Ok(NewSession { user, grant })
+    let grant = tables.sessions.peek(config, request.client, user, now)?;
+    Ok(Decision::Session(NewSession { user, grant }))
+}
+
+// The place of the user whose challenge is answered, rightly and under the user's name.
+#[tactic(auto, unfolding(crate::specs::Access::user_by_answer))]
+fn user_by_answer(
+    config: &Config,
+    tables: &Tables,
+    now: u64,
+    request: &Request,
+    state: &[u8],
+    credentials: &Credentials,
+) -> Result<u32, Denial>
+    requires moment { now ≤ moment_max }
+    requires answerable { IsAnswerable config.now.clients request.now }
+    requires sent { IsSent (sent_password_of credentials.now.password) }
+    requires usable { AreUsable config.now tables.now }
+    ensures user { result ≡ user_by_answer config.now request.now
+        (user_challenged request.now (Some state.now) (state_for request.now now tables.now))
+        (credentials_of credentials.now) }
+    ensures place { IfOk result (λ user. user < length config.now.users) }
+{
+    let Some(user) = find_challenged(config, tables, now, request.client, state) else {
+        return Err(Denial::StateUnknown);
+    };
+    let User { name, answer, .. } = config.user_at(user);
+    if credentials.name != name.octets() {
+        return Err(Denial::WrongState);
+    }
+    match answer {
+        Some(answer) if password_matches(config, request, &credentials.password, answer.octets()) =>
+            { Ok(user) }
+        _ => Err(Denial::AccessDenied),
+    }
+}
+
+// The place of the user whose challenge a client answers with this State.
+fn find_challenged(
+    config: &Config,
+    tables: &Tables,
+    now: u64,
+    client: u32,
+    state: &[u8],
+) -> Option<u32>
+    requires moment { now ≤ moment_max }
+    requires usable { AreUsable config.now tables.now }
+    ensures user { result ≡ option_map (λ challenge. challenge.user)
+        (answered state.now client (cut_challenges now tables.now.challenges.table)) }
+    ensures place { IfSome result (λ user. user < length config.now.users) }
+{
+    tables.challenges.seek(state, client, now)
 }
 
 // The place of the user whose name and password were sent.

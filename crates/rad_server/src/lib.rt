@@ -13,13 +13,18 @@ mod accounting;
 mod answer;
 mod credentials;
 mod denial;
+mod entry;
 mod lawful;
 mod occurrence;
 mod plan;
+mod repeats;
 mod reply;
 mod server;
+mod tables;
 
 pub use answer::Answer;
 pub use denial::Denial;
+pub use entry::Entry;
 pub use lawful::lawful_steps;
+pub use repeats::runs_repeat;
 pub use server::Server;

@@ -6,18 +6,19 @@ ghost use Rattle.rad_packet.specs.Types.{type_proxy_state};
 ghost use Rattle.rad_auth.specs.Admission.{proxy_states_max, proxy_states_size};
 ghost use Rattle.rad_auth.specs.Sealing.{IsReply};
 ghost use Rattle.rad_server.specs.Plans.{access_front, with_attributes};
-ghost use Rattle.rad_server.specs.Replies.{accept_attributes, access_accept, access_reject, access_reply, accounting_response, attribute_if_any, class_value, four_octets, status_reply};
+ghost use Rattle.rad_server.specs.Replies.{accept_attributes, access_accept, access_challenge, access_reject, access_reply, accounting_response, attribute_if_any, class_value, four_octets, status_reply};
 
 use crate::denial::Denial;
 use rad_auth::Door;
 use rad_config::User;
 use rad_packet::attribute::{
     CLASS, FRAMED_IP_ADDRESS, FRAMED_PROTOCOL, MESSAGE_AUTHENTICATOR, PROXY_STATE, REPLY_MESSAGE,
-    SERVICE_TYPE, SESSION_TIMEOUT,
+    SERVICE_TYPE, SESSION_TIMEOUT, STATE,
 };
-use rad_packet::code::{ACCESS_ACCEPT, ACCESS_REJECT, ACCOUNTING_RESPONSE};
+use rad_packet::code::{ACCESS_ACCEPT, ACCESS_CHALLENGE, ACCESS_REJECT, ACCOUNTING_RESPONSE};
 use rad_packet::{Body, Packet};
 use rad_pool::Grant;
+use rad_recent::state_value;
 use std::alloc::{AllocError, Global};
 
 /// The Access-Accept of a session.
@@ -51,6 +52,29 @@ pub(crate) fn access_reject(
 {
     let mut body = access_body(alloc, ACCESS_REJECT)?;
     body.push(REPLY_MESSAGE, denial.text().as_bytes())?;
+    copy_proxy_states(packet, &mut body)?;
+    Ok(body)
+}
+
+/// The Access-Challenge of a user with this number and draw.
+pub(crate) fn access_challenge(
+    alloc: Global,
+    user: &User,
+    number: u64,
+    draw: &[u8; 16],
+    packet: &Packet,
+) -> Result<Body, AllocError>
+    requires challenge { IfSome user.now.challenge (λ text. length text ≤ value_max) }
+    requires proxy_states { proxy_states_size packet.now ≤ proxy_states_max }
+    ensures value { IfOk result
+        (λ body. body ≡ access_challenge user.now number draw.now packet.now) }
+    ensures reply { IfOk result IsReply }
+{
+    let mut body = access_body(alloc, ACCESS_CHALLENGE)?;
+    if let Some(text) = &user.challenge {
+        body.push(REPLY_MESSAGE, text.octets())?;
+    }
+    body.push(STATE, &state_value(number, draw))?;
     copy_proxy_states(packet, &mut body)?;
     Ok(body)
 }

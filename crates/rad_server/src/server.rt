@@ -8,9 +8,11 @@ ghost use Rattle.rad_server.specs.Steps.{IsSealable, step};
 use crate::answer::Answer;
 use crate::lawful::lawful_steps;
 use crate::plan::{commit, make_room, plan_step};
+use crate::tables::Tables;
 use rad_auth::{Request, admitted_is_answerable};
 use rad_config::Config;
 use rad_pool::Sessions;
+use rad_recent::{Challenges, Recent};
 use std::alloc::{AllocError, Global};
 use std::marker::Model;
 
@@ -22,7 +24,7 @@ pub struct Server<'c> {
     alloc: Global,
     config: &'c Config,
     clock: u64,
-    sessions: Sessions,
+    tables: Tables,
 }
 
 impl<'c> Model for Server<'c> {
@@ -33,10 +35,10 @@ impl<'c> Model for Server<'c> {
 
     ghost view = { λ server. record {
       configuration = server.config.now;
-      state = state_with server.clock server.sessions.table;
+      state = state_with server.clock server.tables;
     } };
 
-    ghost invariant = { λ server. IsLawful server.config.now (state_with server.clock server.sessions.table) };
+    ghost invariant = { λ server. IsLawful server.config.now (state_with server.clock server.tables) };
 }
 
 impl<'c> Server<'c> {
@@ -45,12 +47,11 @@ impl<'c> Server<'c> {
         ensures configuration { IfOk result (λ server. server.configuration ≡ config.now) }
         ensures state { IfOk result (λ server. server.state ≡ opening config.now) }
     {
-        let sessions = Sessions::open(alloc, config)?;
         Ok(Server {
             alloc,
             config,
             clock: 0,
-            sessions,
+            tables: Tables::open(alloc, config)?,
         })
     }
 
@@ -72,13 +73,27 @@ impl<'c> Server<'c> {
     pub fn sessions(&self) -> &Sessions
         ensures { result.now.table ≡ self.now.state.table }
     {
-        &self.sessions
+        &self.tables.sessions
+    }
+
+    /// The kept replies.
+    pub fn recent(&self) -> &Recent
+        ensures { result.now.table ≡ self.now.state.replies }
+    {
+        &self.tables.recent
+    }
+
+    /// The challenges that wait for an answer.
+    pub fn challenges(&self) -> &Challenges
+        ensures { result.now.table ≡ self.now.state.waiting }
+    {
+        &self.tables.challenges
     }
 
     /// Answers an admitted request, and goes on to the next state.
     ///
     /// The request was admitted with the clients of the server's configuration. The moment is in milliseconds, at most `MOMENT_MAX`,
-    /// and may be earlier than the clock, which doesn't go back. The draw will be part of the State of a challenge. If memory is
+    /// and may be earlier than the clock, which doesn't go back. The draw becomes part of the State of a challenge. If memory is
     /// refused, nothing has changed.
     pub fn step(
         &mut self,
@@ -101,26 +116,30 @@ impl<'c> Server<'c> {
             alloc,
             config,
             clock,
-            sessions,
+            tables,
         } = self;
         let now = (*clock).max(moment);
-        let plan = plan_step(*alloc, config, sessions, now, request)?;
-        make_room(sessions, &plan.change)?;
-        commit(config, sessions, now, request.client, &plan.change);
+        let plan = plan_step(*alloc, config, tables, now, request, draw)?;
+        make_room(tables, now, &plan)?;
         *clock = now;
-        Ok(Answer::Send(plan.body))
+        Ok(commit(config, tables, now, request, draw, plan))
     }
 
     /// An equal server over the same configuration.
     pub fn copy(&self) -> Result<Server<'c>, AllocError>
         ensures { IfOk result (λ copy. copy ≡ self.now) }
     {
-        let sessions = self.sessions.copy()?;
+        let Server {
+            alloc,
+            config,
+            clock,
+            tables,
+        } = self;
         Ok(Server {
-            alloc: self.alloc,
-            config: self.config,
-            clock: self.clock,
-            sessions,
+            alloc: *alloc,
+            config,
+            clock: *clock,
+            tables: tables.copy()?,
         })
     }
 
@@ -128,8 +147,12 @@ impl<'c> Server<'c> {
     pub fn same(&self, other: &Server) -> bool
         ensures { IsTrue result ↔ (self.now ≡ other.now) }
     {
-        self.clock == other.clock
-            && self.sessions.same(&other.sessions)
-            && self.config.same(other.config)
+        let Server {
+            config,
+            clock,
+            tables,
+            ..
+        } = self;
+        *clock == other.clock && tables.same(&other.tables) && config.same(other.config)
     }
 }

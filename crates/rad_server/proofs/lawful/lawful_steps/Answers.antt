@@ -1,19 +1,11 @@
-use Rattle.std.proofs.Common.{arith, refl}
-use Rattle.rad_config.specs.Spans.{spans_of}
-use Rattle.rad_server.proofs.LawfulLemmas.{step_is_lawful}
+use Rattle.rad_server.proofs.LawfulLemmas.{opening_is_lawful, step_is_lawful}
 use Rattle.rad_server.proofs.lawful.lawful_steps.Goals as goal
 
 pub returns-clause-opening : goal.returns-clause-opening
-returns-clause-opening c = λ configuration. record {
-  clock = omega arith;
-  spans = refl;
-  table = c.lawful_tables.ensures.opening configuration 0 (spans_of configuration);
-  kept = refl;
-  challenges = refl;
-  next_challenge = (omega arith, omega arith);
-}
+returns-clause-opening c = opening_is_lawful c.lawful_tables.ensures.opening
 
 pub returns-clause-step : goal.returns-clause-step
-returns-clause-step c =
+returns-clause-step c = λ configuration state request moment draw valid answerable within drawn lawful.
     let laws = c.lawful_tables.ensures in
-    step_is_lawful (record { expiry = laws.expiry; grant = laws.grant; start = laws.start; stop = laws.stop })
+    step_is_lawful (record { expiry = laws.expiry; grant = laws.grant; start = laws.start; stop = laws.stop }) configuration state request moment draw
+    (record { valid = valid; answerable = answerable; drawn = drawn }) within lawful

@@ -1,0 +1,35 @@
+-- Histories: what a server of one thread answers to requests that come one after another.
+use Rattle.std.specs.Prelude.{◌≡◌, ◌≤◌, List, [], ◌∷◌, length}
+use Rattle.rad_auth.specs.Admission.{IsAdmitted, own_datagram}
+use Rattle.rad_auth.specs.Authenticators.{sixteen_zeros}
+use Rattle.rad_auth.specs.Clients.{Client}
+use Rattle.rad_auth.specs.Datagrams.{Datagram}
+use Rattle.rad_auth.specs.declared.arrival.Request.{Request}
+use Rattle.rad_config.specs.Configurations.{Configuration}
+use Rattle.rad_config.specs.Spans.{moment_max}
+use Rattle.rad_server.specs.States.{State}
+use Rattle.rad_server.specs.Steps.{step}
+use Rattle.rad_server.specs.declared.entry.Entry.{Entry}
+
+-- the datagram that an entry's request was, without padding
+abbrev pub datagram_of_entry : Entry → Datagram
+datagram_of_entry entry = record { source = entry.source; port = entry.port; door = entry.door; octets = entry.octets }
+
+-- the request of an entry: the one that the admission of the entry's octets gives
+pub record IsRequestOf (clients : List Client) (entry : Entry) (request : Request) : Type 0 where
+  pub own : own_datagram request ≡ datagram_of_entry entry
+  pub admitted : IsAdmitted clients request
+  pub moment : entry.moment ≤ moment_max
+  pub draw : length entry.draw ≡ length sixteen_zeros
+
+-- the step at an entry's request gives the entry's answer, and leads from one state to another
+pub record IsExchange (configuration : Configuration) (before : State) (entry : Entry) (after : State) : Type 0 where
+  pub request : Request
+  pub asked : IsRequestOf configuration.clients entry request
+  pub answered : step configuration before request entry.moment entry.draw ≡ (entry.answer, after)
+
+-- a history leads from one state to another, each entry by the step from the state that those before it led to
+abbrev pub Run : Configuration → State → List Entry → State → Type 0
+Run configuration before [] after = before ≡ after
+Run configuration before (entry ∷ rest) after =
+    (next : State) × IsExchange configuration before entry next × Run configuration next rest after

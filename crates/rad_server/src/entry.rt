@@ -1,0 +1,25 @@
+//! Entries of a history.
+use crate::answer::Answer;
+use rad_auth::Door;
+use rad_recent::Octets;
+
+/// A request that was answered, and its answer.
+///
+/// Source: RFC 2865, section 3.
+#[derive(Drop)]
+pub struct Entry {
+    /// The caller's mark of the request.
+    pub tag: u64,
+    /// The source address, most significant octet first.
+    pub source: u32,
+    /// The source port.
+    pub port: u16,
+    pub door: Door,
+    /// The octets of the request up to Length.
+    pub octets: Octets,
+    /// The moment of the request, in milliseconds.
+    pub moment: u64,
+    /// The draw for the State of a challenge.
+    pub draw: [u8; 16],
+    pub answer: Answer,
+}

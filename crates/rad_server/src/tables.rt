@@ -1,0 +1,72 @@
+//! The tables of what the server remembers.
+ghost use Rattle.std.specs.Prelude.{◌≡◌, ◌≤◌, ◌↔◌, IfOk, IsTrue, true};
+ghost use Rattle.rad_config.specs.Spans.{moment_max, spans_of};
+ghost use Rattle.rad_pool.specs.Sessions.{AreSame as AreSameSessions, cut};
+ghost use Rattle.rad_recent.specs.Challenges.{AreSame as AreSameChallenges, cut_challenges};
+ghost use Rattle.rad_recent.specs.Recent.{cut_replies};
+ghost use Rattle.rad_server.specs.Plans.{AreLive, AreTheSame, HaveRoomOf};
+ghost use Rattle.rad_server.specs.Servers.{state_with};
+ghost use Rattle.rad_server.specs.States.{opening, without_expired};
+
+use rad_config::Config;
+use rad_pool::Sessions;
+use rad_recent::{Challenges, Recent};
+use std::alloc::{AllocError, Global};
+
+/// The tables of what the server remembers.
+#[derive(Drop)]
+pub(crate) struct Tables {
+    pub sessions: Sessions,
+    pub recent: Recent,
+    pub challenges: Challenges,
+}
+
+impl Tables {
+    /// Nothing is remembered yet.
+    pub fn open(alloc: Global, config: &Config) -> Result<Tables, AllocError>
+        ensures { IfOk result (λ tables. state_with 0 tables ≡ opening config.now) }
+    {
+        Ok(Tables {
+            sessions: Sessions::open(alloc, config)?,
+            recent: Recent::open(alloc, config)?,
+            challenges: Challenges::open(alloc, config)?,
+        })
+    }
+
+    /// Removes what is no longer live. Memory that is ready stays ready.
+    pub fn expire(&mut self, now: u64)
+        requires { now ≤ moment_max }
+        ensures cut { state_with now self.new ≡ without_expired (state_with now self.old) }
+        ensures live { AreLive now self.new }
+        ensures room { HaveRoomOf self.old self.new }
+    {
+        let Tables {
+            sessions,
+            recent,
+            challenges,
+        } = self;
+        sessions.expire(now);
+        recent.expire(now);
+        challenges.expire(now);
+    }
+
+    /// Equal tables.
+    pub fn copy(&self) -> Result<Tables, AllocError>
+        ensures { IfOk result (λ copy. state_with 0 copy ≡ state_with 0 self.now) }
+    {
+        Ok(Tables {
+            sessions: self.sessions.copy()?,
+            recent: self.recent.copy()?,
+            challenges: self.challenges.copy()?,
+        })
+    }
+
+    /// Whether the other tables have the same rows and the same next numbers.
+    pub fn same(&self, other: &Tables) -> bool
+        ensures { IsTrue result ↔ AreTheSame self.now other.now }
+    {
+        self.sessions.same(&other.sessions)
+            && self.recent.same(&other.recent)
+            && self.challenges.same(&other.challenges)
+    }
+}
