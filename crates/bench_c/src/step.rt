@@ -1,7 +1,8 @@
 //! Steps of the server: `bench/step.c`.
 //!
-//! The export opens a server, grants it sessions, and takes steps with one admitted request on copies of it. All moments are
-//! 0, so that no session expires. It returns how many replies had the wanted Code; 0 without memory.
+//! The export opens a server, grants it sessions, and takes steps with one admitted request on copies of it. A reply is kept for a
+//! second, which passes between two steps, so that each is answered afresh, but for those that measure repeats. No session expires
+//! within a day. It returns how many replies had the wanted Code; 0 without memory.
 ghost use Rattle.std.specs.Prelude.{◌≡◌, IfSome};
 ghost use Rattle.rad_auth.specs.Admission.{IsAdmitted};
 
@@ -14,10 +15,12 @@ use rad_packet::Frame;
 use rad_server::{Answer, Server};
 use std::alloc::Global;
 
-// One client, and a user who may have as many sessions as there may be.
-const CONFIGURATION: &str = "[[client]]\naddress = \"192.168.1.16\"\nsecret = \"xyzzy5461\"\n\
+// One client, a user who may have as many sessions as there may be, and one who is challenged.
+const CONFIGURATION: &str =
+    "window = 1\nhold = 86400\n[[client]]\naddress = \"192.168.1.16\"\nsecret = \"xyzzy5461\"\n\
     [[user]]\nname = \"many\"\npassword = \"a good password\"\nsessions = 4096\n\
-    service = 2\nprotocol = 1\ntimeout = 3600\n";
+    service = 2\nprotocol = 1\ntimeout = 3600\n\
+    [[user]]\nname = \"asked\"\npassword = \"a good password\"\nchallenge = \"And?\"\nanswer = \"So\"\n";
 
 // Takes steps on copies of a server that has so many sessions.
 fn step_on_copies(
@@ -34,7 +37,7 @@ fn step_on_copies(
     let mut replies: usize = 0;
     for _ in 0..copies {
         let mut copy = server.copy().ok()?;
-        replies = replies.wrapping_add(take_steps(&mut copy, &request, kind, steps)?);
+        replies = replies.wrapping_add(take_steps(&mut copy, &request, kind, sessions, steps)?);
     }
     Some(replies)
 }
@@ -46,21 +49,29 @@ fn server_with<'c>(alloc: Global, config: &'c Config, sessions: u32) -> Option<S
     let mut server = Server::open(alloc, config).ok()?;
     let datagram = datagram(alloc, config.clients(), Kind::Accept, 0)?;
     let request = admit(config.clients(), Kind::Accept, datagram.octets())?;
-    let granted = take_steps(&mut server, &request, Kind::Accept, sessions)?;
+    let granted = take_steps(&mut server, &request, Kind::Accept, 0, sessions)?;
     if granted < sessions as usize {
         return None;
     }
     Some(server)
 }
 
-// Takes steps with one request, and returns how many replies were as wanted.
-fn take_steps(server: &mut Server, request: &Request, kind: Kind, steps: u32) -> Option<usize>
+// Takes steps with one request, after so many others, and returns how many replies were as wanted.
+fn take_steps(
+    server: &mut Server,
+    request: &Request,
+    kind: Kind,
+    first: u32,
+    steps: u32,
+) -> Option<usize>
     requires { IsAdmitted server.old.configuration.clients request.now }
     ensures { server.new.configuration ≡ server.old.configuration }
 {
     let mut replies: usize = 0;
-    'steps: for _ in 0..steps {
-        let answer = server.step(request, 0, &[0; 16]).ok()?;
+    'steps: for step in 0..steps {
+        let answer = server
+            .step(request, kind.moment(first, step), &[0; 16])
+            .ok()?;
         if is_wanted(&answer, kind) {
             replies = replies.wrapping_add(1);
         }

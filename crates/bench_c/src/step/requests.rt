@@ -1,6 +1,8 @@
 //! The requests.
 ghost use Rattle.std.specs.Prelude.{◌≡◌, ◌≤◌, length, IfOk};
+ghost use Rattle.rad_packet.specs.Attributes.{value_max};
 ghost use Rattle.rad_auth.specs.Sealing.{IsRequestCode};
+ghost use Rattle.rad_config.specs.Spans.{moment_max};
 
 use crate::admission::bodies::{ACCESS, ACCT_DELAY_TIME, ACCT_SESSION_ID, EVENT_TIMESTAMP, with};
 use rad_auth::{Door, PASSWORD_MAX, Secret, hide};
@@ -34,6 +36,10 @@ pub(crate) enum Kind {
     Start,
     /// A Status-Server.
     Status,
+    /// An Access-Request with a wrong password, again and again.
+    Repeat,
+    /// An Access-Request that is challenged.
+    Challenge,
 }
 
 impl Kind {
@@ -42,22 +48,37 @@ impl Kind {
             0 => Kind::Accept,
             1 => Kind::Reject,
             2 => Kind::Start,
-            _ => Kind::Status,
+            3 => Kind::Status,
+            4 => Kind::Repeat,
+            _ => Kind::Challenge,
         }
     }
 
     pub fn door(self) -> Door {
         match self {
             Kind::Start => Door::Acct,
-            Kind::Accept | Kind::Reject | Kind::Status => Door::Auth,
+            _ => Door::Auth,
         }
+    }
+
+    /// The moment of a step, when the server has taken `first` steps. A reply is kept for a second, so a step is a repeat if and only
+    /// if no second passes between it and the one before.
+    pub fn moment(self, first: u32, step: u32) -> u64
+        ensures { result ≤ moment_max }
+    {
+        let seconds = match self {
+            Kind::Repeat => u64::from(first),
+            _ => u64::from(first) + u64::from(step),
+        };
+        seconds * 1_000
     }
 
     /// The Code of the reply.
     pub fn reply_code(self) -> u8 {
         match self {
             Kind::Accept | Kind::Status => code::ACCESS_ACCEPT,
-            Kind::Reject => code::ACCESS_REJECT,
+            Kind::Reject | Kind::Repeat => code::ACCESS_REJECT,
+            Kind::Challenge => code::ACCESS_CHALLENGE,
             Kind::Start => code::ACCOUNTING_RESPONSE,
         }
     }
@@ -73,8 +94,9 @@ pub(crate) fn request(
     ensures { IfOk result (λ body. IsRequestCode body.code) }
 {
     match kind {
-        Kind::Accept => access_request(alloc, secret, b"a good password"),
-        Kind::Reject => access_request(alloc, secret, b"a wrong password"),
+        Kind::Accept => access_request(alloc, secret, b"many", b"a good password"),
+        Kind::Reject | Kind::Repeat => access_request(alloc, secret, b"many", b"a wrong password"),
+        Kind::Challenge => access_request(alloc, secret, b"asked", b"a good password"),
         Kind::Start => start(alloc, sessions),
         Kind::Status => with(
             Body::new(alloc, code::STATUS_SERVER),
@@ -83,14 +105,20 @@ pub(crate) fn request(
     }
 }
 
-fn access_request(alloc: Global, secret: &Secret, password: &[u8]) -> Result<Body, AllocError>
-    requires { length password.now ≤ 16 }
+fn access_request(
+    alloc: Global,
+    secret: &Secret,
+    name: &[u8],
+    password: &[u8],
+) -> Result<Body, AllocError>
+    requires name { length name.now ≤ value_max }
+    requires password { length password.now ≤ 16 }
     ensures { IfOk result (λ body. body.code ≡ 1) }
 {
     let mut value = [0; PASSWORD_MAX];
     let _len = hide(secret, &AUTHENTICATOR, password, &mut value);
     let mut body = with(Body::new(alloc, code::ACCESS_REQUEST), &ACCESS)?;
-    body.push(attribute::USER_NAME, b"many")?;
+    body.push(attribute::USER_NAME, name)?;
     body.push(attribute::USER_PASSWORD, &value[..16])?;
     Ok(body)
 }
