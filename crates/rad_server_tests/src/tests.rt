@@ -4,10 +4,12 @@ mod access;
 mod access_order;
 mod accounting;
 mod campus;
+mod challenges;
 mod chap;
 mod copies;
 mod full;
 mod playing;
+mod repeats;
 mod replies;
 mod requests;
 mod sessions;
@@ -26,14 +28,28 @@ use std::test::Fail;
 /// The port that requests come from, where it doesn't matter.
 const PORT: u16 = 1645;
 
-/// What the server must answer: the attributes of the reply, without the Message-Authenticator of an Access-Accept or an
-/// Access-Reject.
+/// What the server must answer: the attributes of the reply, without the Message-Authenticator of an Access-Accept, an
+/// Access-Reject or an Access-Challenge.
 #[derive(Clone, Copy)]
 enum Answered<'a> {
     Accept(&'a [u8]),
     Reject(&'a [u8]),
+    Challenge(&'a [u8]),
     /// An Accounting-Response.
     Response(&'a [u8]),
+    /// Nothing.
+    Busy,
+}
+
+/// What a table is filled with.
+#[derive(Clone, Copy)]
+enum Filling {
+    /// Sessions of `many`, numbered in turn from 1 on.
+    Sessions,
+    /// Kept Accounting-Responses.
+    Replies,
+    /// Challenges for `kay`, numbered in turn from 1 on.
+    Challenges,
 }
 
 /// A step, and what must come of it.
@@ -41,14 +57,22 @@ enum Answered<'a> {
 enum Step {
     /// A request, and its answer.
     Ask(Asked, Answered<'static>),
+    /// The same from another port.
+    AskFrom(u16, Asked, Answered<'static>),
+    /// A request whose answer changes nothing, and its answer. The clock is at the step's moment before.
+    Still(Asked, Answered<'static>),
     /// The same for the server and then for a copy of it: they are the same before, and once both have answered, but not between.
     Copy(Asked, Answered<'static>),
     /// A server that is opened with this configuration is the same, or isn't.
     Open(&'static str, bool),
-    /// `many` is granted so many sessions, numbered in turn from 1 on.
-    Fill(u16),
+    /// So many requests, each with a port or an Identifier of its own, and their answers.
+    Fill(Filling, u16),
     /// The number, phase and moment of the grant of each session, oldest first. The clock is at the step's moment.
     Sessions(&'static [(u64, Phase, u64)]),
+    /// The port and the Identifier of each request whose reply is kept, and the moment of the reply, oldest first.
+    Replies(&'static [(u16, u8, u64)]),
+    /// The number and the moment of each challenge, oldest first.
+    Challenges(&'static [(u64, u64)]),
 }
 
 /// The moment of a step in milliseconds, the step, and what is said if it has another outcome.

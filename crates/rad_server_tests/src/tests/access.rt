@@ -1,9 +1,9 @@
 use super::Step::{Ask, Sessions};
-use super::play;
 use super::requests::Asked::Access;
 use super::requests::Sent::{Chap, Hidden, Plain};
 use super::requests::{AUTHENTICATOR, NEMO, Sent};
 use super::texts::{FIRST, MALFORMED_REQUEST, SECOND, THIRD};
+use super::{Row, play};
 use rad_packet::attribute::{STATE, USER_NAME, USER_PASSWORD};
 use std::test::Fail;
 
@@ -23,7 +23,7 @@ const LONGEST: &[u8; 128] = b"\
 
 #[test]
 fn a_long_password_is_right(rt: HostRuntime) -> Result<(), Fail> {
-    let rows = [
+    const ROWS: &[Row] = &[
         (
             0,
             Ask(
@@ -49,12 +49,12 @@ fn a_long_password_is_right(rt: HostRuntime) -> Result<(), Fail> {
             "128 octets",
         ),
     ];
-    play(&rt, rt.alloc(), &rows)
+    play(&rt, rt.alloc(), ROWS)
 }
 
 #[test]
 fn a_request_without_one_name_and_one_password_is_malformed(rt: HostRuntime) -> Result<(), Fail> {
-    let rows = [
+    const ROWS: &[Row] = &[
         (
             0,
             Ask(
@@ -105,5 +105,5 @@ fn a_request_without_one_name_and_one_password_is_malformed(rt: HostRuntime) -> 
         ),
         (0, Sessions(&[]), "no session"),
     ];
-    play(&rt, rt.alloc(), &rows)
+    play(&rt, rt.alloc(), ROWS)
 }

@@ -1,12 +1,12 @@
-use super::Step::{Ask, Sessions};
-use super::play;
+use super::Step::{Ask, Challenges, Sessions};
 use super::requests::Asked::Access;
 use super::requests::Sent::{Hidden, Plain};
 use super::requests::{EXAMPLE, KAY, NEMO, SIGNATURE, Sent};
 use super::texts::{
-    ACCESS_DENIED, EAP_NOT_SUPPORTED, MALFORMED_REQUEST, NEMO_FIRST, SERVER_FULL, SESSION_LIMIT,
-    STATE_UNKNOWN,
+    ACCESS_DENIED, EAP_NOT_SUPPORTED, FIRST_CHALLENGE, MALFORMED_REQUEST, NEMO_FIRST,
+    SESSION_LIMIT, STATE_UNKNOWN,
 };
+use super::{Row, play};
 use rad_packet::attribute::{EAP_MESSAGE, STATE, USER_NAME};
 use std::test::Fail;
 
@@ -22,7 +22,7 @@ const ANY_STATE: Sent = Plain(STATE, &[0; 24]);
 
 #[test]
 fn the_first_reason_is_reported(rt: HostRuntime) -> Result<(), Fail> {
-    let rows = [
+    const ROWS: &[Row] = &[
         (
             0,
             Ask(Access(1, &[SIGNATURE, EAP, ANY_STATE]), EAP_NOT_SUPPORTED),
@@ -76,13 +76,12 @@ fn the_first_reason_is_reported(rt: HostRuntime) -> Result<(), Fail> {
             "the limit of sessions",
         ),
     ];
-    play(&rt, rt.alloc(), &rows)
+    play(&rt, rt.alloc(), ROWS)
 }
 
-// No challenge is made yet.
 #[test]
-fn a_user_with_a_challenge_is_granted_nothing(rt: HostRuntime) -> Result<(), Fail> {
-    let rows = [
+fn a_user_with_a_challenge_is_challenged_first(rt: HostRuntime) -> Result<(), Fail> {
+    const ROWS: &[Row] = &[
         (
             0,
             Ask(Access(0, &[KAY, Hidden(b"pwd")]), ACCESS_DENIED),
@@ -95,10 +94,11 @@ fn a_user_with_a_challenge_is_granted_nothing(rt: HostRuntime) -> Result<(), Fai
         ),
         (
             0,
-            Ask(Access(2, &[KAY, Hidden(b"pw")]), SERVER_FULL),
+            Ask(Access(2, &[KAY, Hidden(b"pw")]), FIRST_CHALLENGE),
             "a right password",
         ),
         (0, Sessions(&[]), "no session"),
+        (0, Challenges(&[(1, 0)]), "one challenge"),
     ];
-    play(&rt, rt.alloc(), &rows)
+    play(&rt, rt.alloc(), ROWS)
 }

@@ -1,9 +1,9 @@
 use super::Step::{Ask, Sessions};
-use super::play;
 use super::requests::Asked::{Account, OtherAccount};
 use super::requests::Sent::Plain;
 use super::requests::{EXAMPLE, FIRST_CLASS, NEMO, START, STOP, Sent};
 use super::texts::{NEMO_FIRST, RESPONSE};
+use super::{Row, play};
 use rad_packet::attribute::{ACCT_STATUS_TYPE, CLASS, FRAMED_IP_ADDRESS, USER_NAME};
 use rad_pool::Phase::{Active, Ended, Pending};
 use std::test::Fail;
@@ -27,7 +27,7 @@ const DORY: Sent = Plain(USER_NAME, b"dory");
 
 #[test]
 fn a_session_is_ended_by_its_own_client(rt: HostRuntime) -> Result<(), Fail> {
-    let rows = [
+    const ROWS: &[Row] = &[
         (0, Ask(EXAMPLE, NEMO_FIRST), "nemo"),
         (
             1_000,
@@ -47,12 +47,12 @@ fn a_session_is_ended_by_its_own_client(rt: HostRuntime) -> Result<(), Fail> {
         ),
         (2_000, Sessions(&[(1, Ended, 0)]), "it has ended"),
     ];
-    play(&rt, rt.alloc(), &rows)
+    play(&rt, rt.alloc(), ROWS)
 }
 
 #[test]
 fn a_session_is_meant_by_its_address_and_user(rt: HostRuntime) -> Result<(), Fail> {
-    let rows = [
+    const ROWS: &[Row] = &[
         (0, Ask(EXAMPLE, NEMO_FIRST), "nemo"),
         (
             1_000,
@@ -88,12 +88,12 @@ fn a_session_is_meant_by_its_address_and_user(rt: HostRuntime) -> Result<(), Fai
         ),
         (2_000, Sessions(&[(1, Ended, 0)]), "it has ended"),
     ];
-    play(&rt, rt.alloc(), &rows)
+    play(&rt, rt.alloc(), ROWS)
 }
 
 #[test]
 fn other_reports_change_nothing(rt: HostRuntime) -> Result<(), Fail> {
-    let rows = [
+    const ROWS: &[Row] = &[
         (0, Ask(EXAMPLE, NEMO_FIRST), "nemo"),
         (
             1_000,
@@ -132,12 +132,12 @@ fn other_reports_change_nothing(rt: HostRuntime) -> Result<(), Fail> {
         ),
         (3_000, Sessions(&[(1, Active, 0)]), "the session is active"),
     ];
-    play(&rt, rt.alloc(), &rows)
+    play(&rt, rt.alloc(), ROWS)
 }
 
 #[test]
 fn the_first_attribute_that_counts_decides(rt: HostRuntime) -> Result<(), Fail> {
-    let rows = [
+    const ROWS: &[Row] = &[
         (0, Ask(EXAMPLE, NEMO_FIRST), "nemo"),
         (
             1_000,
@@ -155,5 +155,5 @@ fn the_first_attribute_that_counts_decides(rt: HostRuntime) -> Result<(), Fail> 
         ),
         (2_000, Sessions(&[(1, Ended, 0)]), "it has ended"),
     ];
-    play(&rt, rt.alloc(), &rows)
+    play(&rt, rt.alloc(), ROWS)
 }

@@ -1,9 +1,9 @@
 use super::Step::Ask;
-use super::play;
 use super::requests::Asked::Access;
 use super::requests::Sent::{Chap, Hidden, Plain};
 use super::requests::{AUTHENTICATOR, MANY, Sent};
 use super::texts::{ACCESS_DENIED, FIRST, MALFORMED_REQUEST, SECOND, THIRD};
+use super::{Row, play};
 use rad_packet::attribute::{CHAP_CHALLENGE, CHAP_PASSWORD};
 use std::test::Fail;
 
@@ -24,7 +24,7 @@ const SHORT_RESPONSE: Sent = Chap(b"p", b"abcd");
 
 #[test]
 fn a_password_may_be_sent_by_chap(rt: HostRuntime) -> Result<(), Fail> {
-    let rows = [
+    const ROWS: &[Row] = &[
         (
             0,
             Ask(Access(0, &[MANY, RIGHT]), FIRST),
@@ -85,5 +85,5 @@ fn a_password_may_be_sent_by_chap(rt: HostRuntime) -> Result<(), Fail> {
             "CHAP-Challenges beside a User-Password",
         ),
     ];
-    play(&rt, rt.alloc(), &rows)
+    play(&rt, rt.alloc(), ROWS)
 }

@@ -1,10 +1,11 @@
-use super::Answered::Accept;
-use super::Step::{Ask, Fill, Sessions};
-use super::play;
-use super::requests::Asked::Access;
+use super::Answered::{Accept, Busy, Challenge};
+use super::Step::{Ask, AskFrom, Challenges, Fill, Replies, Sessions, Still};
+use super::requests::Asked::{Access, Account, OtherAccount, Status};
 use super::requests::Sent::Hidden;
-use super::requests::{BRUCE, DORY, DORY_AGAIN, EXAMPLE, NEMO};
-use super::texts::{NO_ADDRESS_LEFT, SERVER_FULL, SESSION_LIMIT};
+use super::requests::{BRUCE, DORY, DORY_AGAIN, EXAMPLE, KAY, NEMO, SIGNATURE, START, STOP};
+use super::texts::{NO_ADDRESS_LEFT, RESPONSE, SERVER_FULL, SESSION_LIMIT};
+use super::{Filling, PORT, Row, play};
+use rad_auth::Door::Acct;
 use rad_pool::Phase::Pending;
 use std::test::Fail;
 
@@ -15,10 +16,15 @@ const NEMO_LAST: &[u8; 32] = b"\
     \x08\x06\x0a\x00\x00\x01\
     \x19\x0eRAP1\x00\x00\x00\x00\x00\x00\x10\x00";
 
+/// What kay is sent with the challenge of number 1,025.
+const CHALLENGED_LAST: &[u8; 33] = b"\
+    \x12\x07code?\
+    \x18\x1a\0\0\0\0\0\0\x04\x01\0\0\0\0\0\0\0\0\0\0\0\0\0\0\0\x01";
+
 #[test]
 fn there_are_4096_sessions_and_no_more(rt: HostRuntime) -> Result<(), Fail> {
-    let rows = [
-        (0, Fill(4_096), "as many as there may be"),
+    const ROWS: &[Row] = &[
+        (0, Fill(Filling::Sessions, 4_096), "as many as there may be"),
         (30_000, Ask(DORY, SERVER_FULL), "no room for dory"),
         (
             60_000,
@@ -34,13 +40,13 @@ fn there_are_4096_sessions_and_no_more(rt: HostRuntime) -> Result<(), Fail> {
             "the next number",
         ),
     ];
-    play(&rt, rt.alloc(), &rows)
+    play(&rt, rt.alloc(), ROWS)
 }
 
 #[test]
 fn a_full_server_is_reported_last(rt: HostRuntime) -> Result<(), Fail> {
-    let rows = [
-        (0, Fill(4_095), "room for one more"),
+    const ROWS: &[Row] = &[
+        (0, Fill(Filling::Sessions, 4_095), "room for one more"),
         (0, Ask(EXAMPLE, Accept(NEMO_LAST)), "nemo"),
         (
             30_000,
@@ -58,5 +64,70 @@ fn a_full_server_is_reported_last(rt: HostRuntime) -> Result<(), Fail> {
             "bruce lacks no more than room",
         ),
     ];
-    play(&rt, rt.alloc(), &rows)
+    play(&rt, rt.alloc(), ROWS)
+}
+
+#[test]
+fn there_are_4096_kept_replies_and_no_more(rt: HostRuntime) -> Result<(), Fail> {
+    const ROWS: &[Row] = &[
+        (0, Fill(Filling::Replies, 4_096), "as many as there may be"),
+        (
+            29_999,
+            Ask(Account(0, &[START]), RESPONSE),
+            "a repeat of the first",
+        ),
+        (
+            29_999,
+            Still(OtherAccount(0, &[START]), Busy),
+            "no room for one more",
+        ),
+        (
+            29_999,
+            Still(Status(Acct, &[SIGNATURE]), RESPONSE),
+            "a Status-Server, whose reply isn't kept",
+        ),
+        (
+            29_999,
+            Ask(Account(0, &[STOP]), RESPONSE),
+            "other octets in the first one's place",
+        ),
+        (
+            30_000,
+            Ask(OtherAccount(0, &[START]), RESPONSE),
+            "the others are gone",
+        ),
+        (
+            30_000,
+            Replies(&[(PORT, 0, 29_999), (PORT, 0, 30_000)]),
+            "two are kept",
+        ),
+    ];
+    play(&rt, rt.alloc(), ROWS)
+}
+
+#[test]
+fn there_are_1024_challenges_and_no_more(rt: HostRuntime) -> Result<(), Fail> {
+    const ROWS: &[Row] = &[
+        (
+            0,
+            Fill(Filling::Challenges, 1_024),
+            "as many as there may be",
+        ),
+        (
+            59_999,
+            AskFrom(PORT + 4, Access(0, &[KAY, Hidden(b"pw")]), SERVER_FULL),
+            "no room for one more",
+        ),
+        (
+            60_000,
+            AskFrom(
+                PORT + 4,
+                Access(1, &[KAY, Hidden(b"pw")]),
+                Challenge(CHALLENGED_LAST),
+            ),
+            "the others are gone",
+        ),
+        (60_000, Challenges(&[(1_025, 60_000)]), "the next number"),
+    ];
+    play(&rt, rt.alloc(), ROWS)
 }

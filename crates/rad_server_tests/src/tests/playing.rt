@@ -2,17 +2,23 @@
 ghost use Rattle.std.specs.Prelude.{◌≡◌, IfSome};
 ghost use Rattle.rad_auth.specs.Admission.{IsAdmitted};
 
-use super::requests::{Asked, MANY, Sent};
-use super::{Answered, PORT, Step};
+use super::requests::{Asked, KAY, MANY, START, Sent};
+use super::texts::{CHALLENGED, RESPONSE};
+use super::{Answered, Filling, PORT, Step};
 use rad_auth::{Arrival, Clients, Request, check8};
 use rad_config::{Config, MOMENT_MAX};
 use rad_packet::Body;
-use rad_packet::code::{ACCESS_ACCEPT, ACCESS_REJECT, ACCOUNTING_RESPONSE};
+use rad_packet::code::{ACCESS_ACCEPT, ACCESS_CHALLENGE, ACCESS_REJECT, ACCOUNTING_RESPONSE};
 use rad_pool::{Phase, Session, Sessions};
+use rad_recent::{Challenge, Challenges, Kept, Key, Recent};
 use rad_server::{Answer, Server};
 use std::alloc::{AllocError, Global};
 
-/// The front of an Access-Accept's or Access-Reject's attributes: the Message-Authenticator, whose octets sealing puts in.
+/// The draw of each step.
+const DRAW: &[u8; 16] = b"\0\0\0\0\0\0\0\0\0\0\0\0\0\0\0\x01";
+
+/// The front of the attributes of an Access-Accept, Access-Reject or Access-Challenge: the Message-Authenticator, whose octets
+/// sealing puts in.
 const FRONT: &[u8; 18] = b"\x50\x12\0\0\0\0\0\0\0\0\0\0\0\0\0\0\0\0";
 
 /// A server, and the configuration that it was opened with.
@@ -38,21 +44,33 @@ impl<'c> Run<'c> {
     pub fn takes(&mut self, moment: u64, step: &Step) -> bool {
         match step {
             Step::Ask(asked, answered) => self.answers(moment, PORT, asked, answered),
+            Step::AskFrom(port, asked, answered) => self.answers(moment, *port, asked, answered),
+            Step::Still(asked, answered) => self.stays(moment, asked, answered),
             Step::Copy(asked, answered) => self.copies(moment, asked, answered),
             Step::Open(text, is_same) => self.is_like(text) == *is_same,
-            Step::Fill(count) => self.fills(moment, *count),
+            Step::Fill(filling, count) => self.fills(moment, *filling, *count),
             Step::Sessions(wanted) => {
                 self.server.clock() == moment && are_sessions(self.server.sessions(), wanted)
             }
+            Step::Replies(wanted) => are_replies(self.server.recent(), wanted),
+            Step::Challenges(wanted) => are_challenges(self.server.challenges(), wanted),
         }
     }
 
     /// Whether a request at a moment, from a port, is answered as it must be.
     pub fn answers(&mut self, moment: u64, port: u16, asked: &Asked, answered: &Answered) -> bool {
         match self.answer(moment, port, asked) {
-            Some(body) => is_answer(&body, answered),
+            Some(answer) => is_answer(&answer, answered),
             None => false,
         }
+    }
+
+    // Whether a request is answered as it must be, and the server is the same after it.
+    fn stays(&mut self, moment: u64, asked: &Asked, answered: &Answered) -> bool {
+        let Ok(before) = self.server.copy() else {
+            return false;
+        };
+        self.answers(moment, PORT, asked, answered) && before.same(&self.server)
     }
 
     // Whether a copy is the same, differs once this server has answered a request, and is the same once it has answered it too.
@@ -83,42 +101,53 @@ impl<'c> Run<'c> {
         }
     }
 
-    // Whether `many` is granted so many sessions, numbered in turn from 1 on, each for a request of its own.
-    fn fills(&mut self, moment: u64, count: u16) -> bool {
+    // Whether so many requests, each with a port or an Identifier of its own, are answered as they must be.
+    fn fills(&mut self, moment: u64, filling: Filling, count: u16) -> bool {
         for place in 0..count {
-            let [high, low] = place.to_be_bytes();
-            let asked = Asked::Access(low, &[MANY, Sent::Hidden(b"p")]);
-            let class = class_of(place as u64 + 1);
-            if !self.answers(
-                moment,
-                PORT + high as u16,
-                &asked,
-                &Answered::Accept(&class),
-            ) {
+            if !self.fills_one(moment, filling, place) {
                 return false;
             }
         }
         true
     }
 
-    // What is sent in reply to a request; none if it isn't admitted, or no reply is sent.
-    fn answer(&mut self, moment: u64, port: u16, asked: &Asked) -> Option<Body> {
-        if let Asked::Octets(octets) = asked {
+    // The same for the one at this place, counted from 0.
+    fn fills_one(&mut self, moment: u64, filling: Filling, place: u16) -> bool {
+        let [high, low] = place.to_be_bytes();
+        let port = PORT + high as u16;
+        let number = place as u64 + 1;
+        match filling {
+            Filling::Sessions => {
+                let asked = Asked::Access(low, &[MANY, Sent::Hidden(b"p")]);
+                self.answers(moment, port, &asked, &Answered::Accept(&class_of(number)))
+            }
+            Filling::Replies => {
+                let asked = Asked::Account(low, &[START]);
+                self.answers(moment, port, &asked, &RESPONSE)
+            }
+            Filling::Challenges => {
+                let asked = Asked::Access(low, &[KAY, Sent::Hidden(b"pw")]);
+                let challenge = challenge_of(number);
+                self.answers(moment, port, &asked, &Answered::Challenge(&challenge))
+            }
+        }
+    }
+
+    // The answer to a request; none if it isn't admitted.
+    fn answer(&mut self, moment: u64, port: u16, asked: &Asked) -> Option<Answer> {
+        if let Asked::Octets(octets) | Asked::OtherOctets(octets) = asked {
             return self.step(moment, arrival(port, asked, octets));
         }
         let frame = asked.frame(self.alloc)?;
         self.step(moment, arrival(port, asked, frame.octets()))
     }
 
-    fn step(&mut self, moment: u64, arrival: Arrival) -> Option<Body> {
+    fn step(&mut self, moment: u64, arrival: Arrival) -> Option<Answer> {
         if MOMENT_MAX < moment {
             return None;
         }
         let request = admit(self.config.clients(), arrival)?;
-        match self.server.step(&request, moment, &[0; 16]) {
-            Ok(Answer::Send(body)) => Some(body),
-            Ok(Answer::Busy) | Err(_) => None,
-        }
+        self.server.step(&request, moment, DRAW).ok()
     }
 }
 
@@ -126,6 +155,13 @@ impl<'c> Run<'c> {
 fn class_of(number: u64) -> [u8; 14] {
     let [a, b, c, d, e, f, g, h] = number.to_be_bytes();
     [25, 14, b'R', b'A', b'P', b'1', a, b, c, d, e, f, g, h]
+}
+
+// What `kay` is sent with the challenge of this number.
+fn challenge_of(number: u64) -> [u8; 33] {
+    let mut attributes = *CHALLENGED;
+    attributes[9..17].copy_from_slice(&number.to_be_bytes());
+    attributes
 }
 
 fn arrival<'a>(port: u16, asked: &Asked, octets: &'a [u8]) -> Arrival<'a> {
@@ -149,13 +185,22 @@ fn admit<'a>(clients: &Clients, arrival: Arrival<'a>) -> Option<Request<'a>>
     }
 }
 
-fn is_answer(body: &Body, answered: &Answered) -> bool {
+fn is_answer(answer: &Answer, answered: &Answered) -> bool {
+    match answer {
+        Answer::Send(body) => is_reply(body, answered),
+        Answer::Busy => matches!(answered, Answered::Busy),
+    }
+}
+
+fn is_reply(body: &Body, answered: &Answered) -> bool {
     match answered {
         Answered::Accept(attributes) => is_access_reply(body, ACCESS_ACCEPT, attributes),
         Answered::Reject(attributes) => is_access_reply(body, ACCESS_REJECT, attributes),
+        Answered::Challenge(attributes) => is_access_reply(body, ACCESS_CHALLENGE, attributes),
         Answered::Response(attributes) => {
             body.code() == ACCOUNTING_RESPONSE && body.attributes_octets() == *attributes
         }
+        Answered::Busy => false,
     }
 }
 
@@ -175,6 +220,31 @@ fn are_sessions(sessions: &Sessions, wanted: &[(u64, Phase, u64)]) -> bool {
             ..
         } = session;
         if rest.next() != Some(&(number, phase, made)) {
+            return false;
+        }
+    }
+    rest.next().is_none()
+}
+
+// Whether the replies to these requests are kept, oldest first.
+fn are_replies(recent: &Recent, wanted: &[(u16, u8, u64)]) -> bool {
+    let mut rest = wanted.iter();
+    for reply in recent.rows() {
+        let Kept { key, made, .. } = reply;
+        let Key { port, id, .. } = *key;
+        if rest.next() != Some(&(port, id, *made)) {
+            return false;
+        }
+    }
+    rest.next().is_none()
+}
+
+// Whether these challenges wait, oldest first.
+fn are_challenges(challenges: &Challenges, wanted: &[(u64, u64)]) -> bool {
+    let mut rest = wanted.iter();
+    for challenge in challenges.rows() {
+        let Challenge { number, made, .. } = challenge;
+        if rest.next() != Some(&(number, made)) {
             return false;
         }
     }

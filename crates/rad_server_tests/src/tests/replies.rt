@@ -1,9 +1,9 @@
 use super::Answered::{Accept, Reject, Response};
 use super::Step::Ask;
-use super::play;
 use super::requests::Asked::{Access, Account, Status};
 use super::requests::Sent::{Hidden, Plain};
 use super::requests::{SIGNATURE, START, Sent};
+use super::{Row, play};
 use rad_auth::Door::{Acct, Auth};
 use rad_packet::attribute::{PROXY_STATE, USER_NAME};
 use std::test::Fail;
@@ -29,7 +29,7 @@ const ALL: &[u8; 54] = b"\
 
 #[test]
 fn a_reply_ends_with_the_proxy_states(rt: HostRuntime) -> Result<(), Fail> {
-    let rows = [
+    const ROWS: &[Row] = &[
         (
             0,
             Ask(
@@ -68,5 +68,5 @@ fn a_reply_ends_with_the_proxy_states(rt: HostRuntime) -> Result<(), Fail> {
             "its Accounting-Response",
         ),
     ];
-    play(&rt, rt.alloc(), &rows)
+    play(&rt, rt.alloc(), ROWS)
 }

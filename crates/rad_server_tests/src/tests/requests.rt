@@ -17,14 +17,27 @@ pub(crate) const AUTHENTICATOR: &[u8; 16] =
     b"\x0f\x40\x3f\x94\x73\x97\x80\x57\xbd\x83\xd5\xcb\x98\xf4\x22\x7a";
 
 /// The Access-Request of RFC 2865, section 7.1: nemo's.
-pub(crate) const EXAMPLE: Asked = Asked::Octets(
+pub(crate) const EXAMPLE: Asked = Asked::Octets(OCTETS);
+
+/// Its octets.
+pub(crate) const OCTETS: &[u8; 56] = b"\
+    \x01\x00\x00\x38\
+    \x0f\x40\x3f\x94\x73\x97\x80\x57\xbd\x83\xd5\xcb\x98\xf4\x22\x7a\
+    \x01\x06nemo\
+    \x02\x12\x0d\xbe\x70\x8d\x93\xd4\x13\xce\x31\x96\xe4\x3f\x78\x2a\x0a\xee\
+    \x04\x06\xc0\xa8\x01\x10\
+    \x05\x06\x00\x00\x00\x03";
+
+/// The same with three octets of padding.
+pub(crate) const PADDED_EXAMPLE: Asked = Asked::Octets(
     b"\
     \x01\x00\x00\x38\
     \x0f\x40\x3f\x94\x73\x97\x80\x57\xbd\x83\xd5\xcb\x98\xf4\x22\x7a\
     \x01\x06nemo\
     \x02\x12\x0d\xbe\x70\x8d\x93\xd4\x13\xce\x31\x96\xe4\x3f\x78\x2a\x0a\xee\
     \x04\x06\xc0\xa8\x01\x10\
-    \x05\x06\x00\x00\x00\x03",
+    \x05\x06\x00\x00\x00\x03\
+    pad",
 );
 
 /// An Access-Request of dory, and one with another Identifier.
@@ -74,8 +87,12 @@ pub(crate) const STOP: Sent = Sent::Plain(ACCT_STATUS_TYPE, &[0, 0, 0, 2]);
 pub(crate) enum Asked {
     /// The octets of an Access-Request of the first client.
     Octets(&'static [u8]),
+    /// The octets of an Access-Request of the second client.
+    OtherOctets(&'static [u8]),
     /// An Access-Request of the first client.
     Access(u8, &'static [Sent]),
+    /// An Access-Request of the second client.
+    OtherAccess(u8, &'static [Sent]),
     /// An Accounting-Request of the first client.
     Account(u8, &'static [Sent]),
     /// An Accounting-Request of the second client.
@@ -88,7 +105,8 @@ impl Asked {
     /// The port that it is sent to.
     pub fn door(&self) -> Door {
         match self {
-            Asked::Octets(_) | Asked::Access(..) => Door::Auth,
+            Asked::Octets(_) | Asked::OtherOctets(_) => Door::Auth,
+            Asked::Access(..) | Asked::OtherAccess(..) => Door::Auth,
             Asked::Account(..) | Asked::OtherAccount(..) => Door::Acct,
             Asked::Status(door, _) => *door,
         }
@@ -96,9 +114,10 @@ impl Asked {
 
     /// The client's address.
     pub fn source(&self) -> u32 {
-        match self {
-            Asked::OtherAccount(..) => 0xC0A8_0114,
-            _ => 0xC0A8_0110,
+        if self.is_other() {
+            0xC0A8_0114
+        } else {
+            0xC0A8_0110
         }
     }
 
@@ -106,10 +125,19 @@ impl Asked {
     fn secret(&self) -> &'static [u8]
         ensures { IsSecret result.now }
     {
-        match self {
-            Asked::OtherAccount(..) => b"second",
-            _ => b"xyzzy5461",
+        if self.is_other() {
+            b"second"
+        } else {
+            b"xyzzy5461"
         }
+    }
+
+    // Whether it is of the second client.
+    fn is_other(&self) -> bool {
+        matches!(
+            self,
+            Asked::OtherOctets(_) | Asked::OtherAccess(..) | Asked::OtherAccount(..)
+        )
     }
 
     // The Code, the Identifier and the attributes; none if the request is given by its octets.
@@ -117,12 +145,10 @@ impl Asked {
         ensures { IfSome result (λ parts. IsRequestCode parts.0) }
     {
         match self {
-            Asked::Octets(_) => None,
-            Asked::Access(identifier, attributes) => Some((
-                ACCESS_REQUEST,
-                *identifier,
-                attributes,
-            )),
+            Asked::Octets(_) | Asked::OtherOctets(_) => None,
+            Asked::Access(identifier, attributes) | Asked::OtherAccess(identifier, attributes) => {
+                Some((ACCESS_REQUEST, *identifier, attributes))
+            }
             Asked::Account(identifier, attributes) | Asked::OtherAccount(identifier, attributes) =>
                 { Some((ACCOUNTING_REQUEST, *identifier, attributes)) }
             Asked::Status(_, attributes) => Some((STATUS_SERVER, 0, attributes)),

@@ -1,15 +1,15 @@
 use super::Answered::Accept;
 use super::Step::{Ask, Sessions};
-use super::play;
 use super::requests::Asked::Status;
 use super::requests::SIGNATURE;
 use super::texts::RESPONSE;
+use super::{Row, play};
 use rad_auth::Door::{Acct, Auth};
 use std::test::Fail;
 
 #[test]
 fn a_status_server_is_answered_on_both_ports(rt: HostRuntime) -> Result<(), Fail> {
-    let rows = [
+    const ROWS: &[Row] = &[
         (
             0,
             Ask(Status(Auth, &[SIGNATURE]), Accept(b"")),
@@ -32,5 +32,5 @@ fn a_status_server_is_answered_on_both_ports(rt: HostRuntime) -> Result<(), Fail
         ),
         (1, Sessions(&[]), "no session"),
     ];
-    play(&rt, rt.alloc(), &rows)
+    play(&rt, rt.alloc(), ROWS)
 }
