@@ -26,24 +26,26 @@ use Rattle.rad_auth.specs.declared.arrival.Request.{Request}
 use Rattle.rad_config.specs.Configurations.{Configuration, user_place}
 use Rattle.rad_config.specs.Ranges.{HasLength, IsConfiguration, IsUser}
 use Rattle.rad_config.specs.Spans.{moment_max, spans_of}
+use Rattle.rad_config.specs.declared.spans.Spans.{Spans}
 use Rattle.rad_config.specs.declared.user.User.{User}
-use Rattle.rad_pool.specs.Grants.{granted}
+use Rattle.rad_pool.specs.Grants.{granted, with_session}
 use Rattle.rad_pool.specs.Lawful.{ExpiryKeepsTheLaw, GrantKeepsTheLaw, IsLawful as IsLawfulTable, OpeningIsLawful as EmptyTableIsLawful, StartKeepsTheLaw, StopKeepsTheLaw}
-use Rattle.rad_pool.specs.Sessions.{Table, started, stopped}
+use Rattle.rad_pool.specs.Sessions.{Table, cut, started, stopped}
 use Rattle.rad_pool.specs.declared.grant.Grant.{Grant}
 use Rattle.rad_pool.specs.declared.grant.Refusal.{Refusal}
 use Rattle.rad_recent.specs.Challenges.{Waiting, answered, challenges_max, has_state, is_challenge_live, last_challenge, next_number, with_challenge}
-use Rattle.rad_recent.specs.Recent.{Replies, is_full, is_reply_live, kept_max, same_door, same_key}
+use Rattle.rad_recent.specs.Recent.{Replies, cut_replies, is_full, is_reply_live, kept_max, same_door, same_key}
 use Rattle.rad_recent.specs.declared.challenge.Challenge.{Challenge}
 use Rattle.rad_recent.specs.declared.challenges.IssueFault.{IssueFault}
 use Rattle.rad_recent.specs.declared.challenges.IssueFault.TheVariants.{Full}
 use Rattle.rad_recent.specs.declared.kept.Kept.{Kept}
 use Rattle.rad_recent.specs.declared.key.Key.{Key}
+use Rattle.rad_server.proofs.AddressLemmas.{KeepsSessions, accept_has_session, grant_keeps, live_has, start_keeps, still_has, stop_keeps}
 use Rattle.rad_server.proofs.ReplyLemmas.{accept_is_reply, accounting_is_reply, challenge_is_reply, reject_is_reply}
 use Rattle.rad_server.specs.Access.{Challenged, Decision, Granted, access, access_with, answer_matches, answered_challenge, challenge_for, challenge_or_denial, decided, decision, decision_on_answer, decision_on_password, is_name_of, password_matches, session_for, session_or_denial, user_at, user_by_answer, user_by_password, without_challenge}
 use Rattle.rad_server.specs.Accounting.{account, changed, first_integer, reported, session_meant, status_start, status_stop}
 use Rattle.rad_server.specs.Credentials.{Credentials, credentials_in}
-use Rattle.rad_server.specs.Lawful.{AreLawfulChallenges, AreLawfulReplies, HaveDifferentKeys, IsLawful, IsLawfulChallenge, IsLawfulReply, IsNumberedBefore}
+use Rattle.rad_server.specs.Lawful.{AreLawfulChallenges, AreLawfulReplies, HasItsSession, HaveDifferentKeys, IsLawful, IsLawfulChallenge, IsLawfulReply, IsNumberedBefore}
 use Rattle.rad_server.specs.Replies.{accounting_response}
 use Rattle.rad_server.specs.States.{State, at_moment, opening}
 use Rattle.rad_server.specs.Steps.{answer, answer_with, key_of, reply_by_port, reply_kept, sent_and_kept, step, with_reply, without_reply}
@@ -148,6 +150,26 @@ replies_added clock reply replies room own known lawful = record {
   each = All-push (IsLawfulReply clock) replies.kept reply lawful.each known;
 }
 
+-- ---- addresses
+
+-- a kept reply has its session
+abbrev HasIts : Table → Kept → Type 0
+HasIts table reply = HasItsSession table reply.body reply.made
+
+-- kept replies have their sessions while sessions are kept
+addresses_kept : (old new : Table) (kept : List Kept) → KeepsSessions old new → All (HasIts old) kept → All (HasIts new) kept
+addresses_kept old new kept keeps has =
+    All-weaker (HasIts old) (HasIts new) (λ reply its. still_has old new reply.body reply.made keeps its) kept has
+
+-- the live ones do after those that are no longer live were removed, since a session lives at least as long as a reply
+addresses_live : (now : ℕ) (table : Table) (replies : Replies) → replies.window ≡ table.spans.window → table.spans.window ≤ table.spans.hold
+    → All (HasIts table) replies.kept → All (HasIts (cut now table)) (cut_replies now replies).kept
+addresses_live now table replies same held has =
+    let live : Kept → Bool = is_reply_live replies.window now in
+    let kept = All-filter live (HasIts table) replies.kept has in
+    let passes = filter_passes live replies.kept in
+    λ k d within. live_has now replies.window table _ _ same held (passes k d within) (kept k d within)
+
 -- ---- challenges
 
 -- a challenge stays lawful while the clock goes on and numbers are given
@@ -245,6 +267,7 @@ opening_is_lawful empty configuration = record {
     keys = λ i j d before within. absurd (omega arith);
     each = All-nil (IsLawfulReply 0);
   };
+  addresses = All-nil (HasIts (opening configuration).table);
   waiting = record {
     next = (omega arith, omega arith);
     few = omega arith;
@@ -254,11 +277,14 @@ opening_is_lawful empty configuration = record {
 }
 
 -- a lawful state is lawful at each later moment
-at_moment_is_lawful : TableLaws → (configuration : Configuration) (state : State) (moment : ℕ) → moment ≤ moment_max → IsLawful configuration state
-    → IsLawful configuration (at_moment moment state)
-at_moment_is_lawful laws configuration state moment within lawful =
+at_moment_is_lawful : TableLaws → (configuration : Configuration) (state : State) (moment : ℕ) → IsConfiguration configuration → moment ≤ moment_max
+    → IsLawful configuration state → IsLawful configuration (at_moment moment state)
+at_moment_is_lawful laws configuration state moment valid within lawful =
     let now : ℕ = max state.clock moment in
     let later : state.clock ≤ now = omega arith in
+    let same : state.replies.window ≡ state.table.spans.window = lawful.window ∙ ap (λ (spans : Spans). spans.window) (sym lawful.spans) in
+    let held : state.table.spans.window ≤ state.table.spans.hold =
+    subst (λ (spans : Spans). spans.window ≤ spans.hold) (sym lawful.spans) (omega (arith, valid.hold.0)) in
     record {
       clock = omega (arith, within, lawful.clock);
       spans = lawful.spans;
@@ -267,6 +293,7 @@ at_moment_is_lawful laws configuration state moment within lawful =
       table = laws.expiry configuration state.clock now state.table later lawful.table;
       replies = replies_left now (is_reply_live state.replies.window now) state.replies
           (replies_later state.clock now state.replies later lawful.replies);
+      addresses = addresses_live now state.table state.replies same held lawful.addresses;
       waiting = challenges_left configuration now (is_challenge_live state.waiting.hold now) state.waiting
           (challenges_later configuration state.clock now state.waiting later lawful.waiting);
     }
@@ -400,9 +427,11 @@ pub record IsGiven (configuration : Configuration) (request : Request) (draw : L
   pub answerable : IsAnswerable configuration.clients request
   pub drawn : length draw ≡ length sixteen_zeros
 
--- what a rule gives in a state: a reply that can be sealed, and a lawful state with the same clock and the same kept replies
+-- what a rule gives in a state: a reply that can be sealed, with its session if it gives an address, and a lawful state with the same
+-- clock and the same kept replies
 record IsLawfulResult (configuration : Configuration) (state : State) (result : Body × State) : Type 0 where
   reply : IsReply result.0
+  session : HasItsSession result.1.table result.0 result.1.clock
   new : IsLawful configuration result.1
   clock : result.1.clock ≡ state.clock
   replies : result.1.replies ≡ state.replies
@@ -413,6 +442,7 @@ decided_is_lawful : TableLaws → (configuration : Configuration) (state : State
     → IsLawfulResult configuration state (decided configuration state request draw d)
 decided_is_lawful laws configuration state request draw (Err denial) given lawful sound = record {
   reply = reject_is_reply denial request.packet given.answerable.proxy_states;
+  session = λ accept. absurd (omega (arith, accept));
   new = lawful;
   clock = refl;
   replies = refl;
@@ -423,6 +453,7 @@ decided_is_lawful laws configuration state request draw (Ok (Challenged user)) g
     record {
       reply = challenge_is_reply row state.waiting.next draw request.packet (text_fits row.challenge known.challenge) given.drawn
           given.answerable.proxy_states;
+      session = λ accept. absurd (omega (arith, accept));
       new = record {
         clock = lawful.clock;
         spans = lawful.spans;
@@ -430,6 +461,7 @@ decided_is_lawful laws configuration state request draw (Ok (Challenged user)) g
         hold = lawful.hold;
         table = lawful.table;
         replies = lawful.replies;
+        addresses = lawful.addresses;
         waiting = challenges_added configuration request.client user state.clock draw state.waiting sound.2 given.answerable.client sound.0
             (sym known.paired ∙ sound.1) given.drawn lawful.waiting;
       };
@@ -441,6 +473,7 @@ decided_is_lawful laws configuration state request draw (Ok (Granted user grant)
     let row : User = user_at configuration user in
     record {
       reply = accept_is_reply row grant request.packet (text_fits row.message known.message) given.answerable.proxy_states;
+      session = accept_has_session request.client user state.clock row grant request.packet state.table;
       new = record {
         clock = lawful.clock;
         spans = lawful.spans;
@@ -448,6 +481,8 @@ decided_is_lawful laws configuration state request draw (Ok (Granted user grant)
         hold = lawful.hold;
         table = laws.grant configuration request.client user state.clock grant state.table given.answerable.client sound.0 sound.1 lawful.table;
         replies = lawful.replies;
+        addresses = addresses_kept state.table (with_session request.client user state.clock grant state.table) state.replies.kept
+            (grant_keeps request.client user state.clock grant state.table) lawful.addresses;
         waiting = lawful.waiting;
       };
       clock = refl;
@@ -465,6 +500,7 @@ without_challenge_is_lawful configuration client (Some value) state lawful = rec
   hold = lawful.hold;
   table = lawful.table;
   replies = lawful.replies;
+  addresses = lawful.addresses;
   waiting = challenges_left configuration state.clock (λ challenge. not (has_state value client challenge)) state.waiting lawful.waiting;
 }
 
@@ -473,7 +509,7 @@ result_without_challenge : (configuration : Configuration) (client : ℕ) (value
     → IsLawfulResult configuration (without_challenge client value state) result → IsLawfulResult configuration state result
 result_without_challenge configuration client None state result known = known
 result_without_challenge configuration client (Some value) state result known =
-    record { reply = known.reply; new = known.new; clock = known.clock; replies = known.replies }
+    record { reply = known.reply; session = known.session; new = known.new; clock = known.clock; replies = known.replies }
 
 -- the rule for Access-Requests gives a lawful result
 access_is_lawful : TableLaws → (configuration : Configuration) (state : State) (request : Request) (draw : List ℕ)
@@ -505,12 +541,13 @@ account_is_lawful laws configuration state request answerable lawful =
     session = session_meant configuration request state.table
 
     IsKept : Table → Type 0
-    IsKept table = IsLawfulTable configuration state.clock table × (table.spans ≡ state.table.spans)
+    IsKept table = IsLawfulTable configuration state.clock table × (table.spans ≡ state.table.spans) × KeepsSessions state.table table
 
     with_table : (table : Table) → IsKept table
         → IsLawfulResult configuration state (accounting_response request.packet, record state { table = table })
     with_table table kept = record {
       reply = accounting_is_reply request.packet answerable.proxy_states;
+      session = λ accept. absurd (omega (arith, accept));
       new = record {
         clock = lawful.clock;
         spans = kept.1 ∙ lawful.spans;
@@ -518,6 +555,7 @@ account_is_lawful laws configuration state request answerable lawful =
         hold = lawful.hold;
         table = kept.0;
         replies = lawful.replies;
+        addresses = addresses_kept state.table table state.replies.kept kept.2 lawful.addresses;
         waiting = lawful.waiting;
       };
       clock = refl;
@@ -525,15 +563,15 @@ account_is_lawful laws configuration state request answerable lawful =
     }
 
     same : IsKept state.table
-    same = (lawful.table, refl)
+    same = (lawful.table, refl, (λ session there. (session, there, record { number = refl; address = refl; made = refl })))
 
     start : (o : Option ℕ) → IsKept (changed started o state.table)
     start None = same
-    start (Some number) = (laws.start configuration state.clock number state.table lawful.table, refl)
+    start (Some number) = (laws.start configuration state.clock number state.table lawful.table, refl, start_keeps number state.table)
 
     stop : (o : Option ℕ) → IsKept (changed stopped o state.table)
     stop None = same
-    stop (Some number) = (laws.stop configuration state.clock number state.table lawful.table, refl)
+    stop (Some number) = (laws.stop configuration state.clock number state.table lawful.table, refl, stop_keeps number state.table)
 
     with_number : (is_start is_stop : Bool)
         → IsKept (cond is_start (changed started session state.table) (cond is_stop (changed stopped session state.table) state.table))
@@ -557,6 +595,7 @@ without_reply_is_lawful configuration state request lawful = record {
   hold = lawful.hold;
   table = lawful.table;
   replies = replies_left state.clock (λ reply. not (same_key (key_of request) reply.key)) state.replies lawful.replies;
+  addresses = All-filter (λ reply. not (same_key (key_of request) reply.key)) (HasIts state.table) state.replies.kept lawful.addresses;
   waiting = lawful.waiting;
 }
 
@@ -571,8 +610,8 @@ without_reply_has_none state request =
 -- a lawful state is lawful with a reply that is kept for repeats of a request, which is no Status-Server
 with_reply_is_lawful : (configuration : Configuration) (state : State) (request : Request) (body : Body)
     → (request.packet.code == code_status_server) ≡ false → is_full state.replies ≡ false → HasNoReplyTo (key_of request) state.replies → IsReply body
-    → IsLawful configuration state → IsLawful configuration (with_reply request body state)
-with_reply_is_lawful configuration state request body other room none sealable lawful =
+    → HasItsSession state.table body state.clock → IsLawful configuration state → IsLawful configuration (with_reply request body state)
+with_reply_is_lawful configuration state request body other room none sealable its lawful =
     let reply : Kept = record { key = key_of request; octets = packet_octets request.packet; body = body; made = state.clock } in
     record {
       clock = lawful.clock;
@@ -582,6 +621,7 @@ with_reply_is_lawful configuration state request body other room none sealable l
       table = lawful.table;
       replies = replies_added state.clock reply state.replies room none (record { sealable = sealable; request = other; made = omega arith })
           lawful.replies;
+      addresses = All-push (HasIts state.table) state.replies.kept reply lawful.addresses its;
       waiting = lawful.waiting;
     }
 
@@ -592,7 +632,7 @@ kept_is_lawful : (configuration : Configuration) (before : State) (request : Req
 kept_is_lawful configuration before request (body, state) other room none known =
     let room_left = ap is_full known.replies ∙ room in
     let none_there = subst (HasNoReplyTo (key_of request)) (sym known.replies) none in
-    with_reply_is_lawful configuration state request body other room_left none_there known.reply known.new
+    with_reply_is_lawful configuration state request body other room_left none_there known.reply known.session known.new
 
 -- the state after an answer is lawful
 answer_is_lawful : TableLaws → (configuration : Configuration) (state : State) (request : Request) (draw : List ℕ)
@@ -625,5 +665,5 @@ pub step_is_lawful : TableLaws → (configuration : Configuration) (state : Stat
     → IsGiven configuration request draw → moment ≤ moment_max → IsLawful configuration state
     → IsLawful configuration (step configuration state request moment draw).1
 step_is_lawful laws configuration state request moment draw given within lawful =
-    let now = at_moment_is_lawful laws configuration state moment within lawful in
+    let now = at_moment_is_lawful laws configuration state moment given.valid within lawful in
     answer_is_lawful laws configuration (at_moment moment state) request draw given now

@@ -1,3 +1,4 @@
+mod AddressLemmas
 mod LawfulLemmas
 mod OccurrenceLemmas
 mod PlanLemmas

@@ -1,8 +1,11 @@
 -- The law of the state: what holds of it before the first request, and is kept by each step for a request that may be answered.
 -- `lawful_steps` says so.
-use Rattle.std.specs.Prelude.{◌≡◌, ℕ, ◌+◌, ◌≤◌, ◌<◌, ◌==◌, false, true, is_some, List, length, slice_index_or, All, AllPairs}
+use Rattle.std.specs.Prelude.{◌≡◌, ℕ, ◌+◌, ◌≤◌, ◌<◌, ◌==◌, false, true, is_some, List, length, slice_index_or, All, AllPairs, Contains, Some, option_map}
 use Rattle.std.specs.Int.{IsInRange}
-use Rattle.rad_packet.specs.Codes.{code_status_server}
+use Rattle.rad_packet.specs.Attributes.{first_value}
+use Rattle.rad_packet.specs.Bodies.{Body}
+use Rattle.rad_packet.specs.Codes.{code_access_accept, code_status_server}
+use Rattle.rad_packet.specs.Types.{type_class, type_framed_ip_address}
 use Rattle.rad_auth.specs.Admission.{IsAnswerable}
 use Rattle.rad_auth.specs.Authenticators.{sixteen_zeros}
 use Rattle.rad_auth.specs.Sealing.{IsReply}
@@ -11,11 +14,14 @@ use Rattle.rad_config.specs.Configurations.{Configuration}
 use Rattle.rad_config.specs.Ranges.{IsConfiguration}
 use Rattle.rad_config.specs.Spans.{moment_max, spans_of}
 use Rattle.rad_pool.specs.Lawful.{IsLawful as IsLawfulTable}
+use Rattle.rad_pool.specs.Sessions.{Table}
+use Rattle.rad_pool.specs.declared.session.Session.{Session}
 use Rattle.rad_recent.specs.Challenges.{Waiting, challenges_max, last_challenge}
 use Rattle.rad_recent.specs.Recent.{Replies, kept_max, same_key}
 use Rattle.rad_recent.specs.declared.challenge.Challenge.{Challenge}
 use Rattle.rad_recent.specs.declared.kept.Kept.{Kept}
 use Rattle.rad_server.specs.Access.{user_at}
+use Rattle.rad_server.specs.Replies.{class_value, four_octets}
 use Rattle.rad_server.specs.States.{State, opening}
 use Rattle.rad_server.specs.Steps.{step}
 
@@ -33,6 +39,18 @@ pub record IsLawfulReply (clock : ℕ) (reply : Kept) : Type 0 where
 -- two kept replies are to requests with different keys
 abbrev pub HaveDifferentKeys : Kept → Kept → Type 0
 HaveDifferentKeys earlier later = same_key earlier.key later.key ≡ false
+
+-- a session has an address that a reply gives, and its Class has the session's number
+pub record IsSessionOf (body : Body) (value : List ℕ) (session : Session) : Type 0 where
+  pub address : option_map four_octets session.address ≡ Some value
+  pub number : first_value type_class body.attributes ≡ Some (class_value session.number)
+
+-- If a reply that was made at this moment is an Access-Accept that gives an address, there is a session that has it and was granted
+-- then: so long as a repeated request may get the reply again, the address is nobody else's.
+abbrev pub HasItsSession : Table → Body → ℕ → Type 0
+HasItsSession table body made = body.code ≡ code_access_accept
+    → (value : List ℕ) → first_value type_framed_ip_address body.attributes ≡ Some value
+    → (session : Session) × Contains table.sessions session × IsSessionOf body value session × (session.made ≡ made)
 
 pub record AreLawfulReplies (clock : ℕ) (replies : Replies) : Type 0 where
   -- there are no more than there may be
@@ -86,6 +104,8 @@ pub record IsLawful (configuration : Configuration) (state : State) : Type 0 whe
   pub table : IsLawfulTable configuration state.clock state.table
   -- the kept replies are lawful
   pub replies : AreLawfulReplies state.clock state.replies
+  -- the address that a kept Access-Accept gives is still its session's
+  pub addresses : All (λ reply. HasItsSession state.table reply.body reply.made) state.replies.kept
   -- the challenges that wait for an answer are lawful
   pub waiting : AreLawfulChallenges configuration state.clock state.waiting
 
