@@ -106,7 +106,8 @@ impl Challenges {
         Ok(())
     }
 
-    /// Removes the challenges that are no longer live, and adds one, with the next number, for the user at place `user`.
+    /// Removes the challenges that are no longer live, and adds one, with the next number, sent to the client at place `client` for
+    /// the user at place `user`.
     ///
     /// Refusals are reported in the order of `IssueFault`. After a refusal the table is as it was. The first `issue` after `room`
     /// doesn't answer `NoMemory`. Source: RFC 2865, section 4.4.

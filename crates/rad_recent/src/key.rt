@@ -4,7 +4,7 @@ ghost use Rattle.rad_recent.specs.Recent.{same_key};
 
 use rad_auth::Door;
 
-/// What a repeated request has in common with its original, beside its octets.
+/// What a repeated request has in common with its original, besides its octets.
 ///
 /// Source: RFC 2865, section 3; RFC 5080, section 2.2.2.
 #[derive(Clone, Copy, Debug, PartialEq, Eq)]
@@ -19,7 +19,7 @@ pub struct Key {
 }
 
 impl Key {
-    // Whether both keys are one.
+    // Whether both keys are equal.
     pub(crate) fn is(&self, other: &Key) -> bool
         ensures { result ≡ same_key self.now other.now }
     {

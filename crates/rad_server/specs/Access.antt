@@ -112,13 +112,13 @@ session_or_denial user (Err refusal) = Err (denial_of refusal)
 abbrev pub session_for : Configuration → State → ℕ → Result Decision Denial
 session_for configuration state user = session_or_denial user (granted configuration user state.table)
 
--- a request that answers a challenge: with its answer, the user is granted a session
+-- a request with a State: with the right answer to its challenge, the user is granted a session
 unfoldable pub decision_on_answer : Configuration → State → Request → Option ℕ → Credentials → Result Decision Denial
 decision_on_answer configuration state request challenged credentials = do
   user ← user_by_answer configuration request challenged credentials
   session_for configuration state user
 
--- another request: with the password, the user is challenged or else granted a session
+-- a request without a State: with the password, the user is challenged or else granted a session
 unfoldable pub decision_on_password : Configuration → State → Request → Credentials → Result Decision Denial
 decision_on_password configuration state request credentials = do
   user ← user_by_password configuration request credentials

@@ -1,5 +1,5 @@
--- What an Accounting-Request reports of a session (RFC 2866, sections 4.1 and 5.1). It is recorded in the table of sessions, and
--- is always answered (section 4.2).
+-- What an Accounting-Request reports of a session (RFC 2866, sections 4.1 and 5.1). A Start or a Stop is recorded in the table of
+-- sessions. An Accounting-Response is made even if no session is meant (section 4.2).
 use Rattle.std.specs.Prelude.{ℕ, ◌==◌, ◌&&◌, Bool, if◌then◌else◌, List, length, drop, find, take, Option, Some, None, option_map}
 use Rattle.std.specs.Int.{w32, w64, from_be_bytes}
 use lib.Pointwise.{pointwise}

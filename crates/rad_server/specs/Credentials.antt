@@ -1,6 +1,6 @@
--- With what an Access-Request asks for access (RFC 2865, section 4.1): a User-Name (section 5.1), a User-Password (section 5.2)
--- or a CHAP-Password (section 5.3), perhaps a CHAP-Challenge (section 5.40), and perhaps the State of a challenge that it
--- answers (section 5.24). That there must be a name and a password, beside a State too, is our choice.
+-- What an Access-Request asks for access with (RFC 2865, section 4.1): a User-Name (section 5.1), a User-Password (section 5.2)
+-- or a CHAP-Password (section 5.3), perhaps a CHAP-Challenge (section 5.40), and perhaps a State (section 5.24). That there must
+-- be a name and a password, beside a State too, is our choice.
 use Rattle.std.specs.Prelude.{ℕ, ◌==◌, nat_le, not, if◌then◌else◌, List, length, Option, Some, None, Result, Ok, Err}
 use Rattle.rad_packet.specs.Attributes.{Attribute, has}
 use Rattle.rad_packet.specs.Ladders.{◌>>=◌, refuse_if}

@@ -15,7 +15,7 @@ denial_text SessionLimit = codes "session limit"
 denial_text NoAddressLeft = codes "no address left"
 denial_text ServerFull = codes "server full"
 
--- why there is no session; memory is no reason of the rule's
+-- why there is no session; the rule never gives `NoMemory`
 abbrev pub denial_of : Refusal → Denial
 denial_of refusals.SessionLimit = SessionLimit
 denial_of refusals.NoAddress = NoAddressLeft

@@ -1,7 +1,8 @@
--- What a repeated request gets (RFC 5080, section 2.2.2), said of a whole history and of the states that it led through. No rule
--- by which requests are answered is used. Moments and spans are in milliseconds.
+-- What a repeated request gets (RFC 5080, section 2.2.2), said of a whole history and of the states that it led through. What is
+-- claimed uses only the comparison of keys and octets (`same_key`, `is_reply_to`) and the removal of what is no longer live (`cut`,
+-- `cut_challenges`); the step only says which histories are meant (`AreExchanges`). Moments and spans are in milliseconds.
 --
--- A source is what may answer a repeat: a reply that was kept before the history began, or an entry of it that was answered and
+-- A source is what may answer a repeat: a reply that was kept before the history began, or an entry of it that got a reply and
 -- no earlier source covers. A source covers an entry that has its key and its octets, as long as the source lives, and if no
 -- entry between them has its key and other octets. Status-Servers are not counted.
 use Rattle.std.specs.Prelude.{◌≡◌, ℕ, ◌+◌, ◌==◌, ◌&&◌, ◌||◌, nat_lt, max, not, Bool, if◌then◌else◌, IsTrue, List, [], ◌∷◌, ◌++◌, Contains, filter, map, slice_index_or}
@@ -36,7 +37,7 @@ is_status_server entry = slice_index_or entry.octets 0 0 == code_status_server
 abbrev pub entry_key : Entry → Key
 entry_key entry = record { source = entry.source; port = entry.port; door = entry.door; id = slice_index_or entry.octets 1 0 }
 
--- whether an entry doesn't end what a reply is kept for: it has another key, or the same octets
+-- whether an entry leaves a reply in force: it has another key, or the same octets
 abbrev pub spares : Kept → Entry → Bool
 spares reply entry = not (same_key (entry_key entry) reply.key) || pointwise ◌==◌ entry.octets reply.octets
 
@@ -53,7 +54,7 @@ covers window now entry source =
 abbrev pub first_sources : List Kept → List Source
 first_sources kept = map (λ reply. record { reply = reply; later = [] }) kept
 
--- an entry that is answered is a source
+-- an entry that gets a reply is a source
 abbrev pub source_of : ℕ → Entry → Answer → List Source
 source_of now entry Busy = []
 source_of now entry (Send body) =
@@ -109,7 +110,7 @@ Repeat configuration before history =
 
 -- ---- the law
 
--- every history that a server runs from a lawful state answers repeats again
+-- in every history that a server runs from a lawful state, each repeat gets its reply again
 abbrev pub RunsRepeat : Type 0
 RunsRepeat = (configuration : Configuration) (before : State) (history : List Entry)
     → IsConfiguration configuration → IsLawful configuration before → Repeat configuration before history

@@ -67,7 +67,7 @@ access_accept user grant p = access_reply code_access_accept (accept_attributes 
 abbrev pub access_reject : Denial → Packet → Body
 access_reject denial p = access_reply code_access_reject (attribute type_reply_message (denial_text denial)) p
 
--- the Access-Challenge of a user with this number and draw
+-- the Access-Challenge of a user, for the challenge with this number and draw
 abbrev pub access_challenge : User → ℕ → List ℕ → Packet → Body
 access_challenge user number draw p =
     access_reply code_access_challenge (attribute_if_any type_reply_message user.challenge ++ attribute type_state (state_value number draw)) p

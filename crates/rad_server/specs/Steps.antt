@@ -23,7 +23,7 @@ use Rattle.rad_server.specs.declared.answer.Answer.TheVariants.{Send, Busy}
 
 -- ---- repeated requests
 
--- what a request is recognised by, beside its octets
+-- what a request is recognised by, besides its octets
 abbrev pub key_of : Request → Key
 key_of request = record {
   source = request.source;
@@ -32,7 +32,7 @@ key_of request = record {
   id = request.packet.identifier;
 }
 
--- the kept reply to a request, if it is a repeat: if it has the key and the octets up to Length of one that was answered
+-- the kept reply to a request, if it is a repeat: if it has the key and the octets up to Length of one whose reply is kept
 abbrev pub reply_kept : Request → State → Option Kept
 reply_kept request state = reply_to (key_of request) (packet_octets request.packet) state.replies
 
@@ -62,7 +62,7 @@ reply_by_port Acct configuration state request draw = account configuration stat
 abbrev pub sent_and_kept : Request → Body × State → Answer × State
 sent_and_kept request (body, state) = (Send body, with_reply request body state)
 
--- the answer to a request that is no repeat, and the state after it; without room to keep a reply there is none
+-- the answer to a request that is no repeat, and the state after it; without room to keep a reply it is `Busy`
 abbrev pub new_answer : Configuration → State → Request → List ℕ → Answer × State
 new_answer configuration state request draw =
     if is_full state.replies then (Busy, state) else sent_and_kept request (reply_by_port request.door configuration state request draw)

@@ -54,7 +54,7 @@ pub(crate) fn decide(
     }
 }
 
-// The same for the answer to a challenge with this State.
+// The same for a request with this State.
 #[tactic(auto, unfolding(crate::specs::Access::decision_on_answer))]
 fn decide_on_answer(
     config: &Config,
@@ -81,7 +81,7 @@ fn decide_on_answer(
     Ok(Decision::Session(NewSession { user, grant }))
 }
 
-// The same where no challenge is answered.
+// The same for a request without a State.
 #[tactic(auto, unfolding(crate::specs::Access::decision_on_password))]
 fn decide_on_password(
     config: &Config,

@@ -1,4 +1,4 @@
-//! With what an Access-Request asks for access.
+//! What an Access-Request asks for access with.
 ghost use Rattle.std.specs.Prelude.{◌≡◌, IfOk, length, option_copied};
 ghost use Rattle.rad_server.specs.Credentials.{chap_challenge_in, credentials_in, user_password_in, name_in, password_in, chap_password_in, state_in};
 ghost use Rattle.rad_server.specs.Plans.{Gives, IsSent, credentials_of, occurrence_of, sent_password_of};
@@ -20,7 +20,7 @@ pub(crate) enum SentPassword<'a> {
     ChapPassword(&'a [u8], Option<&'a [u8]>),
 }
 
-/// A name, a password, and the State if a challenge is answered.
+/// A name, a password, and the State, if there is one.
 #[derive(Clone, Copy)]
 pub(crate) struct Credentials<'a> {
     pub name: &'a [u8],

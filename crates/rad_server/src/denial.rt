@@ -9,9 +9,10 @@ use rad_pool::Refusal;
 pub enum Denial {
     /// The request has an EAP-Message.
     EapNotSupported,
-    /// A name, a password, a CHAP-Challenge or a State is missing, occurs too often, or has a wrong length.
+    /// The name or the password is missing; one of these, the State or, with a CHAP-Password, the CHAP-Challenge occurs too often;
+    /// or the name, the password or that CHAP-Challenge has a wrong length.
     MalformedRequest,
-    /// The State is of no challenge that waits for an answer of this client.
+    /// The State is of no challenge that waits for an answer from this client.
     StateUnknown,
     /// The State is of a challenge for another user.
     WrongState,

@@ -3,12 +3,12 @@ use crate::answer::Answer;
 use rad_auth::Door;
 use rad_recent::Octets;
 
-/// A request that was answered, and its answer.
+/// A request that was decided, and its answer.
 ///
 /// Source: RFC 2865, section 3.
 #[derive(Drop)]
 pub struct Entry {
-    /// The caller's mark of the request.
+    /// Any number by which the caller knows the request; no definition uses it.
     pub tag: u64,
     /// The source address, most significant octet first.
     pub source: u32,

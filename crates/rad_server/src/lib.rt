@@ -1,8 +1,8 @@
-//! The server of one thread: from a state, an admitted request and its moment to the answer and the next state (RFC 2865, RFC 2866,
-//! RFC 5997).
+//! The server of one thread: from a state, an admitted request, its moment and its draw to the answer and the next state (RFC 2865,
+//! RFC 2866, RFC 5080, RFC 5997).
 //!
 //! `Server::step` plans first: `plan` only reads, and makes the reply's body. Then memory is made ready, and then `commit`, which
-//! can't fail, changes the state. So without memory the state is the one before. Nothing here reads a clock or a socket.
+//! can't fail, changes the state. So if memory is refused, the state is unchanged. Nothing here reads a clock or a socket.
 //!
 //! Other crates rest on this: an answer and the state after it are those of `specs/Steps.antt`, and an answer that is sent can be
 //! sealed.

@@ -1,4 +1,4 @@
-//! What a step does: the plan, which only reads, and what it changes.
+//! What a step does: planning, which only reads, and commit, which changes the state.
 ghost use Rattle.std.specs.Prelude.{◌≡◌, ◌≤◌, ℕ, false, IfOk, IfSome, List, OnOk, Some, option_copied, option_map, true};
 ghost use Rattle.rad_auth.specs.Admission.{IsAnswerable, proxy_states_max, proxy_states_size};
 ghost use Rattle.rad_auth.specs.Sealing.{IsReply};
@@ -58,7 +58,7 @@ pub(crate) enum Change {
 #[derive(Drop)]
 pub(crate) struct NewReply<'a> {
     pub body: Body,
-    /// The State of the challenge that is answered, if one is.
+    /// The State among the credentials, if there is one.
     pub answered: Option<&'a [u8]>,
     pub change: Change,
 }
@@ -74,7 +74,7 @@ pub(crate) struct ToKeep {
 /// What a step does.
 #[derive(Drop)]
 pub(crate) enum Plan<'a> {
-    /// It sends this, and nothing changes but that time goes on.
+    /// It sends this, and nothing changes, except that what is no longer live is removed.
     Unchanged(Body),
     /// It sends nothing, since no more replies may be kept.
     Busy,
@@ -117,7 +117,7 @@ pub(crate) fn plan_step<'a>(
     Ok(Plan::New(reply, to_keep))
 }
 
-// What a request is recognised by, beside its octets.
+// What a request is recognised by, besides its octets.
 fn key_of(request: &Request) -> Key
     ensures { result ≡ key_of request.now }
 {
@@ -208,7 +208,7 @@ fn plan_access<'a>(
     }
 }
 
-// The denial of a request that answers the challenge with this State, if it answers one.
+// The Access-Reject for a denial, to a request with this State among its credentials, if there is one.
 fn plan_denial<'a>(
     alloc: Global,
     request: &Request,
@@ -336,12 +336,12 @@ fn take_answered(challenges: &mut Challenges, now: u64, client: u32, state: Opti
     ensures room { challenges.old.has_room ≡ true → challenges.new.has_room ≡ true }
 {
     if let Some(state) = state {
-        // Its user is in the plan.
+        // The plan was made with it.
         let _taken = challenges.take(state, client, now);
     }
 }
 
-// Makes a change that a request of a client has.
+// Makes the planned change, for a client's request.
 fn make_change(
     config: &Config,
     tables: &mut Tables,
@@ -393,7 +393,7 @@ fn find(sessions: &Sessions, client: u32, reference: &Reference) -> Option<u64>
     sessions.find(client, reference.number, reference.address, reference.name)
 }
 
-// Keeps what is kept of a reply, in the place of a reply to a request with the same key.
+// Keeps a reply, in place of one to a request with the same key.
 fn keep(recent: &mut Recent, now: u64, to_keep: ToKeep)
     requires moment { now ≤ moment_max }
     requires live { cut_replies now recent.old.table ≡ recent.old.table }

@@ -56,7 +56,7 @@ pub(crate) fn access_reject(
     Ok(body)
 }
 
-/// The Access-Challenge of a user with this number and draw.
+/// The Access-Challenge of a user, for the challenge with this number and draw.
 pub(crate) fn access_challenge(
     alloc: Global,
     user: &User,

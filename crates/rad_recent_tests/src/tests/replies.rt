@@ -17,7 +17,7 @@ const CUT: &[u8] = b"\x01\x07\x00\x14sixteen octets.";
 
 const LONG: &[u8] = b"\x01\x07\x00\x14sixteen octets...";
 
-/// A call, and what it must return or leave. A request is told by the place of its key, and a reply by its Code.
+/// A call, and what it must return or leave. A request is given by the place of its key, and a reply by its Code.
 #[derive(Clone, Copy)]
 enum Call {
     /// What `room` answers, and then `keep`.
