@@ -154,3 +154,7 @@ pub record IsAnswerable (clients : List Client) (request : Request) : Type 0 whe
   pub status : request.packet.code ≡ code_accounting_request
       → IsTrue (has_len type_acct_status_type integer_size request.packet.attributes)
   pub proxy_states : proxy_states_size request.packet ≤ proxy_states_max
+
+-- every admitted request may be answered
+abbrev pub AdmittedAreAnswerable : Type 0
+AdmittedAreAnswerable = (clients : List Client) (request : Request) → IsAdmitted clients request → IsAnswerable clients request

@@ -2,7 +2,7 @@
 ghost use Rattle.std.specs.Prelude.{◌≡◌, ◌<◌, length, map, All, IfOk, Ok};
 ghost use Rattle.rad_packet.specs.Attributes.{has};
 ghost use Rattle.rad_packet.specs.Types.{type_message_authenticator};
-ghost use Rattle.rad_auth.specs.Admission.{HoldsAdmitted, IsAdmitted, IsAnswerable, IsInOwnDatagram, admission, content_checks, has_bad_authenticator, has_bad_message_authenticator, has_right_message_authenticator, is_code_accepted, lane_admission, lacks_message_authenticator, lacks_status_type, request_in};
+ghost use Rattle.rad_auth.specs.Admission.{AdmittedAreAnswerable, HoldsAdmitted, IsAdmitted, IsAnswerable, IsInOwnDatagram, admission, content_checks, has_bad_authenticator, has_bad_message_authenticator, has_right_message_authenticator, is_code_accepted, lane_admission, lacks_message_authenticator, lacks_status_type, request_in};
 ghost use Rattle.rad_auth.specs.Clients.{Client};
 ghost use Rattle.rad_auth.specs.Datagrams.{datagram_of};
 ghost use Rattle.rad_auth.specs.RequestLanes.{IsAccountingAuthenticator, IsCandidate, IsMessageAuthenticator, IsHmacUnder, OfCandidate, asked_of, verdict_on, verdict_on_lane};
@@ -56,9 +56,14 @@ pub fn check8<'a>(
     ]
 }
 
-/// What every admitted request satisfies.
+/// Every admitted request may be answered: the law on which those who answer requests rest.
 ///
-/// It does nothing at run time: it is the law on which those who answer requests rest.
+/// The call costs nothing: it does nothing at run time.
+pub fn admitted_are_answerable()
+    ensures { AdmittedAreAnswerable }
+{}
+
+/// The same of one request.
 pub fn admitted_is_answerable(_clients: &Clients, _request: &Request)
     requires { IsAdmitted _clients.now _request.now }
     ensures { IsAnswerable _clients.now _request.now }

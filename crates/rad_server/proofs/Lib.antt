@@ -5,3 +5,4 @@ mod PlanLemmas
 mod RepeatLemmas
 mod ReplyLemmas
 mod ReportLemmas
+mod RunLemmas

@@ -1,5 +1,6 @@
 pub mod Access
 pub mod Accounting
+pub mod Books
 pub mod Credentials
 pub mod Denials
 pub mod Lawful

@@ -30,6 +30,7 @@ use Rattle.rad_server.specs.Steps.{answer, key_of, reply_by_port, sent_and_kept,
 use Rattle.rad_server.specs.declared.access.Decision.{Decision as DecisionOfCode}
 use Rattle.rad_server.specs.declared.access.Decision.TheVariants as decisions
 use Rattle.rad_server.specs.declared.accounting.Report.{Report}
+use Rattle.rad_server.specs.declared.answer.Answer.{Answer}
 use Rattle.rad_server.specs.declared.answer.Answer.TheVariants.{Send, Busy}
 use Rattle.rad_server.specs.declared.credentials.Credentials.{Credentials as CredentialsOfCode}
 use Rattle.rad_server.specs.declared.credentials.SentPassword.{SentPassword as SentPasswordOfCode}
@@ -256,6 +257,12 @@ IsPlanOf configuration current request draw (plans.Unchanged body) =
     (answer configuration current request draw ≡ (Send body, current)) × IsReply body
 IsPlanOf configuration current request draw plans.Busy = answer configuration current request draw ≡ (Busy, current)
 IsPlanOf configuration current request draw (plans.New reply to_keep) = IsNewAnswer configuration current request draw reply to_keep
+
+-- the answer of a plan
+abbrev pub planned_answer : Plan → Answer
+planned_answer (plans.Unchanged body) = Send body
+planned_answer plans.Busy = Busy
+planned_answer (plans.New reply to_keep) = Send reply.body
 
 -- the challenges without the one that a client answers with a State, if it sent one
 abbrev pub waiting_without : ℕ → Option (List ℕ) → Waiting → Waiting

@@ -1,12 +1,15 @@
 -- Histories: what a server of one thread answers to requests that come one after another.
-use Rattle.std.specs.Prelude.{◌≡◌, ◌≤◌, List, [], ◌∷◌, length}
+use Rattle.std.specs.Prelude.{◌≡◌, ℕ, ◌≤◌, List, [], ◌∷◌, ◌++◌, length}
 use Rattle.rad_auth.specs.Admission.{IsAdmitted, own_datagram}
 use Rattle.rad_auth.specs.Authenticators.{sixteen_zeros}
 use Rattle.rad_auth.specs.Clients.{Client}
 use Rattle.rad_auth.specs.Datagrams.{Datagram}
 use Rattle.rad_auth.specs.declared.arrival.Request.{Request}
 use Rattle.rad_config.specs.Configurations.{Configuration}
+use Rattle.rad_config.specs.Ranges.{IsConfiguration}
 use Rattle.rad_config.specs.Spans.{moment_max}
+use Rattle.rad_server.specs.Lawful.{IsLawful}
+use Rattle.rad_server.specs.Servers.{Server}
 use Rattle.rad_server.specs.States.{State}
 use Rattle.rad_server.specs.Steps.{step}
 use Rattle.rad_server.specs.declared.entry.Entry.{Entry}
@@ -14,6 +17,8 @@ use Rattle.rad_server.specs.declared.entry.Entry.{Entry}
 -- the datagram that an entry's request was, without padding
 abbrev pub datagram_of_entry : Entry → Datagram
 datagram_of_entry entry = record { source = entry.source; port = entry.port; door = entry.door; octets = entry.octets }
+
+-- ---- exchanges
 
 -- the request of an entry: the one that the admission of the entry's octets gives
 pub record IsRequestOf (clients : List Client) (entry : Entry) (request : Request) : Type 0 where
@@ -28,8 +33,39 @@ pub record IsExchange (configuration : Configuration) (before : State) (entry : 
   pub asked : IsRequestOf configuration.clients entry request
   pub answered : step configuration before request entry.moment entry.draw ≡ (entry.answer, after)
 
+-- an entry holds what was asked: a tag, a request, its moment and its draw
+pub record IsAsked (tag : ℕ) (request : Request) (moment : ℕ) (draw : List ℕ) (entry : Entry) : Type 0 where
+  pub has_tag : entry.tag ≡ tag
+  pub has_request : datagram_of_entry entry ≡ own_datagram request
+  pub has_moment : entry.moment ≡ moment
+  pub has_draw : entry.draw ≡ draw
+
+-- ---- runs
+
 -- a history leads from one state to another, each entry by the step from the state that those before it led to
 abbrev pub Run : Configuration → State → List Entry → State → Type 0
 Run configuration before [] after = before ≡ after
 Run configuration before (entry ∷ rest) after =
     (next : State) × IsExchange configuration before entry next × Run configuration next rest after
+
+-- a history leads from one server to another: the configuration stays, and the history is a run between their states
+pub record IsHistory (opening : Server) (history : List Entry) (server : Server) : Type 0 where
+  pub configuration : server.configuration ≡ opening.configuration
+  pub run : Run opening.configuration opening.state history server.state
+
+-- one more entry goes on with every history that leads to the server before it
+abbrev pub GoesOn : List Entry → Server → List Entry → Server → Type 0
+GoesOn history before longer after = (opening : Server) → IsHistory opening history before → IsHistory opening longer after
+
+-- every state on the way of a history is lawful: the one that each beginning of it leads to
+abbrev pub IsLawfulThroughout : Configuration → State → List Entry → Type 0
+IsLawfulThroughout configuration before history =
+    (beginning rest : List Entry) (state : State) → beginning ++ rest ≡ history → Run configuration before beginning state
+    → IsLawful configuration state
+
+-- ---- the law
+
+-- every history that a server runs from a lawful state leads through lawful states alone
+abbrev pub RunsAreLawful : Type 0
+RunsAreLawful = (configuration : Configuration) (before : State) (history : List Entry)
+    → IsConfiguration configuration → IsLawful configuration before → IsLawfulThroughout configuration before history

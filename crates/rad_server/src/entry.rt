@@ -1,7 +1,10 @@
 //! Entries of a history.
+ghost use Rattle.std.specs.Prelude.{◌≡◌, ◌↔◌, IfOk, IsTrue};
+
 use crate::answer::Answer;
 use rad_auth::Door;
 use rad_recent::Octets;
+use std::alloc::AllocError;
 
 /// A request that was decided, and its answer.
 ///
@@ -22,4 +25,36 @@ pub struct Entry {
     /// The draw for the State of a challenge.
     pub draw: [u8; 16],
     pub answer: Answer,
+}
+
+impl Entry {
+    /// An equal entry.
+    pub fn copy(&self) -> Result<Entry, AllocError>
+        ensures { IfOk result (λ copy. copy ≡ self.now) }
+    {
+        Ok(Entry {
+            tag: self.tag,
+            source: self.source,
+            port: self.port,
+            door: self.door,
+            octets: self.octets.copy()?,
+            moment: self.moment,
+            draw: self.draw,
+            answer: self.answer.copy()?,
+        })
+    }
+
+    /// Whether the other entry is equal.
+    pub fn same(&self, other: &Entry) -> bool
+        ensures { IsTrue result ↔ (self.now ≡ other.now) }
+    {
+        self.tag == other.tag
+            && self.source == other.source
+            && self.port == other.port
+            && self.door == other.door
+            && self.octets.same(&other.octets)
+            && self.moment == other.moment
+            && self.draw == other.draw
+            && self.answer.same(&other.answer)
+    }
 }

@@ -11,20 +11,24 @@
 mod access;
 mod accounting;
 mod answer;
+mod book;
 mod credentials;
 mod denial;
 mod entry;
+mod history;
 mod lawful;
 mod occurrence;
 mod plan;
-mod repeats;
 mod reply;
+mod runs;
 mod server;
 mod tables;
 
 pub use answer::Answer;
+pub use book::Book;
 pub use denial::Denial;
 pub use entry::Entry;
+pub use history::exchange;
 pub use lawful::lawful_steps;
-pub use repeats::runs_repeat;
+pub use runs::{runs_are_lawful, runs_repeat};
 pub use server::Server;

@@ -6,7 +6,7 @@ ghost use Rattle.rad_config.specs.Configurations.{user_place};
 ghost use Rattle.rad_config.specs.Spans.{moment_max};
 ghost use Rattle.rad_recent.specs.Challenges.{cut_challenges};
 ghost use Rattle.rad_recent.specs.Recent.{beside, cut_replies, is_full, with_reply, without_key};
-ghost use Rattle.rad_server.specs.Plans.{AreLive, AreUsable, CanBeMade, IsAccessReply, IsAccountingReply, IsNewReply, IsPlanOf, IsReadyFor, IsReadyForPlan, changed_by, kept_at, live_state, session_of, waiting_without};
+ghost use Rattle.rad_server.specs.Plans.{AreLive, AreUsable, CanBeMade, IsAccessReply, IsAccountingReply, IsNewReply, IsPlanOf, IsReadyFor, IsReadyForPlan, changed_by, kept_at, live_state, planned_answer, session_of, waiting_without};
 ghost use Rattle.rad_server.specs.Replies.{access_reject};
 ghost use Rattle.rad_server.specs.Servers.{state_with};
 ghost use Rattle.rad_server.specs.States.{State};
@@ -80,6 +80,19 @@ pub(crate) enum Plan<'a> {
     Busy,
     /// It sends a new reply, and keeps it.
     New(NewReply<'a>, ToKeep),
+}
+
+impl Plan<'_> {
+    /// The answer.
+    pub fn answer(&self) -> Result<Answer, AllocError>
+        ensures { IfOk result (λ answer. answer ≡ planned_answer self.now) }
+    {
+        match self {
+            Plan::Unchanged(body) => Ok(Answer::Send(body.copy()?)),
+            Plan::Busy => Ok(Answer::Busy),
+            Plan::New(reply, _) => Ok(Answer::Send(reply.body.copy()?)),
+        }
+    }
 }
 
 /// The plan for a request at a moment.
@@ -306,6 +319,7 @@ pub(crate) fn commit(
     requires ready { IsReadyForPlan plan tables.old }
     ensures answered { answer config.now (live_state now tables.old) request.now draw.now
         ≡ (result, state_with now tables.new) }
+    ensures planned { result ≡ planned_answer plan.entry }
     ensures sealable { IsSealable result }
 {
     tables.expire(now);

@@ -1,7 +1,9 @@
 //! The server, and its step.
 ghost use Rattle.std.specs.Prelude.{◌≡◌, ◌≤◌, ◌↔◌, IfOk, IsTrue, OnErr};
 ghost use Rattle.rad_auth.specs.Admission.{IsAdmitted};
+ghost use Rattle.rad_config.specs.Ranges.{IsConfiguration};
 ghost use Rattle.rad_config.specs.Spans.{moment_max};
+ghost use Rattle.rad_server.specs.Lawful.{IsLawful};
 ghost use Rattle.rad_server.specs.States.{opening};
 ghost use Rattle.rad_server.specs.Steps.{IsSealable, step};
 
@@ -69,6 +71,16 @@ impl<'c> Server<'c> {
         self.clock
     }
 
+    /// What is remembered is lawful: no address belongs to two sessions, for one.
+    ///
+    /// The call costs nothing: it does nothing at run time.
+    pub fn is_lawful(&self)
+        ensures configuration { IsConfiguration self.now.configuration }
+        ensures state { IsLawful self.now.configuration self.now.state }
+    {
+        let _clients = self.config.clients();
+    }
+
     /// The sessions.
     pub fn sessions(&self) -> &Sessions
         ensures { result.now.table ≡ self.now.state.table }
@@ -110,6 +122,27 @@ impl<'c> Server<'c> {
         ensures configuration { self.new.configuration ≡ self.old.configuration }
         ensures unchanged { OnErr result (self.new ≡ self.old) }
     {
+        let (answer, _same) = self.step_twice(request, moment, draw)?;
+        Ok(answer)
+    }
+
+    /// The step, with its answer twice: the memory for both is there before the state changes.
+    pub(crate) fn step_twice(
+        &mut self,
+        request: &Request,
+        moment: u64,
+        draw: &[u8; 16],
+    ) -> Result<(Answer, Answer), AllocError>
+        requires moment { moment ≤ moment_max }
+        requires admitted { IsAdmitted self.old.configuration.clients request.now }
+        ensures answered { IfOk result (λ answers.
+            step self.old.configuration self.old.state request.now moment draw.now
+            ≡ (answers.0, self.new.state)) }
+        ensures same { IfOk result (λ answers. answers.1 ≡ answers.0) }
+        ensures sealable { IfOk result (λ answers. IsSealable answers.0) }
+        ensures configuration { self.new.configuration ≡ self.old.configuration }
+        ensures unchanged { OnErr result (self.new ≡ self.old) }
+    {
         admitted_is_answerable(self.config.clients(), request);
         lawful_steps();
         let Server {
@@ -120,9 +153,11 @@ impl<'c> Server<'c> {
         } = self;
         let now = (*clock).max(moment);
         let plan = plan_step(*alloc, config, tables, now, request, draw)?;
+        let same = plan.answer()?;
         make_room(tables, now, &plan)?;
         *clock = now;
-        Ok(commit(config, tables, now, request, draw, plan))
+        let answer = commit(config, tables, now, request, draw, plan);
+        Ok((answer, same))
     }
 
     /// An equal server over the same configuration.

@@ -1,5 +1,5 @@
 use Rattle.rad_server.proofs.RepeatLemmas.{histories_repeat}
-use Rattle.rad_server.proofs.repeats.runs_repeat.Goals as goal
+use Rattle.rad_server.proofs.runs.runs_repeat.Goals as goal
 
 pub returns : goal.returns
 returns c = histories_repeat

@@ -1,0 +1,28 @@
+-- Runs: one more entry goes on with them, and they lead through lawful states alone.
+use Rattle.std.proofs.Common.{List, [], ◌∷◌, ◌++◌, refl, sym, subst}
+use Rattle.rad_auth.specs.Admission.{AdmittedAreAnswerable}
+use Rattle.rad_config.specs.Configurations.{Configuration}
+use Rattle.rad_config.specs.Ranges.{IsConfiguration}
+use Rattle.rad_server.specs.Lawful.{IsLawful, StepKeepsTheLaw}
+use Rattle.rad_server.specs.Runs.{IsExchange, Run}
+use Rattle.rad_server.specs.States.{State}
+use Rattle.rad_server.specs.declared.entry.Entry.{Entry}
+
+-- a run goes on with one more exchange
+pub run_goes_on : (configuration : Configuration) (before : State) (history : List Entry) (state : State) (entry : Entry) (after : State)
+    → Run configuration before history state → IsExchange configuration state entry after → Run configuration before (history ++ entry ∷ []) after
+run_goes_on configuration before [] state entry after same exchange =
+    (after, subst (λ s. IsExchange configuration s entry after) (sym same) exchange, refl)
+run_goes_on configuration before (first ∷ rest) state entry after run exchange =
+    (run.0, run.1, run_goes_on configuration run.0 rest state entry after run.2 exchange)
+
+-- a run leads from a lawful state to a lawful one
+pub run_is_lawful : AdmittedAreAnswerable → StepKeepsTheLaw → (configuration : Configuration) (before : State) (history : List Entry) (after : State)
+    → IsConfiguration configuration → IsLawful configuration before → Run configuration before history after → IsLawful configuration after
+run_is_lawful answerable steps configuration before [] after valid lawful same = subst (IsLawful configuration) same lawful
+run_is_lawful answerable steps configuration before (entry ∷ rest) after valid lawful run =
+    let exchange : IsExchange configuration before entry run.0 = run.1 in
+    let stepped = steps configuration before exchange.request entry.moment entry.draw valid
+    (answerable configuration.clients exchange.request exchange.asked.admitted) exchange.asked.moment exchange.asked.draw lawful in
+    run_is_lawful answerable steps configuration run.0 rest after valid
+    (subst (λ pair. IsLawful configuration pair.1) exchange.answered stepped) run.2

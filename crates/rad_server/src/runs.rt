@@ -1,0 +1,23 @@
+//! The laws of histories.
+ghost use Rattle.rad_server.specs.Repeats.{RunsRepeat};
+ghost use Rattle.rad_server.specs.Runs.{RunsAreLawful};
+
+use crate::lawful::lawful_steps;
+use rad_auth::admitted_are_answerable;
+
+/// In every history that a server runs from a lawful state, each repeat gets its reply again.
+///
+/// The call costs nothing: it does nothing at run time.
+pub fn runs_repeat()
+    ensures { RunsRepeat }
+{}
+
+/// Every history that a server runs from a lawful state leads through lawful states alone.
+///
+/// The call costs nothing: it does nothing at run time.
+pub fn runs_are_lawful()
+    ensures { RunsAreLawful }
+{
+    admitted_are_answerable();
+    lawful_steps();
+}
