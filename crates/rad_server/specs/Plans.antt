@@ -15,6 +15,8 @@ use Rattle.rad_auth.specs.declared.arrival.Request.{Request}
 use Rattle.rad_config.specs.Configurations.{Configuration}
 use Rattle.rad_pool.specs.Grants.{granted, with_session}
 use Rattle.rad_pool.specs.Meant.{meant}
+use Rattle.rad_pool.specs.declared.grant.Grant.{Grant}
+use Rattle.rad_pool.specs.declared.grant.Refusal.{Refusal}
 use Rattle.rad_pool.specs.Sessions.{AreSame as AreSameSessions, Table, cut, started, stopped}
 use Rattle.rad_recent.specs.Challenges.{AreSame as AreSameChallenges, Waiting, cut_challenges, next_number, without_answered}
 use Rattle.rad_recent.specs.Recent.{cut_replies, is_full, kept_max, without_key}
@@ -190,27 +192,31 @@ CanBeGiven configuration state (decisions.Session session) =
 abbrev pub session_of : ℕ → Reference → Table → Option ℕ
 session_of client reference table = meant client reference.number reference.address reference.name table.sessions
 
+-- the table after a session is granted, if one can be
+abbrev pub with_grant : ℕ → ℕ → ℕ → Result Grant Refusal → Table → Table
+with_grant client user now (Ok grant) table = with_session client user now grant table
+with_grant client user now (Err refusal) table = table
+
 -- the state after a change that a request of a client makes
-abbrev pub changed_by : ℕ → List ℕ → Change → State → State
-changed_by client draw changes.Nothing state = state
-changed_by client draw (changes.Challenge user) state = with_challenge client user draw state
-changed_by client draw (changes.Grant session) state =
-    record state { table = with_session client session.user state.clock session.grant state.table }
-changed_by client draw (changes.Start reference) state =
+abbrev pub changed_by : Configuration → ℕ → List ℕ → Change → State → State
+changed_by configuration client draw changes.Nothing state = state
+changed_by configuration client draw (changes.Challenge user) state = with_challenge client user draw state
+changed_by configuration client draw (changes.Grant user) state =
+    record state { table = with_grant client user state.clock (granted configuration user state.table) state.table }
+changed_by configuration client draw (changes.Start reference) state =
     record state { table = changed started (session_of client reference state.table) state.table }
-changed_by client draw (changes.Stop reference) state =
+changed_by configuration client draw (changes.Stop reference) state =
     record state { table = changed stopped (session_of client reference state.table) state.table }
 
 -- the state after it, without the challenge that was answered
-abbrev pub after : ℕ → List ℕ → Option (List ℕ) → Change → State → State
-after client draw value change state = changed_by client draw change (without_challenge client value state)
+abbrev pub after : Configuration → ℕ → List ℕ → Option (List ℕ) → Change → State → State
+after configuration client draw value change state = changed_by configuration client draw change (without_challenge client value state)
 
 -- a change can be made
 abbrev pub CanBeMade : Configuration → State → Change → Type 0
 CanBeMade configuration state changes.Nothing = Unit {0}
 CanBeMade configuration state (changes.Challenge user) = IsOk (next_number state.waiting)
-CanBeMade configuration state (changes.Grant session) =
-    (session.user < length configuration.users) × (granted configuration session.user state.table ≡ Ok session.grant)
+CanBeMade configuration state (changes.Grant user) = (user < length configuration.users) × IsOk (granted configuration user state.table)
 CanBeMade configuration state (changes.Start reference) = Unit {0}
 CanBeMade configuration state (changes.Stop reference) = Unit {0}
 
@@ -218,9 +224,8 @@ CanBeMade configuration state (changes.Stop reference) = Unit {0}
 -- request with the same key.
 pub record IsReplyOf (rule : State → Body × State) (configuration : Configuration) (current : State) (request : Request) (draw : List ℕ) (reply : NewReply) : Type 0 where
   pub planned : rule (without_reply request current)
-      ≡ (reply.body, after request.client draw (option_copied reply.answered) reply.change (without_reply request current))
+      ≡ (reply.body, after configuration request.client draw (option_copied reply.answered) reply.change (without_reply request current))
   pub possible : CanBeMade configuration (without_challenge request.client (option_copied reply.answered) current) reply.change
-  pub sealable : IsReply reply.body
 
 -- by the rule of access
 abbrev pub IsAccessReply : Configuration → State → Request → List ℕ → NewReply → Type 0
@@ -253,8 +258,7 @@ pub record IsNewAnswer (configuration : Configuration) (current : State) (reques
 
 -- a plan says the answer to a request in the current state, and what the next state is
 abbrev pub IsPlanOf : Configuration → State → Request → List ℕ → Plan → Type 0
-IsPlanOf configuration current request draw (plans.Unchanged body) =
-    (answer configuration current request draw ≡ (Send body, current)) × IsReply body
+IsPlanOf configuration current request draw (plans.Unchanged body) = answer configuration current request draw ≡ (Send body, current)
 IsPlanOf configuration current request draw plans.Busy = answer configuration current request draw ≡ (Busy, current)
 IsPlanOf configuration current request draw (plans.New reply to_keep) = IsNewAnswer configuration current request draw reply to_keep
 
@@ -277,7 +281,7 @@ kept_at now to_keep = record { key = to_keep.key; octets = to_keep.octets.items;
 abbrev pub IsReadyFor : Change → Tables → Type 0
 IsReadyFor changes.Nothing tables = Unit {0}
 IsReadyFor (changes.Challenge user) tables = tables.challenges.has_room ≡ true
-IsReadyFor (changes.Grant session) tables = tables.sessions.has_room ≡ true
+IsReadyFor (changes.Grant user) tables = tables.sessions.has_room ≡ true
 IsReadyFor (changes.Start reference) tables = Unit {0}
 IsReadyFor (changes.Stop reference) tables = Unit {0}
 

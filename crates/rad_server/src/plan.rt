@@ -13,7 +13,7 @@ ghost use Rattle.rad_server.specs.States.{State};
 ghost use Rattle.rad_server.specs.Steps.{IsSealable, answer, key_of};
 ghost use Rattle.rad_server.specs.declared.plan.Change.TheVariants as Change;
 
-use crate::access::{Decision, NewSession, decide};
+use crate::access::{Decision, decide};
 use crate::accounting::{Report, START, STOP};
 use crate::answer::Answer;
 use crate::credentials::Credentials;
@@ -47,7 +47,8 @@ pub(crate) enum Change {
     Nothing,
     /// A challenge for the user at this place.
     Challenge(u32),
-    Grant(NewSession),
+    /// A session for the user at this place.
+    Grant(u32),
     /// A Start of the session that is meant.
     Start(Reference),
     /// A Stop of it.
@@ -107,7 +108,9 @@ pub(crate) fn plan_step<'a>(
     requires moment { now ≤ moment_max }
     requires answerable { IsAnswerable config.now.clients request.now }
     requires usable { AreUsable config.now tables.now }
-    ensures { IfOk result (IsPlanOf config.now (live_state now tables.now) request.now draw.now) }
+    ensures planned { IfOk result
+        (IsPlanOf config.now (live_state now tables.now) request.now draw.now) }
+    ensures sealable { IfOk result (λ plan. IsSealable (planned_answer plan)) }
 {
     if request.packet.code() == STATUS_SERVER {
         let body = status_reply(alloc, request.door, &request.packet)?;
@@ -162,8 +165,9 @@ fn plan_reply<'a>(
     requires moment { now ≤ moment_max }
     requires answerable { IsAnswerable config.now.clients request.now }
     requires usable { AreUsable config.now tables.now }
-    ensures { IfOk result (IsNewReply config.now (live_state now tables.now)
+    ensures rule { IfOk result (IsNewReply config.now (live_state now tables.now)
         request.now draw.now) }
+    ensures sealable { IfOk result (λ reply. IsReply reply.body) }
 {
     match request.door {
         Door::Auth => plan_access(alloc, config, tables, now, request, draw),
@@ -183,8 +187,9 @@ fn plan_access<'a>(
     requires moment { now ≤ moment_max }
     requires answerable { IsAnswerable config.now.clients request.now }
     requires usable { AreUsable config.now tables.now }
-    ensures { IfOk result (IsAccessReply config.now (live_state now tables.now)
+    ensures rule { IfOk result (IsAccessReply config.now (live_state now tables.now)
         request.now draw.now) }
+    ensures sealable { IfOk result (λ reply. IsReply reply.body) }
 {
     let credentials = match Credentials::of(&request.packet) {
         Ok(credentials) => credentials,
@@ -211,7 +216,7 @@ fn plan_access<'a>(
         Ok(Decision::Session(session)) => {
             let user = config.user_at(session.user);
             let body = access_accept(alloc, user, session.grant, &request.packet)?;
-            let change = Change::Grant(session);
+            let change = Change::Grant(session.user);
             Ok(NewReply {
                 body,
                 answered,
@@ -250,8 +255,9 @@ fn plan_accounting<'a>(
     request: &Request<'a>,
 ) -> Result<NewReply<'a>, AllocError>
     requires { IsAnswerable config.now.clients request.now }
-    ensures { IfOk result (λ reply. (current : State) (draw : List ℕ)
+    ensures rule { IfOk result (λ reply. (current : State) (draw : List ℕ)
         → IsAccountingReply config.now current request.now draw reply) }
+    ensures sealable { IfOk result (λ reply. IsReply reply.body) }
 {
     let report = Report::of(request.packet.attributes());
     let reference = Reference {
@@ -320,7 +326,6 @@ pub(crate) fn commit(
     ensures answered { answer config.now (live_state now tables.old) request.now draw.now
         ≡ (result, state_with now tables.new) }
     ensures planned { result ≡ planned_answer plan.entry }
-    ensures sealable { IsSealable result }
 {
     tables.expire(now);
     match plan {
@@ -369,7 +374,7 @@ fn make_change(
     requires possible { CanBeMade config.now (state_with now tables.old) change.now }
     requires ready { IsReadyFor change.now tables.old }
     ensures changed { state_with now tables.new
-        ≡ changed_by client draw.now change.now (state_with now tables.old) }
+        ≡ changed_by config.now client draw.now change.now (state_with now tables.old) }
     ensures recent { tables.new.recent ≡ tables.old.recent }
 {
     let Tables {
@@ -383,9 +388,9 @@ fn make_change(
             // It was planned, and memory is ready for it.
             let _issued = challenges.issue(client, *user, draw, now);
         }
-        Change::Grant(session) => {
+        Change::Grant(user) => {
             // Likewise.
-            let _granted = sessions.grant(config, client, session.user, now);
+            let _granted = sessions.grant(config, client, *user, now);
         }
         Change::Start(reference) => {
             if let Some(number) = find(sessions, client, reference) {
