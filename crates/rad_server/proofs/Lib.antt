@@ -1,4 +1,5 @@
 mod AddressLemmas
+mod FollowLemmas
 mod LawfulLemmas
 mod OccurrenceLemmas
 mod PlanLemmas

@@ -1,5 +1,5 @@
 -- What a plan answers: a kept reply again, nothing at all, or what a rule says.
-use Rattle.std.proofs.Common.{◌≡◌, ℕ, ◌≤◌, Bool, true, false, not, cond, List, [], ◌∷◌, length, filter, find, All, Option, Some, None, IfSome, option_map, Result, Ok, Err, arith, refl, sym, ap, subst}
+use Rattle.std.proofs.Common.{◌≡◌, ℕ, ◌≤◌, Bool, true, false, not, cond, List, [], ◌∷◌, length, filter, find, All, Option, Some, None, IfSome, option_copied, option_map, Result, Ok, Err, arith, refl, sym, ap, subst}
 use Rattle.std.specs.Prelude.{◌==◌, IfOk}
 use Rattle.std.proofs.lemmas.Bool.{leb-true}
 use Rattle.std.proofs.lemmas.List.Elements.{All-head, All-tail}
@@ -11,9 +11,9 @@ use Rattle.rad_auth.specs.declared.arrival.Request.{Request}
 use Rattle.rad_config.specs.Configurations.{Configuration}
 use Rattle.rad_recent.specs.Recent.{is_full, kept_max, same_key, without_key}
 use Rattle.rad_recent.specs.declared.kept.Kept.{Kept}
-use Rattle.rad_server.specs.Plans.{IsAccountingReply, IsNewReply, IsReplyOf}
+use Rattle.rad_server.specs.Plans.{IsAccountingReply, IsChangeOf, IsNewReply, IsReplyOf}
 use Rattle.rad_server.specs.States.{State}
-use Rattle.rad_server.specs.Steps.{answer, answer_with, key_of, reply_by_port, reply_kept}
+use Rattle.rad_server.specs.Steps.{answer, answer_with, key_of, reply_by_port, reply_kept, without_reply}
 use Rattle.rad_server.specs.declared.answer.Answer.TheVariants.{Send, Busy}
 use Rattle.rad_server.specs.declared.plan.NewReply.{NewReply}
 
@@ -63,21 +63,30 @@ kept_again configuration current request draw body other found = rw (other) (at 
         body_or None = body
         body_or (Some found) = found
 
+-- without room for one more reply, none is kept to a request with the same key
+pub nothing_removed : (current : State) (request : Request) → is_full (without_key (key_of request) current.replies) ≡ true
+    → length current.replies.kept ≤ kept_max → without_reply request current ≡ current
+nothing_removed current request full few =
+    ap (λ kept. record current { replies = record current.replies { kept = kept } })
+    (filter_whole (λ reply. not (same_key (key_of request) reply.key)) current.replies.kept (omega (arith, leb-true _ _ full, few)))
+
 -- without room for one more reply, a request that is no repeat isn't answered
 pub no_answer : (configuration : Configuration) (current : State) (request : Request) (draw : List ℕ) → (request.packet.code == code_status_server) ≡ false
     → option_map (λ reply. reply.body) (reply_kept request current) ≡ None → is_full (without_key (key_of request) current.replies) ≡ true
     → length current.replies.kept ≤ kept_max → answer configuration current request draw ≡ (Busy, current)
 no_answer configuration current request draw other found full few = rw (other) (at (reply_kept request current) found)
   where
-    others : Kept → Bool
-    others reply = not (same_key (key_of request) reply.key)
-
-    whole : filter others current.replies.kept ≡ current.replies.kept
-    whole = filter_whole others current.replies.kept (omega (arith, leb-true _ _ full, few))
-
     at : (o : Option Kept) → option_map (λ reply. reply.body) o ≡ None → answer_with configuration current request draw o ≡ (Busy, current)
     at (Some reply) e = absurd cc
-    at None e = rw (full) (ap (λ kept. (Busy, record current { replies = record current.replies { kept = kept } })) whole)
+    at None e = rw (full) (ap (λ state. (Busy, state)) (nothing_removed current request full few))
+
+-- a reply that a rule gives, with the change by which the rule leads on
+pub reply_made : (rule : State → Body × State) (configuration : Configuration) (current : State) (request : Request) (draw : List ℕ) (reply : NewReply)
+    → (rule (without_reply request current)).0 ≡ reply.body
+    → IsChangeOf rule configuration current request draw (option_copied reply.answered) reply.change
+    → IsReplyOf rule configuration current request draw reply
+reply_made rule configuration current request draw reply says made =
+    record { planned = λ i. (says i, made.changed i); possible = made.possible }
 
 -- on the accounting port, the rule of the port is that of accounting
 pub accounting_is_new : (configuration : Configuration) (current : State) (request : Request) (draw : List ℕ) {E : Type 0} (r : Result NewReply E) → request.door ≡ Acct

@@ -1,10 +1,11 @@
 -- What the code's values stand for, and what a plan says. No other crate cites these.
-use Rattle.std.specs.Prelude.{◌≡◌, ℕ, ◌<◌, ◌≤◌, ◌==◌, ◌&&◌, ◌||◌, true, false, if◌then◌else◌, List, ◌++◌, length, drop, take, All, Option, Some, None, option_copied, option_map, Result, Ok, Err, IsOk, IsTrue}
+use Rattle.std.specs.Prelude.{◌≡◌, ℕ, ◌<◌, ◌≤◌, ◌==◌, ◌&&◌, ◌||◌, true, false, if◌then◌else◌, List, ◌++◌, length, drop, take, All, Option, Some, None, is_some, option_copied, option_map, Result, Ok, Err, IsOk, IsTrue}
 use Rattle.std.specs.Int.{w32, w64, from_be_bytes}
 use Rattle.std.specs.Option.{option_or}
 use lib.Pointwise.{pointwise}
 use Rattle.rad_packet.specs.Attributes.{Attribute, first_value, has, integer_size, is_of}
 use Rattle.rad_packet.specs.Bodies.{Body}
+use Rattle.rad_packet.specs.Codes.{code_access_accept, code_access_challenge}
 use Rattle.rad_packet.specs.Packets.{packet_octets}
 use Rattle.rad_packet.specs.Types.{type_acct_status_type, type_chap_challenge, type_chap_password, type_class, type_eap_message, type_framed_ip_address, type_message_authenticator, type_state, type_user_name, type_user_password}
 use Rattle.rad_auth.specs.Authenticators.{sixteen_zeros}
@@ -12,7 +13,7 @@ use Rattle.rad_auth.specs.Chap.{chap_value_size}
 use Rattle.rad_auth.specs.Passwords.{value_fits}
 use Rattle.rad_auth.specs.Sealing.{IsReply}
 use Rattle.rad_auth.specs.declared.arrival.Request.{Request}
-use Rattle.rad_config.specs.Configurations.{Configuration}
+use Rattle.rad_config.specs.Configurations.{Configuration, user_place}
 use Rattle.rad_pool.specs.Grants.{granted, with_session}
 use Rattle.rad_pool.specs.Meant.{meant}
 use Rattle.rad_pool.specs.declared.grant.Grant.{Grant}
@@ -220,6 +221,13 @@ CanBeMade configuration state (changes.Grant user) = (user < length configuratio
 CanBeMade configuration state (changes.Start reference) = Unit {0}
 CanBeMade configuration state (changes.Stop reference) = Unit {0}
 
+-- The State that is answered and the change by which a rule leads on, in the state without a reply to a request with the same key. The
+-- change can be made.
+pub record IsChangeOf (rule : State → Body × State) (configuration : Configuration) (current : State) (request : Request) (draw : List ℕ) (state : Option (List ℕ)) (change : Change) : Type 0 where
+  pub changed : (rule (without_reply request current)).1
+      ≡ after configuration request.client draw state change (without_reply request current)
+  pub possible : CanBeMade configuration (without_challenge request.client state current) change
+
 -- A new reply, given the current state: what is said of it, and what changes, is what a rule gives in the state without a reply to a
 -- request with the same key.
 pub record IsReplyOf (rule : State → Body × State) (configuration : Configuration) (current : State) (request : Request) (draw : List ℕ) (reply : NewReply) : Type 0 where
@@ -267,6 +275,21 @@ abbrev pub planned_answer : Plan → Answer
 planned_answer (plans.Unchanged body) = Send body
 planned_answer plans.Busy = Busy
 planned_answer (plans.New reply to_keep) = Send reply.body
+
+-- ---- plans from answers that were given before
+
+-- the user that an Access-Request is of: the one whose challenge it answers, or the one whose name it has
+abbrev pub user_asking : Configuration → Option ℕ → Credentials → Option ℕ
+user_asking configuration challenged credentials =
+    if is_some credentials.state then challenged else user_place configuration.users credentials.name
+
+-- what a reply of this Code to an Access-Request of a user changes
+abbrev pub change_of_reply : ℕ → Option ℕ → Change
+change_of_reply code None = changes.Nothing
+change_of_reply code (Some user) =
+    if code == code_access_accept then changes.Grant user
+    else if code == code_access_challenge then changes.Challenge user
+    else changes.Nothing
 
 -- the challenges without the one that a client answers with a State, if it sent one
 abbrev pub waiting_without : ℕ → Option (List ℕ) → Waiting → Waiting

@@ -11,6 +11,7 @@
 mod access;
 mod accounting;
 mod answer;
+mod answered;
 mod book;
 mod credentials;
 mod denial;

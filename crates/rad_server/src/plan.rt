@@ -1,12 +1,13 @@
 //! What a step does: planning, which only reads, and commit, which changes the state.
-ghost use Rattle.std.specs.Prelude.{◌≡◌, ◌≤◌, ℕ, false, IfOk, IfSome, List, OnOk, Some, option_copied, option_map, true};
+ghost use Rattle.std.specs.Prelude.{◌≡◌, ◌≤◌, ℕ, false, IfOk, IfSome, List, None, OnOk, Some, option_copied, option_map, true};
 ghost use Rattle.rad_auth.specs.Admission.{IsAnswerable, proxy_states_max, proxy_states_size};
 ghost use Rattle.rad_auth.specs.Sealing.{IsReply};
 ghost use Rattle.rad_config.specs.Configurations.{user_place};
 ghost use Rattle.rad_config.specs.Spans.{moment_max};
 ghost use Rattle.rad_recent.specs.Challenges.{cut_challenges};
 ghost use Rattle.rad_recent.specs.Recent.{beside, cut_replies, is_full, with_reply, without_key};
-ghost use Rattle.rad_server.specs.Plans.{AreLive, AreUsable, CanBeMade, IsAccessReply, IsAccountingReply, IsNewReply, IsPlanOf, IsReadyFor, IsReadyForPlan, changed_by, kept_at, live_state, planned_answer, session_of, waiting_without};
+ghost use Rattle.rad_server.specs.Plans.{AreLive, AreUsable, CanBeMade, IsAccessReply, IsAccountingReply, IsChangeOf, IsNewReply, IsPlanOf, IsReadyFor, IsReadyForPlan, changed_by, kept_at, live_state, planned_answer, session_of, waiting_without};
+ghost use Rattle.rad_server.specs.Accounting.{account};
 ghost use Rattle.rad_server.specs.Replies.{access_reject};
 ghost use Rattle.rad_server.specs.Servers.{state_with};
 ghost use Rattle.rad_server.specs.States.{State};
@@ -133,8 +134,8 @@ pub(crate) fn plan_step<'a>(
     Ok(Plan::New(reply, to_keep))
 }
 
-// What a request is recognised by, besides its octets.
-fn key_of(request: &Request) -> Key
+/// What a request is recognised by, besides its octets.
+pub(crate) fn key_of(request: &Request) -> Key
     ensures { result ≡ key_of request.now }
 {
     Key {
@@ -259,23 +260,31 @@ fn plan_accounting<'a>(
         → IsAccountingReply config.now current request.now draw reply) }
     ensures sealable { IfOk result (λ reply. IsReply reply.body) }
 {
+    let body = accounting_response(alloc, &request.packet)?;
+    Ok(NewReply {
+        body,
+        answered: None,
+        change: reported_change(config, request),
+    })
+}
+
+/// What an Accounting-Request changes.
+pub(crate) fn reported_change(config: &Config, request: &Request) -> Change
+    ensures { (current : State) (draw : List ℕ)
+        → IsChangeOf (λ state. account config.now state request.now) config.now current
+        request.now draw None result }
+{
     let report = Report::of(request.packet.attributes());
     let reference = Reference {
         number: report.number,
         address: report.address,
         name: named_user(config, report.user_name),
     };
-    let change = match report.status {
+    match report.status {
         Some(START) => Change::Start(reference),
         Some(STOP) => Change::Stop(reference),
         _ => Change::Nothing,
-    };
-    let body = accounting_response(alloc, &request.packet)?;
-    Ok(NewReply {
-        body,
-        answered: None,
-        change,
-    })
+    }
 }
 
 // The place of the user whose name was sent, if one was sent; it may be nobody's.

@@ -4,12 +4,13 @@ ghost use Rattle.rad_auth.specs.Admission.{IsAdmitted};
 ghost use Rattle.rad_config.specs.Ranges.{IsConfiguration};
 ghost use Rattle.rad_config.specs.Spans.{moment_max};
 ghost use Rattle.rad_server.specs.Lawful.{IsLawful};
-ghost use Rattle.rad_server.specs.States.{opening};
+ghost use Rattle.rad_server.specs.Plans.{IsPlanOf, planned_answer};
+ghost use Rattle.rad_server.specs.States.{at_moment, opening};
 ghost use Rattle.rad_server.specs.Steps.{IsSealable, step};
 
 use crate::answer::Answer;
 use crate::lawful::lawful_steps;
-use crate::plan::{commit, make_room, plan_step};
+use crate::plan::{Plan, commit, make_room, plan_step};
 use crate::tables::Tables;
 use rad_auth::{Request, admitted_is_answerable};
 use rad_config::Config;
@@ -144,7 +145,6 @@ impl<'c> Server<'c> {
         ensures unchanged { OnErr result (self.new ≡ self.old) }
     {
         admitted_is_answerable(self.config.clients(), request);
-        lawful_steps();
         let Server {
             alloc,
             config,
@@ -154,10 +154,41 @@ impl<'c> Server<'c> {
         let now = (*clock).max(moment);
         let plan = plan_step(*alloc, config, tables, now, request, draw)?;
         let same = plan.answer()?;
+        let answer = self.carry_out(request, moment, draw, plan)?;
+        Ok((answer, same))
+    }
+
+    // Goes on to the next state by a plan, and gives its answer.
+    fn carry_out(
+        &mut self,
+        request: &Request,
+        moment: u64,
+        draw: &[u8; 16],
+        plan: Plan,
+    ) -> Result<Answer, AllocError>
+        requires moment { moment ≤ moment_max }
+        requires admitted { IsAdmitted self.old.configuration.clients request.now }
+        requires planned { IsPlanOf self.old.configuration (at_moment moment self.old.state)
+            request.now draw.now plan }
+        ensures answered { IfOk result (λ answer.
+            step self.old.configuration self.old.state request.now moment draw.now
+            ≡ (answer, self.new.state)) }
+        ensures planned { IfOk result (λ answer. answer ≡ planned_answer plan.entry) }
+        ensures configuration { self.new.configuration ≡ self.old.configuration }
+        ensures unchanged { OnErr result (self.new ≡ self.old) }
+    {
+        admitted_is_answerable(self.config.clients(), request);
+        lawful_steps();
+        let Server {
+            config,
+            clock,
+            tables,
+            ..
+        } = self;
+        let now = (*clock).max(moment);
         make_room(tables, now, &plan)?;
         *clock = now;
-        let answer = commit(config, tables, now, request, draw, plan);
-        Ok((answer, same))
+        Ok(commit(config, tables, now, request, draw, plan))
     }
 
     /// An equal server over the same configuration.

@@ -6,7 +6,7 @@ use Rattle.rad_server.specs.Plans.{live_state}
 use Rattle.rad_server.specs.Servers.{state_with}
 use Rattle.rad_server.specs.States.{State, without_expired}
 use Rattle.rad_server.specs.Steps.{answer, step}
-use Rattle.rad_server.proofs.server.Server.step_twice.Goals as goal
+use Rattle.rad_server.proofs.server.Server.carry_out.Goals as goal
 
 pub invariant_of-self-2 : goal.invariant_of-self-2
 invariant_of-self-2 c =
@@ -19,8 +19,8 @@ invariant_of-self-2 c =
     let answerable = subst (λ clients. IsAnswerable clients request) c.clients.ensures.value c.admitted_is_answerable.ensures in
     let drawn : length draw ≡ 16 = search rules in
     let stepped = c.lawful_steps.ensures.step configuration old request c.args.moment draw c.clients.ensures.configuration answerable c.requires.moment drawn c.self.invariant in
-    let is : (step configuration old request c.args.moment draw).1 ≡ state_with now c.commit-answer.new.tables =
+    let is : (step configuration old request c.args.moment draw).1 ≡ state_with now c.commit.new.tables =
     ap (λ n. (answer configuration (live_state n tables) request draw).1) (sym c.max-now.ensures)
     ∙ ap (λ s. (answer configuration (without_expired s) request draw).1) (sym c.in_ok-make_room.ensures.unchanged)
-    ∙ ap (λ r. r.1) c.commit-answer.ensures.answered in
+    ∙ ap (λ r. r.1) c.commit.ensures.answered in
     subst (IsLawful configuration) is stepped
