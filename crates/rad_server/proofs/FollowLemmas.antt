@@ -1,5 +1,5 @@
 -- What an answer that was given before says of the step that gave it: which plan it had.
-use Rattle.std.proofs.Common.{◌≡◌, ℕ, ◌≤◌, ◌<◌, Bool, true, false, not, cond, ◌||◌, List, length, Option, Some, None, IfSome, is_some, option_map, Result, Ok, Err, arith, refl, sym, ap, subst, ◌∙◌}
+use Rattle.std.proofs.Common.{◌≡◌, ℕ, ◌≤◌, ◌<◌, Bool, true, false, not, cond, List, length, Option, Some, None, IfSome, is_some, option_map, Result, Ok, Err, refl, sym, ap, subst, ◌∙◌}
 use Rattle.std.specs.Prelude.{◌==◌, IfOk, IsOk}
 use Rattle.std.proofs.lemmas.Bool.{cond_both}
 use Rattle.rad_packet.specs.Bodies.{Body}
@@ -14,9 +14,9 @@ use Rattle.rad_recent.specs.Challenges.{next_number}
 use Rattle.rad_recent.specs.Recent.{is_full, kept_max, without_key}
 use Rattle.rad_recent.specs.declared.challenges.IssueFault.{IssueFault}
 use Rattle.rad_recent.specs.declared.kept.Kept.{Kept}
-use Rattle.rad_server.specs.Access.{Challenged, Decision, Granted, access, access_with, answer_matches, answered_challenge, challenge_for, challenge_or_denial, decided, decision, decision_on_answer, decision_on_password, is_name_of, password_matches, session_for, session_or_denial, user_at, user_by_answer, user_by_password, without_challenge}
+use Rattle.rad_server.specs.Access.{Challenged, Decision, Granted, access, answer_matches, answered_challenge, challenge_for, challenge_or_denial, decided, decision, decision_on_answer, decision_on_password, is_name_of, password_matches, session_for, session_or_denial, user_at, user_by_answer, user_by_password, without_challenge}
 use Rattle.rad_server.specs.Credentials.{Credentials, credentials_in}
-use Rattle.rad_server.specs.Plans.{CanBeMade, IsChangeOf, after, change_of_reply, changed_by, user_asking, with_grant}
+use Rattle.rad_server.specs.Plans.{CanBeMade, IsChangeOf, change_of_reply, changed_by, user_asking, with_grant}
 use Rattle.rad_server.specs.Replies.{status_reply}
 use Rattle.rad_server.specs.States.{State}
 use Rattle.rad_server.specs.Steps.{answer, answer_with, key_of, new_answer, reply_by_port, reply_kept, sent_and_kept, without_reply}
@@ -222,7 +222,7 @@ AccessChanges configuration current request draw code (Err denial) =
 AccessChanges configuration current request draw code (Ok credentials) =
     (user : Option ℕ)
     → user_asking configuration
-        (option_map (λ challenge. challenge.user) (answered_challenge request.client credentials.state (without_reply request current).waiting)) credentials ≡ user
+    (option_map (λ challenge. challenge.user) (answered_challenge request.client credentials.state (without_reply request current).waiting)) credentials ≡ user
     → IfSome user (λ place. place < length configuration.users)
     → IsChangeOf (λ state. access configuration state request draw) configuration current request draw credentials.state (change_of_reply code user)
 
@@ -239,7 +239,7 @@ access_changes configuration current request draw code said (Ok credentials) rea
     let challenged : Option ℕ = option_map (λ challenge. challenge.user) (answered_challenge request.client credentials.state before.waiting) in
     let d : Result Decision Denial = decision configuration left request challenged credentials in
     let made = decided_changes configuration left request draw user d
-        (subst (λ o. IsFor configuration left o d) is (decision_for configuration left request challenged credentials)) within in
+    (subst (λ o. IsFor configuration left o d) is (decision_for configuration left request challenged credentials)) within in
     let rule : access configuration before request draw ≡ decided configuration left request draw d = rw (read) refl in
     let same : (decided configuration left request draw d).0.code ≡ code = ap (λ a. a.0.code) (sym rule) ∙ said in
     record {

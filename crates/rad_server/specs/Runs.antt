@@ -20,7 +20,7 @@ datagram_of_entry entry = record { source = entry.source; port = entry.port; doo
 
 -- ---- exchanges
 
--- the request of an entry: the one that the admission of the entry's octets gives
+-- the request of an entry: the one that the admission of its datagram gives, at a moment up to the last and with a draw of 16 octets
 pub record IsRequestOf (clients : List Client) (entry : Entry) (request : Request) : Type 0 where
   pub own : own_datagram request ≡ datagram_of_entry entry
   pub admitted : IsAdmitted clients request
@@ -32,6 +32,14 @@ pub record IsExchange (configuration : Configuration) (before : State) (entry : 
   pub request : Request
   pub asked : IsRequestOf configuration.clients entry request
   pub answered : step configuration before request entry.moment entry.draw ≡ (entry.answer, after)
+
+-- an entry can come next: the step at its request gives its answer
+abbrev pub CanComeNext : Configuration → State → Entry → Type 0
+CanComeNext configuration before entry = (after : State) × IsExchange configuration before entry after
+
+-- the step at an entry leads to this state alone
+abbrev pub LeadsTo : Configuration → State → Entry → State → Type 0
+LeadsTo configuration before entry state = (after : State) → IsExchange configuration before entry after → state ≡ after
 
 -- an entry holds what was asked: a tag, a request, its moment and its draw
 pub record IsAsked (tag : ℕ) (request : Request) (moment : ℕ) (draw : List ℕ) (entry : Entry) : Type 0 where
@@ -53,11 +61,12 @@ pub record IsHistory (opening : Server) (history : List Entry) (server : Server)
   pub configuration : server.configuration ≡ opening.configuration
   pub run : Run opening.configuration opening.state history server.state
 
--- one more entry goes on with every history that leads to the server before it
+-- a history that leads to one server, made longer, leads from the same opening to another
 abbrev pub GoesOn : List Entry → Server → List Entry → Server → Type 0
 GoesOn history before longer after = (opening : Server) → IsHistory opening history before → IsHistory opening longer after
 
--- every state on the way of a history is lawful: the one that each beginning of it leads to
+-- Every state on the way of a history is lawful: the one that it began from, and the one that each beginning of it leads to. Of a
+-- history that is no run this says nothing.
 abbrev pub IsLawfulThroughout : Configuration → State → List Entry → Type 0
 IsLawfulThroughout configuration before history =
     (beginning rest : List Entry) (state : State) → beginning ++ rest ≡ history → Run configuration before beginning state

@@ -7,9 +7,9 @@ use std::alloc::AllocError;
 /// What the server does with a request.
 #[derive(Drop)]
 pub enum Answer {
-    /// It sends a reply that says this.
+    /// It sends a reply with this body.
     Send(Body),
-    /// It sends nothing, since there is no room to keep a reply.
+    /// It sends nothing: the table of kept replies is full.
     Busy,
 }
 

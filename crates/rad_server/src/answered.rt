@@ -63,8 +63,8 @@ fn reply_answered<'a>(
 ) -> Result<NewReply<'a>, AllocError>
     requires moment { now ≤ moment_max }
     requires usable { AreUsable config.now tables.now }
-    requires said { (reply_by_port request.now.door config.now (state_for request.now now tables.now)
-        request.now draw.now).0 ≡ body.now }
+    requires said { (reply_by_port request.now.door config.now
+        (state_for request.now now tables.now) request.now draw.now).0 ≡ body.now }
     ensures { IfOk result (IsNewReply config.now (live_state now tables.now)
         request.now draw.now) }
 {

@@ -1,4 +1,4 @@
-//! Books: a server, and what was asked of it since it was opened.
+//! Books: a server, and the exchanges since the book was opened.
 ghost use Rattle.std.specs.Prelude.{◌≡◌, [], ◌∷◌, ◌++◌, ◌≤◌, IfOk, OnErr};
 ghost use Rattle.rad_auth.specs.Admission.{IsAdmitted};
 ghost use Rattle.rad_config.specs.Spans.{moment_max};
@@ -15,9 +15,9 @@ use rad_recent::Octets;
 use std::alloc::{AllocError, Global};
 use std::marker::Model;
 
-/// A server, the server that it was when the book was opened, and the history that leads from that one to this one.
+/// A server, a copy from when the book was opened, and the exchanges since.
 ///
-/// The history is a run of the one-thread server: each entry has the answer of the step from the state to which those before it lead.
+/// They are a run of the one-thread server: each entry has the answer of the step from the state that those before it lead to.
 #[derive(Drop)]
 pub struct Book<'c> {
     alloc: Global,
@@ -42,7 +42,7 @@ impl<'c> Model for Book<'c> {
 }
 
 impl<'c> Book<'c> {
-    /// A book that begins as this server is, with no history.
+    /// A book of a copy of this server, with an empty history.
     pub fn open(alloc: Global, server: &Server<'c>) -> Result<Book<'c>, AllocError>
         ensures opening { IfOk result (λ book. book.opening ≡ server.now) }
         ensures history { IfOk result (λ book. book.history ≡ []) }
@@ -56,7 +56,7 @@ impl<'c> Book<'c> {
         })
     }
 
-    /// Answers an admitted request, and appends the exchange to the history: an entry, of which it gives a copy.
+    /// Steps the server and appends an entry to the history. Returns an equal entry.
     ///
     /// The request was admitted with the clients of the server's configuration. The tag is any number by which the caller knows the
     /// request. The moment is in milliseconds, at most `MOMENT_MAX`. If memory is refused, nothing has changed.
@@ -69,7 +69,8 @@ impl<'c> Book<'c> {
     ) -> Result<Entry, AllocError>
         requires moment { moment ≤ moment_max }
         requires admitted { IsAdmitted self.old.server.configuration.clients request.now }
-        ensures appended { IfOk result (λ entry. self.new.history ≡ self.old.history ++ entry ∷ []) }
+        ensures appended { IfOk result (λ entry.
+            self.new.history ≡ self.old.history ++ entry ∷ []) }
         ensures asked { IfOk result (IsAsked tag request.now moment draw.now) }
         ensures answered { IfOk result (λ entry.
             step self.old.server.configuration self.old.server.state request.now moment draw.now
@@ -96,18 +97,18 @@ impl<'c> Book<'c> {
         &self.opening
     }
 
-    /// What was asked since, oldest first.
+    /// The exchanges since, oldest first.
     pub fn history(&self) -> &[Entry]
         ensures value { result.now ≡ self.now.history }
         ensures run { IsHistory self.now.opening self.now.history self.now.server }
         // A repeat is answered again.
         ensures repeat { Repeat self.now.opening.configuration self.now.opening.state
             self.now.history }
-        // No address belongs to two sessions, for one, in any state on the way.
+        // In every state on the way no address belongs to two sessions, among other things.
         ensures lawful { IsLawfulThroughout self.now.opening.configuration self.now.opening.state
             self.now.history }
     {
-        self.opening.is_lawful();
+        self.opening.state_is_lawful();
         runs_repeat();
         runs_are_lawful();
         &self.history

@@ -6,17 +6,16 @@ use rad_auth::Door;
 use rad_recent::Octets;
 use std::alloc::AllocError;
 
-/// A request that was decided, and its answer.
-///
-/// Source: RFC 2865, section 3.
+/// A request and its answer.
 #[derive(Drop)]
 pub struct Entry {
-    /// Any number by which the caller knows the request; no definition uses it.
+    /// Any number by which the caller knows the request.
     pub tag: u64,
     /// The source address, most significant octet first.
     pub source: u32,
     /// The source port.
     pub port: u16,
+    /// The server's port that it came to.
     pub door: Door,
     /// The octets of the request up to Length.
     pub octets: Octets,
@@ -24,6 +23,7 @@ pub struct Entry {
     pub moment: u64,
     /// The draw for the State of a challenge.
     pub draw: [u8; 16],
+    /// What the server did with it.
     pub answer: Answer,
 }
 

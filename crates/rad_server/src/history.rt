@@ -1,9 +1,9 @@
-//! Histories: one exchange, on a server and its history.
-ghost use Rattle.std.specs.Prelude.{◌≡◌, [], ◌∷◌, ◌++◌, ◌≤◌, IfOk, OnErr};
+//! Exchanges on a server and its history: one more, and those of a history again.
+ghost use Rattle.std.specs.Prelude.{◌≡◌, [], ◌∷◌, ◌++◌, ◌≤◌, IfOk, OnErr, OnOk};
 ghost use Rattle.rad_packet.specs.Packets.{packet_octets};
 ghost use Rattle.rad_auth.specs.Admission.{IsAdmitted};
 ghost use Rattle.rad_config.specs.Spans.{moment_max};
-ghost use Rattle.rad_server.specs.Runs.{GoesOn, IsAsked};
+ghost use Rattle.rad_server.specs.Runs.{GoesOn, IsAsked, IsHistory};
 ghost use Rattle.rad_server.specs.Steps.{IsSealable, step};
 
 use crate::entry::Entry;
@@ -12,9 +12,9 @@ use rad_auth::Request;
 use rad_recent::Octets;
 use std::alloc::AllocError;
 
-/// Steps a server, and appends the exchange to its history: an entry, of which it gives a copy.
+/// Steps a server and appends an entry to its history. Returns an equal entry.
 ///
-/// The octets are those of the request up to Length. The rest is as `Server::step` has it. If memory is refused, nothing has changed.
+/// The octets are those of the request up to Length. The rest is as for `Server::step`. If memory is refused, nothing has changed.
 #[doc(hidden)]
 pub fn exchange(
     server: &mut Server,
@@ -28,7 +28,8 @@ pub fn exchange(
     requires moment { moment ≤ moment_max }
     requires admitted { IsAdmitted server.old.configuration.clients request.now }
     requires octets { octets ≡ packet_octets request.now.packet }
-    ensures appended { IfOk result (λ entry. history.new.items ≡ history.old.items ++ entry ∷ []) }
+    ensures appended { IfOk result (λ entry.
+        history.new.items ≡ history.old.items ++ entry ∷ []) }
     ensures asked { IfOk result (IsAsked tag request.now moment draw.now) }
     ensures answered { IfOk result (λ entry.
         step server.old.configuration server.old.state request.now moment draw.now
@@ -40,18 +41,18 @@ pub fn exchange(
     ensures server { OnErr result (server.new ≡ server.old) }
     ensures history { OnErr result (history.new.items ≡ history.old.items) }
 {
-    let copy = octets.copy()?;
+    let octets_copy = octets.copy()?;
     history.reserve(1)?;
-    let (answer, same) = server.step_twice(request, moment, draw)?;
+    let (answer, answer_copy) = server.step_with_copy(request, moment, draw)?;
     history.push_reserved(Entry {
         tag,
         source: request.source,
         port: request.port,
         door: request.door,
-        octets: copy,
+        octets: octets_copy,
         moment,
         draw: *draw,
-        answer: same,
+        answer: answer_copy,
     });
     Ok(Entry {
         tag,
@@ -63,4 +64,19 @@ pub fn exchange(
         draw: *draw,
         answer,
     })
+}
+
+/// Makes the exchanges of a history again, on a server that is as the other one was before them: then it is as the other one is now.
+///
+/// The entries say what changes: no rule is asked again, and no password is checked. If memory is refused, some may have been made.
+#[doc(hidden)]
+pub fn follow(server: &mut Server, history: &[Entry], leader: &Server) -> Result<(), AllocError>
+    requires { IsHistory server.old history.now leader.now }
+    ensures { OnOk result (server.new ≡ leader.now) }
+{
+    let _ = leader;
+    for i in 0..history.len() {
+        server.make_again(&history[i])?;
+    }
+    Ok(())
 }

@@ -29,7 +29,7 @@ pub use answer::Answer;
 pub use book::Book;
 pub use denial::Denial;
 pub use entry::Entry;
-pub use history::exchange;
+pub use history::{exchange, follow};
 pub use lawful::lawful_steps;
 pub use runs::{runs_are_lawful, runs_repeat};
 pub use server::Server;

@@ -1,18 +1,21 @@
 //! The server, and its step.
-ghost use Rattle.std.specs.Prelude.{◌≡◌, ◌≤◌, ◌↔◌, IfOk, IsTrue, OnErr};
+ghost use Rattle.std.specs.Prelude.{◌≡◌, ◌≤◌, ◌↔◌, IfOk, IsTrue, OnErr, OnOk};
 ghost use Rattle.rad_auth.specs.Admission.{IsAdmitted};
 ghost use Rattle.rad_config.specs.Ranges.{IsConfiguration};
 ghost use Rattle.rad_config.specs.Spans.{moment_max};
 ghost use Rattle.rad_server.specs.Lawful.{IsLawful};
 ghost use Rattle.rad_server.specs.Plans.{IsPlanOf, planned_answer};
+ghost use Rattle.rad_server.specs.Runs.{CanComeNext, LeadsTo};
 ghost use Rattle.rad_server.specs.States.{at_moment, opening};
 ghost use Rattle.rad_server.specs.Steps.{IsSealable, step};
 
 use crate::answer::Answer;
+use crate::answered::plan_answered;
+use crate::entry::Entry;
 use crate::lawful::lawful_steps;
 use crate::plan::{Plan, commit, make_room, plan_step};
 use crate::tables::Tables;
-use rad_auth::{Request, admitted_is_answerable};
+use rad_auth::{Arrival, Request, admitted_is_answerable, readmit};
 use rad_config::Config;
 use rad_pool::Sessions;
 use rad_recent::{Challenges, Recent};
@@ -72,10 +75,10 @@ impl<'c> Server<'c> {
         self.clock
     }
 
-    /// What is remembered is lawful: no address belongs to two sessions, for one.
+    /// What is remembered is lawful: no address belongs to two sessions, among other things.
     ///
     /// The call costs nothing: it does nothing at run time.
-    pub fn is_lawful(&self)
+    pub fn state_is_lawful(&self)
         ensures configuration { IsConfiguration self.now.configuration }
         ensures state { IsLawful self.now.configuration self.now.state }
     {
@@ -123,12 +126,12 @@ impl<'c> Server<'c> {
         ensures configuration { self.new.configuration ≡ self.old.configuration }
         ensures unchanged { OnErr result (self.new ≡ self.old) }
     {
-        let (answer, _same) = self.step_twice(request, moment, draw)?;
+        let (answer, _copy) = self.step_with_copy(request, moment, draw)?;
         Ok(answer)
     }
 
-    /// The step, with its answer twice: the memory for both is there before the state changes.
-    pub(crate) fn step_twice(
+    /// The step, with a copy of its answer: the memory for it is there before the state changes.
+    pub(crate) fn step_with_copy(
         &mut self,
         request: &Request,
         moment: u64,
@@ -139,7 +142,7 @@ impl<'c> Server<'c> {
         ensures answered { IfOk result (λ answers.
             step self.old.configuration self.old.state request.now moment draw.now
             ≡ (answers.0, self.new.state)) }
-        ensures same { IfOk result (λ answers. answers.1 ≡ answers.0) }
+        ensures copy { IfOk result (λ answers. answers.1 ≡ answers.0) }
         ensures sealable { IfOk result (λ answers. IsSealable answers.0) }
         ensures configuration { self.new.configuration ≡ self.old.configuration }
         ensures unchanged { OnErr result (self.new ≡ self.old) }
@@ -153,9 +156,44 @@ impl<'c> Server<'c> {
         } = self;
         let now = (*clock).max(moment);
         let plan = plan_step(*alloc, config, tables, now, request, draw)?;
-        let same = plan.answer()?;
+        let copy = plan.answer()?;
         let answer = self.carry_out(request, moment, draw, plan)?;
-        Ok((answer, same))
+        Ok((answer, copy))
+    }
+
+    /// Makes an exchange again that an equal server made before: its entry says what changes.
+    pub(crate) fn make_again(&mut self, entry: &Entry) -> Result<(), AllocError>
+        requires { CanComeNext self.old.configuration self.old.state entry.now }
+        ensures leads { OnOk result
+            (LeadsTo self.old.configuration self.old.state entry.now self.new.state) }
+        ensures configuration { self.new.configuration ≡ self.old.configuration }
+        ensures unchanged { OnErr result (self.new ≡ self.old) }
+    {
+        let arrival = Arrival {
+            source: entry.source,
+            port: entry.port,
+            door: entry.door,
+            octets: entry.octets.octets(),
+        };
+        let Ok(request) = readmit(self.config.clients(), &arrival) else {
+            unreachable!()
+        };
+        let Server {
+            alloc,
+            config,
+            clock,
+            tables,
+        } = self;
+        let Entry {
+            moment,
+            draw,
+            answer,
+            ..
+        } = entry;
+        let now = (*clock).max(*moment);
+        let plan = plan_answered(*alloc, config, tables, now, &request, draw, answer)?;
+        self.carry_out(&request, *moment, draw, plan)?;
+        Ok(())
     }
 
     // Goes on to the next state by a plan, and gives its answer.

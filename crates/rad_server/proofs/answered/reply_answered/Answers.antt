@@ -1,11 +1,10 @@
-use Rattle.std.proofs.Common.{◌≡◌, None, Option, option_copied, ap, subst, sym, ◌∙◌}
+use Rattle.std.proofs.Common.{◌≡◌, None, option_copied, ap, subst, sym, ◌∙◌}
 use Rattle.rad_packet.specs.Bodies.{Body}
 use Rattle.rad_auth.specs.declared.arrival.Door.{Door}
-use Rattle.rad_auth.specs.declared.arrival.Door.TheVariants.{Auth, Acct}
+use Rattle.rad_auth.specs.declared.arrival.Door.TheVariants.{Auth}
 use Rattle.rad_server.specs.Plans.{IsChangeOf, live_state, state_for}
 use Rattle.rad_server.specs.States.{State}
 use Rattle.rad_server.specs.Steps.{reply_by_port}
-use Rattle.rad_server.specs.declared.plan.Change.{Change}
 use Rattle.rad_server.proofs.PlanLemmas.{reply_made}
 use Rattle.rad_server.proofs.answered.reply_answered.Goals.{in-Auth, in-Acct}
 use Rattle.rad_server.proofs.answered.reply_answered.Goals as goal
@@ -20,16 +19,16 @@ returns c =
     let rule : Door → State → Body × State = λ door state. reply_by_port door configuration state request draw in
     let says : (rule request.door before).0 ≡ c.in_ok-copy.copy = c.requires.said ∙ sym c.in_ok-copy.ensures in
     elim c.match-request.branch [
-      in-Auth w ↦
-        let made = w.access_change.result in
-        let said : (rule Auth before).0 ≡ c.args.body.now = subst (λ door. (rule door before).0 ≡ c.args.body.now) w.in-Auth.is c.requires.said in
-        rw (w.change-is)
-        (reply_made (rule request.door) configuration current request draw _ says
-        (subst (λ door. IsChangeOf (rule door) configuration current request draw (option_copied made.0) made.1) (sym w.in-Auth.is)
-        (w.access_change.ensures draw (ap (λ (b : Body). b.code) said ∙ sym w.code.ensures))))
-    | in-Acct w ↦
-        rw (w.change-is)
-        (reply_made (rule request.door) configuration current request draw _ says
-        (subst (λ door. IsChangeOf (rule door) configuration current request draw None w.reported_change.result) (sym w.in-Acct.is)
-        (w.reported_change.ensures current draw)))
+      | in-Auth w ↦
+          let made = w.access_change.result in
+          let said : (rule Auth before).0 ≡ c.args.body.now = subst (λ door. (rule door before).0 ≡ c.args.body.now) w.in-Auth.is c.requires.said in
+          rw (w.change-is)
+          (reply_made (rule request.door) configuration current request draw _ says
+          (subst (λ door. IsChangeOf (rule door) configuration current request draw (option_copied made.0) made.1) (sym w.in-Auth.is)
+          (w.access_change.ensures draw (ap (λ (b : Body). b.code) said ∙ sym w.code.ensures))))
+      | in-Acct w ↦
+          rw (w.change-is)
+          (reply_made (rule request.door) configuration current request draw _ says
+          (subst (λ door. IsChangeOf (rule door) configuration current request draw None w.reported_change.result) (sym w.in-Acct.is)
+          (w.reported_change.ensures current draw)))
     ]

@@ -9,7 +9,7 @@ use Rattle.rad_server.proofs.history.exchange.Goals as goal
 pub returns-clause-goes_on : goal.returns-clause-goes_on
 returns-clause-goes_on c = λ opening history.
     let before : Server = c.args.server.now in
-    let after : Server = c.step_twice.new.self in
+    let after : Server = c.step_with_copy.new.self in
     let entry : Entry = record {
       tag = c.args.tag;
       source = c.args.request.now.source;

@@ -1,4 +1,4 @@
-use Rattle.std.proofs.Common.{ap, sym}
+use Rattle.std.proofs.Common.{sym}
 use Rattle.rad_server.specs.Accounting.{account}
 use Rattle.rad_server.proofs.PlanLemmas.{reply_made}
 use Rattle.rad_server.proofs.plan.plan_accounting.Goals as goal
