@@ -1,7 +1,7 @@
 //! Entries of a history.
 use crate::answer::Answer;
 use rad_auth::Door;
-use rad_recent::Octets;
+use rad_packet::Octets;
 
 /// A request that was decided, and its answer.
 ///
