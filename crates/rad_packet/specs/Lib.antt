@@ -5,4 +5,5 @@ pub mod Codes
 pub mod Frames
 pub mod Ladders
 pub mod Packets
+pub mod Stores
 pub mod Types

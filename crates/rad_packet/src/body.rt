@@ -5,14 +5,15 @@ ghost use Rattle.rad_packet.specs.Attributes.{IsAttribute, attribute_octets, att
 ghost use Rattle.rad_packet.specs.Bodies.{with_attribute};
 
 use crate::attribute::Attributes;
+use crate::octets::Octets;
 use std::alloc::{AllocError, Global};
 use std::marker::Model;
 
-/// A Code and attributes. Contracts see the attributes as a list; they are kept as octets.
+/// A Code and attributes. Contracts see the attributes as a list; they are kept as octets, which copies can share.
 #[derive(Drop)]
 pub struct Body {
     code: u8,
-    octets: Vec<u8>,
+    octets: Octets,
 }
 
 impl Model for Body {
@@ -21,9 +22,9 @@ impl Model for Body {
 
     ghost Value = { Body };
 
-    ghost view = { λ b. record { code = b.code; attributes = attributes_in b.octets.items } };
+    ghost view = { λ b. record { code = b.code; attributes = attributes_in b.octets } };
 
-    ghost invariant = { λ b. AreAttributes b.octets.items (attributes_in b.octets.items) };
+    ghost invariant = { λ b. AreAttributes b.octets (attributes_in b.octets) };
 }
 
 impl Body {
@@ -34,13 +35,14 @@ impl Body {
     {
         Body {
             code,
-            octets: Vec::new(alloc),
+            octets: Octets::new(Vec::new(alloc)),
         }
     }
 
     /// Appends an attribute.
     ///
-    /// The Value has at most `VALUE_MAX` octets. If memory is refused, the body is unchanged. Source: RFC 2865, section 5.
+    /// The Value has at most `VALUE_MAX` octets. Bodies that share their octets with this one don't change. If memory is refused,
+    /// the body is unchanged. Source: RFC 2865, section 5.
     pub fn push(&mut self, kind: u8, value: &[u8]) -> Result<(), AllocError>
         requires fits { length value.now ≤ value_max }
         ensures appended { OnOk result (self.new ≡ with_attribute kind value.now self.old) }
@@ -50,11 +52,20 @@ impl Body {
         Ok(())
     }
 
-    /// An equal body.
+    /// Shares the octets of the attributes with the copies that are made from here on.
+    ///
+    /// If memory is refused, they stay as they were, not shared.
+    pub fn share(&mut self) -> Result<(), AllocError>
+        ensures { self.new ≡ self.old }
+    {
+        self.octets.share()
+    }
+
+    /// An equal body. A copy of a shared body takes no memory.
     pub fn copy(&self) -> Result<Body, AllocError>
         ensures { IfOk result (λ copy. copy ≡ self.now) }
     {
-        let octets = self.octets.clone()?;
+        let octets = self.octets.copy()?;
         Ok(Body {
             code: self.code,
             octets,
@@ -65,7 +76,7 @@ impl Body {
     pub fn same(&self, other: &Body) -> bool
         ensures { IsTrue result ↔ (self.now ≡ other.now) }
     {
-        other.code == self.code && other.octets == self.octets
+        other.code == self.code && other.octets.same(&self.octets)
     }
 
     /// The Code.
@@ -79,7 +90,7 @@ impl Body {
     pub fn attributes(&self) -> Attributes<'_>
         ensures { result ≡ self.now.attributes }
     {
-        Attributes::of(&self.octets)
+        Attributes::of(self.octets.octets())
     }
 
     /// The octets of the attributes.
@@ -87,26 +98,24 @@ impl Body {
         ensures value { result.now ≡ attributes_octets self.now.attributes }
         ensures each { AllByRecursion IsAttribute self.now.attributes }
     {
-        &self.octets
+        self.octets.octets()
     }
 
     /// The size of the attributes in octets.
     pub fn size(&self) -> usize
         ensures { result ≡ size self.now.attributes }
     {
-        self.octets.len()
+        self.octets.octets().len()
     }
 }
 
 // Appends Type, Length and Value to the octets, which are unchanged if memory is refused.
-fn append_attribute(octets: &mut Vec<u8>, kind: u8, value: &[u8]) -> Result<(), AllocError>
+fn append_attribute(octets: &mut Octets, kind: u8, value: &[u8]) -> Result<(), AllocError>
     requires { length value.now ≤ value_max }
-    ensures appended { OnOk result (octets.new.items
-        ≡ octets.old.items ++ attribute_octets (record { kind = kind; value = value.now })) }
-    ensures unchanged { OnErr result (octets.new.items ≡ octets.old.items) }
+    ensures appended { OnOk result
+        (octets.new ≡ octets.old ++ attribute_octets (record { kind = kind; value = value.now })) }
+    ensures unchanged { OnErr result (octets.new ≡ octets.old) }
 {
     let len = value.len() + 2;
-    octets.reserve(len)?;
-    octets.extend_from_slice(&[kind, len as u8])?;
-    octets.extend_from_slice(value)
+    octets.append(&[kind, len as u8], value)
 }

@@ -2,7 +2,8 @@
 //!
 //! A `Packet` borrows a datagram and is exactly what the grammar of `specs/` says of its octets. A `Body` is a code and
 //! attributes, kept as octets, and `write` puts the octets of a body, an Identifier and an Authenticator into a `Frame`.
-//! Attributes are read in place, and only `Body::push`, `Body::copy` and `Frame::new` take memory.
+//! `Octets` are those of a body or of a request; once shared, all their copies are one piece of memory. Attributes are read in
+//! place, and only `Body::push`, `share` and `copy`, `Octets::of`, `share` and `copy`, and `Frame::new` take memory.
 //!
 //! Others rest on this: `Packet::read` returns the packet that a datagram holds, or the first fault, and `write` writes
 //! the packet's octets.
@@ -12,9 +13,11 @@ pub mod attribute;
 mod body;
 pub mod code;
 mod frame;
+mod octets;
 mod packet;
 
 pub use attribute::{Attribute, Attributes};
 pub use body::Body;
 pub use frame::{Frame, TooLong, write};
+pub use octets::Octets;
 pub use packet::{HEADER_SIZE, LENGTH_MAX, Packet, ReadFault};

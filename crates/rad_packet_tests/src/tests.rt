@@ -3,7 +3,7 @@ ghost use Rattle.std.specs.Prelude.{◌+◌, ◌≤◌, length};
 ghost use Rattle.rad_packet.specs.Attributes.{value_max};
 
 use rad_packet::{
-    Attribute, Attributes, Body, Frame, Packet, ReadFault, TooLong, attribute, code, write,
+    Attribute, Attributes, Body, Frame, Octets, Packet, ReadFault, TooLong, attribute, code, write,
 };
 use std::alloc::{AllocError, Global};
 use std::process::Abort;
@@ -352,6 +352,63 @@ fn a_copy_is_the_same_until_it_is_changed(rt: HostRuntime) -> Result<(), Fail> {
     holds(&rt, !copy.same(&body), "not the same", "one attribute more");
     let body = with(body, attribute::PROXY_STATE, b"")?;
     holds(&rt, copy.same(&body), "the same", "the same attribute");
+    Ok(())
+}
+
+// The body, shared from here on.
+fn shared(body: Body) -> Result<Body, AllocError> {
+    let mut body = body;
+    body.share()?;
+    Ok(body)
+}
+
+// A copy of the body is the same. With one attribute more it isn't, and the body stays as it was.
+fn is_left_by_a_push(rt: &impl Abort, body: &Body, name: &str) -> Result<(), AllocError> {
+    let copy = body.copy()?;
+    holds(rt, copy.same(body), "the same", name);
+    let copy = with(copy, attribute::PROXY_STATE, b"")?;
+    says(rt, &copy, 3, b"\x12\x04no\x21\x05abc\x21\x02", "its copy");
+    says(rt, body, 3, b"\x12\x04no\x21\x05abc", name);
+    Ok(())
+}
+
+#[test]
+fn a_push_on_a_copy_leaves_the_shared_body(rt: HostRuntime) -> Result<(), Fail> {
+    let body = shared(message_and_state(rt.alloc(), b"no")?)?;
+    is_left_by_a_push(&rt, &body, "a shared body")?;
+    let body = shared(body)?;
+    is_left_by_a_push(&rt, &body, "a body shared twice")?;
+    Ok(())
+}
+
+// The octets, shared from here on.
+fn shared_octets(octets: Octets) -> Result<Octets, AllocError> {
+    let mut octets = octets;
+    octets.share()?;
+    Ok(octets)
+}
+
+// A copy of the octets is the same, and no other octets are.
+fn are_copied(
+    rt: &impl Abort,
+    octets: &Octets,
+    other: &Octets,
+    name: &str,
+) -> Result<(), AllocError> {
+    let copy = octets.copy()?;
+    holds(rt, copy.octets() == b"abc".as_slice(), "the octets", name);
+    holds(rt, copy.same(octets), "the same", name);
+    holds(rt, !copy.same(other), "not the same", name);
+    Ok(())
+}
+
+#[test]
+fn copies_of_octets_are_the_same(rt: HostRuntime) -> Result<(), Fail> {
+    let other = Octets::of(rt.alloc(), b"abd")?;
+    let octets = Octets::new(b"abc".to_vec(rt.alloc())?);
+    are_copied(&rt, &octets, &other, "octets that aren't shared")?;
+    let octets = shared_octets(octets)?;
+    are_copied(&rt, &octets, &other, "shared octets")?;
     Ok(())
 }
 

@@ -14,12 +14,10 @@ mod challenges;
 mod kept;
 mod kept_rows;
 mod key;
-mod octets;
 mod recent;
 
 pub use challenge::{Challenge, state_value};
 pub use challenges::{CHALLENGES_MAX, ChallengeRows, Challenges, IssueFault};
 pub use kept::Kept;
 pub use key::Key;
-pub use octets::Octets;
 pub use recent::{KEPT_MAX, KeepFault, KeptRows, Recent};

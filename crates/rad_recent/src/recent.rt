@@ -8,9 +8,8 @@ ghost use Rattle.rad_recent.specs.Recent.{IsKept, beside, cut_replies, is_full, 
 use crate::kept::Kept;
 use crate::kept_rows;
 use crate::key::Key;
-use crate::octets::Octets;
 use rad_config::Config;
-use rad_packet::Body;
+use rad_packet::{Body, Octets};
 use std::alloc::{AllocError, Global};
 use std::marker::Model;
 use thiserror::Error;
@@ -141,12 +140,29 @@ impl Recent {
         ensures after_room { self.old.ready ≡ Some key → IsErrOf result NoMemory → ⊥ }
         ensures unready { IsErrOf result Full → self.new.ready ≡ self.old.ready }
     {
+        self.keep_shared(key, Octets::new(octets), body, now)
+    }
+
+    /// Does as `keep` does. Octets that are shared stay so.
+    pub fn keep_shared(
+        &mut self,
+        key: Key,
+        octets: Octets,
+        body: Body,
+        now: u64,
+    ) -> Result<(), KeepFault>
+        requires { now ≤ moment_max }
+        ensures outcome { IsKept now
+            (record { key = key; octets = octets; body = body; made = now })
+            self.old.table result self.new.table }
+        ensures after_room { self.old.ready ≡ Some key → IsErrOf result NoMemory → ⊥ }
+        ensures unready { IsErrOf result Full → self.new.ready ≡ self.old.ready }
+    {
         self.room(&key, now)?;
         let window = self.window;
         kept_rows::keep_live(&mut self.rows, window, now);
         kept_rows::remove_key(&mut self.rows, &key);
         self.ready = None;
-        let octets = Octets::new(octets);
         let reply = Kept {
             key,
             octets,

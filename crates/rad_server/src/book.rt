@@ -11,7 +11,7 @@ use crate::history::exchange;
 use crate::runs::{runs_are_lawful, runs_repeat};
 use crate::server::Server;
 use rad_auth::Request;
-use rad_recent::Octets;
+use rad_packet::Octets;
 use std::alloc::{AllocError, Global};
 use std::marker::Model;
 

@@ -9,7 +9,7 @@ ghost use Rattle.rad_server.specs.Steps.{IsSealable, step};
 use crate::entry::Entry;
 use crate::server::Server;
 use rad_auth::Request;
-use rad_recent::Octets;
+use rad_packet::Octets;
 use std::alloc::AllocError;
 
 /// Steps a server and appends an entry to its history. Returns an equal entry.

@@ -1,7 +1,7 @@
 use super::{CAMPUS, holds};
 use rad_auth::Door;
 use rad_config::{Config, MOMENT_MAX};
-use rad_packet::Body;
+use rad_packet::{Body, Octets};
 use rad_recent::{KeepFault, Key, Recent};
 use std::alloc::{AllocError, Global};
 use std::process::Abort;
@@ -22,6 +22,8 @@ const LONG: &[u8] = b"\x01\x07\x00\x14sixteen octets...";
 enum Call {
     /// What `room` answers, and then `keep`.
     Keep(u16, &'static [u8], u8, Result<(), KeepFault>),
+    /// `keep_shared` answers what `keep` does, and leaves the same table.
+    Share(u16),
     Look(u16, &'static [u8], Option<u8>),
     Expire,
     /// The Code and moment of each kept reply, oldest first.
@@ -36,7 +38,7 @@ enum Call {
     Refuse(u16),
 }
 
-use Call::{Copy, Expire, Fill, Keep, Look, Refuse, Repeats, Rows};
+use Call::{Copy, Expire, Fill, Keep, Look, Refuse, Repeats, Rows, Share};
 
 // The keys of one source: 256 Identifiers of a port, then those of the next port.
 fn key_at(place: u16) -> Key {
@@ -69,6 +71,7 @@ fn make(recent: &mut Recent, alloc: Global, now: u64, call: &Call) -> bool {
         Keep(place, octets, code, kept) => {
             keep(recent, alloc, key_at(*place), octets, *code, now) == Some(*kept)
         }
+        Share(place) => keeps_shared(recent, alloc, *place, now),
         Look(place, octets, code) => look(recent, &key_at(*place), octets, now) == *code,
         Expire => expire(recent, now),
         Rows(wanted) => are_rows(recent, wanted),
@@ -95,6 +98,31 @@ fn keep(
     let made = recent.room(&key, now);
     let kept = recent.keep(key, octets, Body::new(alloc, code), now);
     if made == kept { Some(kept) } else { None }
+}
+
+// What `keep_shared` answers, or None if there is no such moment.
+fn keep_shared(
+    recent: &mut Recent,
+    alloc: Global,
+    key: Key,
+    octets: &[u8],
+    now: u64,
+) -> Option<Result<(), KeepFault>> {
+    if MOMENT_MAX < now {
+        return None;
+    }
+    let octets = Octets::of(alloc, octets).ok()?;
+    Some(recent.keep_shared(key, octets, Body::new(alloc, 2), now))
+}
+
+// Whether `keep_shared` answers what `keep` does, and leaves the same table.
+fn keeps_shared(recent: &mut Recent, alloc: Global, place: u16, now: u64) -> bool {
+    let Ok(mut other) = recent.copy() else {
+        return false;
+    };
+    let kept = keep(&mut other, alloc, key_at(place), FIRST, 2, now);
+    let shared = keep_shared(recent, alloc, key_at(place), FIRST, now);
+    (kept == shared, recent.same(&other)) == (true, true)
 }
 
 // The Code of the reply that a request gets again.
@@ -194,6 +222,8 @@ fn a_later_reply_takes_the_place_of_one_with_its_key(rt: HostRuntime) -> Result<
         (2, Look(2, FIRST, Some(3)), "the other key's too"),
         (3, Keep(2, FIRST, 5, Ok(())), "the same octets"),
         (3, Rows(&[(11, 2), (5, 3)]), "it is the last"),
+        (4, Share(1), "shared octets"),
+        (4, Rows(&[(5, 3), (2, 4)]), "it is the last as well"),
     ];
     play(&rt, rt.alloc(), &calls)
 }

@@ -1,9 +1,9 @@
-use Rattle.std.proofs.Common.{[]}
+use Rattle.std.proofs.Common.{[], ◌∙◌}
 use Rattle.rad_packet.proofs.AttributeLemmas.{in-spelled, are-nil}
 use Rattle.rad_packet.proofs.body.Body.new.Goals as goal
 
 pub invariant_of-result : goal.invariant_of-result
-invariant_of-result c = are-nil c.new.result.items c.new.ensures.items
+invariant_of-result c = are-nil c.new-2.result (c.new-2.ensures ∙ c.new.ensures.items)
 
 pub returns-clause-attributes : goal.returns-clause-attributes
-returns-clause-attributes c = in-spelled c.new.result.items [] c.new.ensures.items
+returns-clause-attributes c = in-spelled c.new-2.result [] (c.new-2.ensures ∙ c.new.ensures.items)
