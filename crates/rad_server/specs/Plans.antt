@@ -253,7 +253,7 @@ IsNewReply configuration current request draw reply =
 -- what is kept of a reply is what it says, with what its request is recognised by
 pub record IsToBeKept (request : Request) (body : Body) (to_keep : ToKeep) : Type 0 where
   pub key : to_keep.key ≡ key_of request
-  pub octets : to_keep.octets.items ≡ packet_octets request.packet
+  pub octets : to_keep.octets ≡ packet_octets request.packet
   pub says : to_keep.body ≡ body
 
 -- a new reply and what is kept of it answer a request that is no repeat, when one more may be kept
@@ -298,7 +298,7 @@ waiting_without client (Some value) waiting = without_answered value client wait
 
 -- the reply that is kept at a moment
 abbrev pub kept_at : ℕ → ToKeep → Kept
-kept_at now to_keep = record { key = to_keep.key; octets = to_keep.octets.items; body = to_keep.body; made = now }
+kept_at now to_keep = record { key = to_keep.key; octets = to_keep.octets; body = to_keep.body; made = now }
 
 -- memory is ready for a change
 abbrev pub IsReadyFor : Change → Tables → Type 0

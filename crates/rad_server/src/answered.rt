@@ -1,5 +1,6 @@
 //! Plans for requests that were answered before. The answer says what changes: no rule is asked again, and no password is checked.
 ghost use Rattle.std.specs.Prelude.{◌≡◌, ◌≤◌, ◌<◌, IfOk, IfSome, List, ℕ, length, option_copied, option_map};
+ghost use Rattle.rad_packet.specs.Packets.{packet_octets};
 ghost use Rattle.rad_config.specs.Spans.{moment_max};
 ghost use Rattle.rad_server.specs.Access.{access, answered_challenge};
 ghost use Rattle.rad_server.specs.Plans.{AreUsable, IsChangeOf, IsNewReply, IsPlanOf, change_of_reply, credentials_of, live_state, state_for, user_asking};
@@ -12,21 +13,22 @@ use crate::plan::{Change, NewReply, Plan, ToKeep, key_of, reported_change};
 use crate::tables::Tables;
 use rad_auth::{Door, Request};
 use rad_config::Config;
-use rad_packet::Body;
 use rad_packet::code::{ACCESS_ACCEPT, ACCESS_CHALLENGE, STATUS_SERVER};
-use std::alloc::{AllocError, Global};
+use rad_packet::{Body, Octets};
+use std::alloc::AllocError;
 
-/// The plan for a request at a moment that was answered so.
+/// The plan for a request, with its octets up to Length, at a moment that was answered so. What is kept shares them and the body.
 pub(crate) fn plan_answered<'a>(
-    alloc: Global,
     config: &Config,
     tables: &Tables,
     now: u64,
     request: &Request<'a>,
+    octets: &Octets,
     draw: &[u8; 16],
     said: &Answer,
 ) -> Result<Plan<'a>, AllocError>
     requires moment { now ≤ moment_max }
+    requires octets { octets.now ≡ packet_octets request.now.packet }
     requires usable { AreUsable config.now tables.now }
     requires said { (answer config.now (live_state now tables.now) request.now draw.now).0
         ≡ said.now }
@@ -39,14 +41,13 @@ pub(crate) fn plan_answered<'a>(
         return Ok(Plan::Unchanged(body.copy()?));
     }
     let key = key_of(request);
-    let octets = request.packet.octets();
-    if tables.recent.look(&key, octets, now).is_some() {
+    if tables.recent.look(&key, octets.octets(), now).is_some() {
         return Ok(Plan::Unchanged(body.copy()?));
     }
     let reply = reply_answered(config, tables, now, request, draw, body)?;
     let to_keep = ToKeep {
         key,
-        octets: Vec::from_slice(alloc, octets)?,
+        octets: octets.copy()?,
         body: reply.body.copy()?,
     };
     Ok(Plan::New(reply, to_keep))

@@ -86,7 +86,7 @@ impl<'c> Book<'c> {
             server,
             ..
         } = self;
-        let octets = Octets::new(Vec::from_slice(*alloc, request.packet.octets())?);
+        let octets = Octets::of(*alloc, request.packet.octets())?;
         exchange(server, history, tag, request, octets, moment, draw)
     }
 

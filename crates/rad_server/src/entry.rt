@@ -3,7 +3,6 @@ ghost use Rattle.std.specs.Prelude.{◌≡◌, ◌↔◌, IfOk, IsTrue};
 
 use crate::answer::Answer;
 use rad_auth::Door;
-use rad_auth::Door;
 use rad_packet::Octets;
 use std::alloc::AllocError;
 

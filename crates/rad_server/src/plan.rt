@@ -1,5 +1,6 @@
 //! What a step does: planning, which only reads, and commit, which changes the state.
 ghost use Rattle.std.specs.Prelude.{◌≡◌, ◌≤◌, ℕ, false, IfOk, IfSome, List, None, OnOk, Some, option_copied, option_map, true};
+ghost use Rattle.rad_packet.specs.Packets.{packet_octets};
 ghost use Rattle.rad_auth.specs.Admission.{IsAnswerable, proxy_states_max, proxy_states_size};
 ghost use Rattle.rad_auth.specs.Sealing.{IsReply};
 ghost use Rattle.rad_config.specs.Configurations.{user_place};
@@ -25,8 +26,8 @@ use crate::reply::{
 use crate::tables::Tables;
 use rad_auth::{Door, Request};
 use rad_config::Config;
-use rad_packet::Body;
 use rad_packet::code::STATUS_SERVER;
+use rad_packet::{Body, Octets};
 use rad_pool::Sessions;
 use rad_recent::{Challenges, Key, Recent};
 use std::alloc::{AllocError, Global};
@@ -69,7 +70,7 @@ pub(crate) struct NewReply<'a> {
 #[derive(Drop)]
 pub(crate) struct ToKeep {
     pub key: Key,
-    pub octets: Vec<u8>,
+    pub octets: Octets,
     pub body: Body,
 }
 
@@ -97,38 +98,41 @@ impl Plan<'_> {
     }
 }
 
-/// The plan for a request at a moment.
+/// The plan for a request, with its octets up to Length, at a moment. What is kept shares them and the body.
 pub(crate) fn plan_step<'a>(
     alloc: Global,
     config: &Config,
     tables: &Tables,
     now: u64,
     request: &Request<'a>,
+    octets: &Octets,
     draw: &[u8; 16],
 ) -> Result<Plan<'a>, AllocError>
     requires moment { now ≤ moment_max }
     requires answerable { IsAnswerable config.now.clients request.now }
+    requires octets { octets.now ≡ packet_octets request.now.packet }
     requires usable { AreUsable config.now tables.now }
     ensures planned { IfOk result
         (IsPlanOf config.now (live_state now tables.now) request.now draw.now) }
     ensures sealable { IfOk result (λ plan. IsSealable (planned_answer plan)) }
 {
     if request.packet.code() == STATUS_SERVER {
-        let body = status_reply(alloc, request.door, &request.packet)?;
+        let mut body = status_reply(alloc, request.door, &request.packet)?;
+        body.share()?;
         return Ok(Plan::Unchanged(body));
     }
     let key = key_of(request);
-    let octets = request.packet.octets();
-    if let Some(kept) = tables.recent.look(&key, octets, now) {
+    if let Some(kept) = tables.recent.look(&key, octets.octets(), now) {
         return Ok(Plan::Unchanged(kept.copy()?));
     }
     if is_full(&tables.recent, &key, now) {
         return Ok(Plan::Busy);
     }
-    let reply = plan_reply(alloc, config, tables, now, request, draw)?;
+    let mut reply = plan_reply(alloc, config, tables, now, request, draw)?;
+    reply.body.share()?;
     let to_keep = ToKeep {
         key,
-        octets: Vec::from_slice(alloc, octets)?,
+        octets: octets.copy()?,
         body: reply.body.copy()?,
     };
     Ok(Plan::New(reply, to_keep))
@@ -432,5 +436,5 @@ fn keep(recent: &mut Recent, now: u64, to_keep: ToKeep)
 {
     let ToKeep { key, octets, body } = to_keep;
     // It was planned, and memory is ready for it.
-    let _kept = recent.keep(key, octets, body, now);
+    let _kept = recent.keep_shared(key, octets, body, now);
 }

@@ -1,5 +1,6 @@
 //! The server, and its step.
 ghost use Rattle.std.specs.Prelude.{◌≡◌, ◌≤◌, ◌↔◌, IfOk, IsTrue, OnErr, OnOk};
+ghost use Rattle.rad_packet.specs.Packets.{packet_octets};
 ghost use Rattle.rad_auth.specs.Admission.{IsAdmitted};
 ghost use Rattle.rad_config.specs.Ranges.{IsConfiguration};
 ghost use Rattle.rad_config.specs.Spans.{moment_max};
@@ -17,6 +18,7 @@ use crate::plan::{Plan, commit, make_room, plan_step};
 use crate::tables::Tables;
 use rad_auth::{Arrival, Request, admitted_is_answerable, readmit};
 use rad_config::Config;
+use rad_packet::Octets;
 use rad_pool::Sessions;
 use rad_recent::{Challenges, Recent};
 use std::alloc::{AllocError, Global};
@@ -126,19 +128,23 @@ impl<'c> Server<'c> {
         ensures configuration { self.new.configuration ≡ self.old.configuration }
         ensures unchanged { OnErr result (self.new ≡ self.old) }
     {
-        let (answer, _copy) = self.step_with_copy(request, moment, draw)?;
+        let octets = Octets::of(self.alloc, request.packet.octets())?;
+        let (answer, _copy) = self.step_with_copy(request, &octets, moment, draw)?;
         Ok(answer)
     }
 
-    /// The step, with a copy of its answer: the memory for it is there before the state changes.
+    /// The step of a request, with its octets up to Length, and a copy of its answer: the memory for it is there before the state
+    /// changes. What is kept shares the octets and the body.
     pub(crate) fn step_with_copy(
         &mut self,
         request: &Request,
+        octets: &Octets,
         moment: u64,
         draw: &[u8; 16],
     ) -> Result<(Answer, Answer), AllocError>
         requires moment { moment ≤ moment_max }
         requires admitted { IsAdmitted self.old.configuration.clients request.now }
+        requires octets { octets.now ≡ packet_octets request.now.packet }
         ensures answered { IfOk result (λ answers.
             step self.old.configuration self.old.state request.now moment draw.now
             ≡ (answers.0, self.new.state)) }
@@ -155,7 +161,7 @@ impl<'c> Server<'c> {
             tables,
         } = self;
         let now = (*clock).max(moment);
-        let plan = plan_step(*alloc, config, tables, now, request, draw)?;
+        let plan = plan_step(*alloc, config, tables, now, request, octets, draw)?;
         let copy = plan.answer()?;
         let answer = self.carry_out(request, moment, draw, plan)?;
         Ok((answer, copy))
@@ -179,19 +185,20 @@ impl<'c> Server<'c> {
             unreachable!()
         };
         let Server {
-            alloc,
             config,
             clock,
             tables,
+            ..
         } = self;
         let Entry {
+            octets,
             moment,
             draw,
             answer,
             ..
         } = entry;
         let now = (*clock).max(*moment);
-        let plan = plan_answered(*alloc, config, tables, now, &request, draw, answer)?;
+        let plan = plan_answered(config, tables, now, &request, octets, draw, answer)?;
         self.carry_out(&request, *moment, draw, plan)?;
         Ok(())
     }
