@@ -15,7 +15,6 @@ mod opened;
 mod pass;
 mod receipt;
 mod settling;
-mod sharing;
 
 pub use desk::{Desk, PASSES_MAX};
 pub use mismatch::Mismatch;
