@@ -1,0 +1,36 @@
+-- Desks: what a desk keeps under its lock.
+use Rattle.std.specs.Prelude.{◌≡◌, ℕ, List, [], ◌∷◌, ◌++◌, length}
+use Rattle.rad_server.specs.Runs.{IsHistory}
+use Rattle.rad_config.specs.Configurations.{Configuration}
+use Rattle.rad_server.specs.Servers.{Server}
+use Rattle.rad_server.specs.States.{opening}
+use Rattle.rad_server.specs.declared.entry.Entry.{Entry}
+use Rattle.rad_shell.specs.declared.receipt.Receipt.{Receipt}
+
+-- the most passes of a desk
+abbrev pub passes_max : ℕ
+passes_max = 8
+
+-- what a ledger opens with is a blank of its name, and of its parts, of which each pass gets one
+pub record IsBlankOf (blank_name blank_parts name parts passes : ℕ) : Type 0 where
+  pub same_name : blank_name ≡ name
+  pub same_parts : blank_parts ≡ parts
+  pub part_each : blank_parts ≡ passes
+
+-- the history leads from the opening to the server, the ledger's total is its length, and the share that is left has no part
+pub record IsKept (opening : Server) (history : List Entry) (server : Server) (total parts amount : ℕ) : Type 0 where
+  pub run : IsHistory opening history server
+  pub counted : total ≡ length history
+  pub no_part : parts ≡ 0
+  pub no_amount : amount ≡ 0
+
+-- a history is longer by the entry of a receipt, which stands at the receipt's place
+pub record Appends (before after : List Entry) (receipt : Receipt) : Type 0 where
+  pub appended : after ≡ before ++ receipt.entry ∷ []
+  pub place : receipt.place ≡ length before
+
+-- some server, for a ledger before a call says how its desk opens
+abbrev pub some_server : Server
+some_server =
+    let configuration : Configuration = record { window = 0; hold = 0; clients = []; pools = []; users = [] } in
+    record { configuration = configuration; state = opening configuration }

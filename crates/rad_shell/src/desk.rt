@@ -1,0 +1,146 @@
+//! The desk.
+ghost use Rattle.std.specs.Prelude.{◌≡◌, ◌≢◌, ◌↔◌, ◌≤◌, vec_len, Err, OnErr, OnOk, IfOk, All};
+ghost use Rattle.rad_auth.specs.Admission.{IsAdmitted};
+ghost use Rattle.rad_config.specs.Spans.{moment_max};
+ghost use Rattle.rad_server.specs.Runs.{IsHistory};
+ghost use Rattle.rad_shell.specs.Desks.{IsBlankOf, passes_max};
+ghost use Rattle.rad_shell.specs.Passes.{AsksOne, AreNew};
+ghost use Rattle.rad_shell.specs.Settlements.{Agrees};
+ghost use Rattle.rad_shell.specs.declared.mismatch.Mismatch.{Mismatch};
+
+use crate::locked::Locked;
+use crate::mismatch::Mismatch;
+use crate::opened::Opened;
+use crate::pass::Pass;
+use crate::settling::{Closed, compare};
+use rad_auth::Request;
+use rad_server::Server;
+use std::alloc::{AllocError, Global};
+use std::sync::ledger::{Blank, Share};
+use std::sync::{Mutex, Wait};
+
+/// The most passes of a desk.
+pub const PASSES_MAX: u64 = 8;
+
+/// One server that many threads ask, each with a pass.
+#[derive(Drop)]
+pub struct Desk<'c, L: Opened> {
+    // The server as it was when the desk opened; only `close` reads it.
+    opening: Server<'c>,
+    lock: Mutex<Locked<'c, L>>,
+    ghost opened: { opening ≡ L.opening },
+}
+
+impl<'c, L: Opened> Desk<'c, L> {
+    /// A desk over a copy of the server, and its passes, at most `PASSES_MAX`.
+    ///
+    /// The blank has a part for each pass, and `L` names it and the server. If memory is refused, the blank is gone.
+    pub fn open(
+        alloc: Global,
+        blank: Blank,
+        server: &Server<'c>,
+        passes: u64,
+    ) -> Result<(Desk<'c, L>, Vec<Pass<L>>), AllocError>
+        requires passes { (1 ≤ passes) × (passes ≤ passes_max) }
+        requires blank { IsBlankOf blank.name blank.parts L.name L.parts passes }
+        requires opening { server.now ≡ L.opening }
+        ensures { IfOk result (λ opened. AreNew passes opened.1.items) }
+    {
+        let opening = server.copy()?;
+        let (lock, all) = open_with::<L>(alloc, blank, server.copy()?, passes)?;
+        Ok((Desk { opening, lock }, all))
+    }
+
+    /// Asks the server once, and keeps the receipt in the pass.
+    ///
+    /// The request was admitted with the clients of the configuration of the server with which the desk opened. The moment is in
+    /// milliseconds, at most `MOMENT_MAX`. The call may wait for other threads. If memory is refused, pass and server are
+    /// unchanged.
+    pub fn ask<R: Wait>(
+        &self,
+        rt: &R,
+        pass: &mut Pass<L>,
+        tag: u64,
+        request: &Request,
+        moment: u64,
+        draw: &[u8; 16],
+    ) -> Result<(), AllocError>
+        requires moment { moment ≤ moment_max }
+        requires admitted { IsAdmitted L.opening.configuration.clients request.now }
+        ensures asked { OnOk result (AsksOne tag request.now moment draw.now pass.old pass.new) }
+        ensures unchanged { OnErr result (pass.new ≡ pass.old) }
+    {
+        pass.ask(rt, &self.lock, tag, request, moment, draw)
+    }
+
+    /// Closes the desk, and compares its history with the server handed in and with the receipts of the passes.
+    ///
+    /// The first mismatch that applies is told, and then nothing is handed back. Where all passes of the desk are handed in, it is
+    /// not `Mismatch::Count`. The call takes no memory and doesn't wait.
+    pub fn close(self, server: &Server, passes: Vec<Pass<L>>) -> Result<Closed<'c>, Mismatch>
+        ensures run { IfOk result (λ closed.
+            IsHistory server.now closed.history.items closed.server) }
+        ensures agreed { IfOk result (λ closed. Agrees closed.history.items passes.items) }
+        ensures opening { (result ≡ Err Mismatch.Opening) ↔ (server.now ≢ L.opening) }
+        ensures complete { vec_len passes ≡ L.parts → result ≢ Err Mismatch.Count }
+    {
+        let Desk { opening, lock } = self;
+        if !opening.same(server) {
+            return Err(Mismatch::Opening);
+        }
+        close(lock.into_inner(), passes)
+    }
+}
+
+/// A lock over a server that is moved in, and its passes.
+pub(crate) fn open_with<'c, L: Opened>(
+    alloc: Global,
+    blank: Blank,
+    server: Server<'c>,
+    passes: u64,
+) -> Result<(Mutex<Locked<'c, L>>, Vec<Pass<L>>), AllocError>
+    requires passes { (1 ≤ passes) × (passes ≤ passes_max) }
+    requires blank { IsBlankOf blank.name blank.parts L.name L.parts passes }
+    requires opening { server ≡ L.opening }
+    ensures { IfOk result (λ opened. AreNew passes opened.1.items) }
+{
+    let (total, mut rest) = blank.open::<L>();
+    let all = split(alloc, &mut rest, passes)?;
+    Ok((Mutex::new(Locked::new(alloc, server, total, rest)), all))
+}
+
+// The parts of a share, each in a pass of its own.
+fn split<L: Opened>(
+    alloc: Global,
+    rest: &mut Share<L>,
+    passes: u64,
+) -> Result<Vec<Pass<L>>, AllocError>
+    requires { (rest.old.parts ≡ passes) × (rest.old.amount ≡ 0) }
+    ensures new { IfOk result (λ all. AreNew passes all.items) }
+    ensures left { OnOk result ((rest.new.parts ≡ 0) × (rest.new.amount ≡ 0)) }
+{
+    let mut all = Vec::with_capacity(alloc, passes as usize)?;
+    for _i in 0..passes {
+        all.push(Pass::new(alloc, rest.split_off(1, 0)))?;
+    }
+    Ok(all)
+}
+
+/// The server and the history of a lock, where they agree with the receipts of the passes.
+pub(crate) fn close<'c, L: Opened>(
+    locked: Locked<'c, L>,
+    passes: Vec<Pass<L>>,
+) -> Result<Closed<'c>, Mismatch>
+    ensures history { IfOk result (λ closed. closed.history.items ≡ locked.entry.history) }
+    ensures run { IfOk result (λ closed. IsHistory L.opening closed.history.items closed.server) }
+    ensures agreed { IfOk result (λ closed. Agrees closed.history.items passes.items) }
+    ensures opening { result ≢ Err Mismatch.Opening }
+    ensures complete { vec_len passes ≡ L.parts → result ≢ Err Mismatch.Count }
+{
+    let verdict = compare(locked.history(), passes.as_slice());
+    let (history, server) = locked.into_parts(passes);
+    match verdict {
+        Ok(()) => Ok(Closed { server, history }),
+        Err(mismatch) => Err(mismatch),
+    }
+}

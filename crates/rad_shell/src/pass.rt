@@ -1,0 +1,96 @@
+//! Passes.
+ghost use Rattle.std.specs.Prelude.{◌≡◌, ◌≤◌, [], length, OnErr, OnOk};
+ghost use Rattle.rad_auth.specs.Admission.{IsAdmitted};
+ghost use Rattle.rad_config.specs.Spans.{moment_max};
+ghost use Rattle.rad_shell.specs.Passes.{AsksOne};
+
+use crate::locked::Locked;
+use crate::opened::Opened;
+use crate::receipt::Receipt;
+use rad_auth::Request;
+use rad_recent::Octets;
+use std::alloc::{AllocError, Global};
+use std::marker::Model;
+use std::sync::ledger::Share;
+use std::sync::{Mutex, Wait};
+
+/// What one thread carries to a desk and brings back: its receipts, oldest first, and its share of the desk's ledger.
+///
+/// The share is one part, and its amount is the number of the receipts.
+#[derive(Drop)]
+pub struct Pass<L: Opened> {
+    alloc: Global,
+    receipts: Vec<Receipt>,
+    share: Share<L>,
+}
+
+impl<L: Opened> Model for Pass<L> {
+    ghost use Rattle.rad_shell.specs.Passes.{Pass, IsCounted};
+
+    ghost Value = { Pass };
+
+    ghost view = { λ pass. record { receipts = pass.receipts.items; amount = pass.share.amount } };
+
+    ghost invariant = { λ pass. IsCounted pass.share.parts pass.share.amount pass.receipts.items };
+}
+
+impl<L: Opened> Pass<L> {
+    /// A pass without a receipt.
+    pub(crate) fn new(alloc: Global, share: Share<L>) -> Pass<L>
+        requires { (share.parts ≡ 1) × (share.amount ≡ 0) }
+        ensures { (result.receipts ≡ []) × (result.amount ≡ 0) }
+    {
+        let receipts = Vec::new(alloc);
+        Pass {
+            alloc,
+            receipts,
+            share,
+        }
+    }
+
+    /// The receipts, oldest first.
+    pub fn receipts(&self) -> &[Receipt]
+        ensures receipts { result.now ≡ self.now.receipts }
+        ensures counted { self.now.amount ≡ length self.now.receipts }
+    {
+        self.receipts.as_slice()
+    }
+
+    /// The share, which counts the receipts.
+    pub(crate) fn into_share(self) -> Share<L>
+        ensures one { result.parts ≡ 1 }
+        ensures counted { result.amount ≡ length self.receipts }
+    {
+        let Pass { share, .. } = self;
+        share
+    }
+
+    /// One exchange under the lock, of which the pass keeps a receipt.
+    pub(crate) fn ask<'c, R: Wait>(
+        &mut self,
+        rt: &R,
+        lock: &Mutex<Locked<'c, L>>,
+        tag: u64,
+        request: &Request,
+        moment: u64,
+        draw: &[u8; 16],
+    ) -> Result<(), AllocError>
+        requires moment { moment ≤ moment_max }
+        requires admitted { IsAdmitted L.opening.configuration.clients request.now }
+        ensures asked { OnOk result (AsksOne tag request.now moment draw.now self.old self.new) }
+        ensures unchanged { OnErr result (self.new ≡ self.old) }
+    {
+        let Pass {
+            alloc,
+            receipts,
+            share,
+        } = self;
+        let octets = Octets::new(Vec::from_slice(*alloc, request.packet.octets())?);
+        receipts.reserve(1)?;
+        let receipt = lock
+            .lock(rt)
+            .exchange(share, tag, request, octets, moment, draw)?;
+        receipts.push_reserved(receipt);
+        Ok(())
+    }
+}

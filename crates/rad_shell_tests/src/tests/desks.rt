@@ -1,0 +1,220 @@
+use super::asking::Ending::{Close, CloseLater, CloseWithOne, Settle};
+use super::asking::{Asked, Ended, Ending, book_of, one_thread, two_threads};
+use super::campus::CAMPUS;
+use super::holds;
+use super::requests::{DORY, NEMO};
+use rad_config::Config;
+use rad_packet::code::{ACCESS_ACCEPT, ACCESS_REJECT};
+use rad_server::{Answer, Entry, Server};
+use rad_shell::{Mismatch, Receipt, settle};
+use std::alloc::Global;
+use std::marker::Brand;
+use std::sync::Wait;
+use std::test::Fail;
+
+const NEMO_7: Asked = Asked {
+    pass: 0,
+    tag: 7,
+    octets: NEMO,
+};
+
+const DORY_8: Asked = Asked {
+    pass: 1,
+    tag: 8,
+    octets: DORY,
+};
+
+/// nemo asks with the first pass, and then dory with the second one.
+const BOTH: &[Asked] = &[NEMO_7, DORY_8];
+
+#[test]
+fn a_desk_closes_with_its_history(rt: HostRuntime) -> Result<(), Fail> {
+    let config = Config::read(rt.alloc(), CAMPUS)?;
+    let server = Server::open(rt.alloc(), &config)?;
+    let ended = one_thread(&rt, rt.alloc(), &server, BOTH, Close);
+    let wanted = &[(7, ACCESS_ACCEPT), (8, ACCESS_REJECT)];
+    holds(
+        &rt,
+        has_history(&ended, wanted),
+        "an Accept and a Reject, in turn",
+    );
+    holds(&rt, all_stand(&ended), "each receipt stands in the history");
+    Ok(())
+}
+
+#[test]
+fn what_does_not_agree_does_not_close(rt: HostRuntime) -> Result<(), Fail> {
+    let config = Config::read(rt.alloc(), CAMPUS)?;
+    let server = Server::open(rt.alloc(), &config)?;
+    holds(
+        &rt,
+        mismatches(&rt, rt.alloc(), &server, CloseLater, Mismatch::Opening),
+        "a later clock",
+    );
+    holds(
+        &rt,
+        mismatches(&rt, rt.alloc(), &server, CloseWithOne, Mismatch::Count),
+        "a missing pass",
+    );
+    let swapped = Settle(&[DORY_8, NEMO_7]);
+    let at = Mismatch::At { pass: 0, place: 0 };
+    holds(
+        &rt,
+        mismatches(&rt, rt.alloc(), &server, swapped, at),
+        "another order",
+    );
+    holds(&rt, counts(rt.alloc(), &server), "no pass");
+    Ok(())
+}
+
+#[test]
+fn two_equal_asks_are_two_entries(rt: HostRuntime) -> Result<(), Fail> {
+    let config = Config::read(rt.alloc(), CAMPUS)?;
+    let server = Server::open(rt.alloc(), &config)?;
+    let ended = one_thread(&rt, rt.alloc(), &server, &[NEMO_7, NEMO_7], Close);
+    let wanted = &[(7, ACCESS_ACCEPT), (7, ACCESS_ACCEPT)];
+    holds(&rt, has_history(&ended, wanted), "two entries");
+    holds(&rt, are_equal(&ended), "the entries are the same");
+    holds(&rt, places_rise(&ended), "the places rise");
+    Ok(())
+}
+
+#[test]
+fn two_threads_share_a_desk(rt: HostRuntime) -> Result<(), Fail> {
+    const FIRST: &[Asked] = &[
+        NEMO_7, NEMO_7, NEMO_7, NEMO_7, NEMO_7, NEMO_7, NEMO_7, NEMO_7,
+    ];
+    const SECOND: &[Asked] = &[
+        DORY_8, DORY_8, DORY_8, DORY_8, DORY_8, DORY_8, DORY_8, DORY_8,
+    ];
+    let config = Config::read(rt.alloc(), CAMPUS)?;
+    let server = Server::open(rt.alloc(), &config)?;
+    let ended = two_threads(&rt, rt.alloc(), &server, FIRST, SECOND);
+    holds(
+        &rt,
+        has_len(&ended, 16),
+        "as many entries and receipts as asks",
+    );
+    holds(&rt, all_stand(&ended), "each receipt stands in the history");
+    Ok(())
+}
+
+// Whether a desk at which both asked ends with this mismatch.
+fn mismatches(
+    rt: &impl Wait,
+    alloc: Global,
+    server: &Server,
+    ending: Ending,
+    wanted: Mismatch,
+) -> bool {
+    match one_thread(rt, alloc, server, BOTH, ending) {
+        Some(
+            Ended {
+                history: Err(mismatch),
+                ..
+            },
+        ) => mismatch == wanted,
+        _ => false,
+    }
+}
+
+// Whether a book of which both asked has too few receipts where there is no pass.
+fn counts(alloc: Global, server: &Server) -> bool {
+    let Some(book) = book_of(alloc, server, BOTH) else {
+        return false;
+    };
+    match settle::<Brand>(book, server, Vec::new(alloc)) {
+        Ok(_) => false,
+        Err(mismatch) => mismatch == Mismatch::Count,
+    }
+}
+
+// Whether these are the tags of the entries and the Codes of their replies.
+fn has_history(ended: &Option<Ended>, wanted: &[(u64, u8)]) -> bool {
+    match ended {
+        Some(
+            Ended {
+                history: Ok(history),
+                ..
+            },
+        ) => history.len() == wanted.len() && has_each(history, wanted),
+        _ => false,
+    }
+}
+
+fn has_each(history: &[Entry], wanted: &[(u64, u8)]) -> bool {
+    let mut rest = wanted.iter();
+    for entry in history.iter() {
+        if rest.next() != Some(&(entry.tag, code_of(&entry.answer))) {
+            return false;
+        }
+    }
+    true
+}
+
+fn code_of(answer: &Answer) -> u8 {
+    match answer {
+        Answer::Send(body) => body.code(),
+        Answer::Busy => 0,
+    }
+}
+
+// Whether there are so many entries, and so many receipts.
+fn has_len(ended: &Option<Ended>, wanted: usize) -> bool {
+    match ended {
+        Some(
+            Ended {
+                receipts,
+                history: Ok(history),
+            },
+        ) => receipts.len() == wanted && history.len() == wanted,
+        _ => false,
+    }
+}
+
+// Whether the entry of each receipt is the one at its place.
+fn all_stand(ended: &Option<Ended>) -> bool {
+    match ended {
+        Some(
+            Ended {
+                receipts,
+                history: Ok(history),
+            },
+        ) => receipts.iter().all(|receipt| stands(history, receipt)),
+        _ => false,
+    }
+}
+
+fn stands(history: &[Entry], receipt: &Receipt) -> bool {
+    match history.get(receipt.place as usize) {
+        Some(entry) => entry.same(&receipt.entry),
+        None => false,
+    }
+}
+
+// Whether the two entries are the same.
+fn are_equal(ended: &Option<Ended>) -> bool {
+    match ended {
+        Some(
+            Ended {
+                history: Ok(history),
+                ..
+            },
+        ) => match history.as_slice() {
+            [first, second] => first.same(second),
+            _ => false,
+        },
+        _ => false,
+    }
+}
+
+// Whether the second of the two receipts has the higher place.
+fn places_rise(ended: &Option<Ended>) -> bool {
+    match ended {
+        Some(Ended { receipts, .. }) => match receipts.as_slice() {
+            [first, second] => first.place < second.place,
+            _ => false,
+        },
+        None => false,
+    }
+}
