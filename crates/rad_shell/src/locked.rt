@@ -12,7 +12,7 @@ use crate::opened::Opened;
 use crate::pass::Pass;
 use crate::receipt::Receipt;
 use rad_auth::Request;
-use rad_recent::Octets;
+use rad_packet::Octets;
 use rad_server::{Entry, Server, exchange};
 use std::alloc::{AllocError, Global};
 use std::marker::Model;

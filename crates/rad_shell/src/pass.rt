@@ -8,7 +8,7 @@ use crate::locked::Locked;
 use crate::opened::Opened;
 use crate::receipt::Receipt;
 use rad_auth::Request;
-use rad_recent::Octets;
+use rad_packet::Octets;
 use std::alloc::{AllocError, Global};
 use std::marker::Model;
 use std::sync::ledger::Share;
@@ -85,7 +85,7 @@ impl<L: Opened> Pass<L> {
             receipts,
             share,
         } = self;
-        let octets = Octets::new(Vec::from_slice(*alloc, request.packet.octets())?);
+        let octets = Octets::of(*alloc, request.packet.octets())?;
         receipts.reserve(1)?;
         let receipt = lock
             .lock(rt)

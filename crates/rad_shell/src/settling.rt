@@ -38,6 +38,7 @@ pub fn settle<'c, L: Opened>(
     ensures history { IfOk result (λ closed. closed.history.items ≡ book.entry.history) }
     ensures run { IfOk result (λ closed. IsHistory server.now closed.history.items closed.server) }
     ensures agreed { IfOk result (λ closed. Agrees closed.history.items passes.items) }
+    ensures opening { IfOk result (λ closed. book.entry.opening ≡ server.now) }
     ensures refused { IfErr result (IsMismatch book.entry server.now passes.items) }
 {
     if !book.opening().same(server) {
