@@ -83,7 +83,8 @@ fn holds(rt: &impl Abort, is_so: bool, what: &str) {
     assert!(rt; is_so, "{what}");
 }
 
-// Takes the steps in a server that is opened for them, and asserts what comes of each.
+// Takes the steps in a server that is opened for them, and asserts what comes of each. In the end a server that follows the history
+// is the same.
 fn play(rt: &impl Abort, alloc: Global, rows: &[Row]) -> Result<(), Fail> {
     let config = Config::read(alloc, CAMPUS)?;
     let mut run = Run::open(alloc, &config)?;
@@ -91,5 +92,6 @@ fn play(rt: &impl Abort, alloc: Global, rows: &[Row]) -> Result<(), Fail> {
         let is_right = run.takes(*moment, step);
         holds(rt, is_right, what);
     }
+    holds(rt, run.is_followed(), "a server that follows the history");
     Ok(())
 }

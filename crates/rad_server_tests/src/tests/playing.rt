@@ -11,7 +11,7 @@ use rad_packet::Body;
 use rad_packet::code::{ACCESS_ACCEPT, ACCESS_CHALLENGE, ACCESS_REJECT, ACCOUNTING_RESPONSE};
 use rad_pool::{Phase, Session, Sessions};
 use rad_recent::{Challenge, Challenges, Kept, Key, Recent};
-use rad_server::{Answer, Server};
+use rad_server::{Answer, Book, Server, follow};
 use std::alloc::{AllocError, Global};
 
 /// The draw of each step.
@@ -21,13 +21,13 @@ const DRAW: &[u8; 16] = b"\0\0\0\0\0\0\0\0\0\0\0\0\0\0\0\x01";
 /// sealing puts in.
 const FRONT: &[u8; 18] = b"\x50\x12\0\0\0\0\0\0\0\0\0\0\0\0\0\0\0\0";
 
-/// A server, and the configuration that it was opened with.
+/// A book of a server, and the configuration that the server was opened with.
 #[derive(Drop)]
 pub(crate) struct Run<'c> {
     alloc: Global,
     config: &'c Config,
-    server: Server<'c>,
-    ghost opened: { server.configuration ≡ config.now },
+    book: Book<'c>,
+    ghost opened: { book.server.configuration ≡ config.now },
 }
 
 impl<'c> Run<'c> {
@@ -36,7 +36,7 @@ impl<'c> Run<'c> {
         Ok(Run {
             alloc,
             config,
-            server,
+            book: Book::open(alloc, &server)?,
         })
     }
 
@@ -50,10 +50,11 @@ impl<'c> Run<'c> {
             Step::Open(text, is_same) => self.is_like(text) == *is_same,
             Step::Fill(filling, count) => self.fills(moment, *filling, *count),
             Step::Sessions(wanted) => {
-                self.server.clock() == moment && are_sessions(self.server.sessions(), wanted)
+                let server = self.book.server();
+                server.clock() == moment && are_sessions(server.sessions(), wanted)
             }
-            Step::Replies(wanted) => are_replies(self.server.recent(), wanted),
-            Step::Challenges(wanted) => are_challenges(self.server.challenges(), wanted),
+            Step::Replies(wanted) => are_replies(self.book.server().recent(), wanted),
+            Step::Challenges(wanted) => are_challenges(self.book.server().challenges(), wanted),
         }
     }
 
@@ -67,27 +68,27 @@ impl<'c> Run<'c> {
 
     // Whether a request is answered as it must be, and the server is the same after it.
     fn stays(&mut self, moment: u64, asked: &Asked, answered: &Answered) -> bool {
-        let Ok(before) = self.server.copy() else {
+        let Ok(before) = self.book.server().copy() else {
             return false;
         };
-        self.answers(moment, PORT, asked, answered) && before.same(&self.server)
+        self.answers(moment, PORT, asked, answered) && before.same(self.book.server())
     }
 
     // Whether a copy is the same, differs once this server has answered a request, and is the same once it has answered it too.
     fn copies(&mut self, moment: u64, asked: &Asked, answered: &Answered) -> bool {
-        let Ok(server) = self.server.copy() else {
+        let Ok(book) = Book::open(self.alloc, self.book.server()) else {
             return false;
         };
         let mut copy = Run {
             alloc: self.alloc,
             config: self.config,
-            server,
+            book,
         };
-        copy.server.same(&self.server)
+        copy.book.server().same(self.book.server())
             && self.answers(moment, PORT, asked, answered)
-            && !copy.server.same(&self.server)
+            && !copy.book.server().same(self.book.server())
             && copy.answers(moment, PORT, asked, answered)
-            && copy.server.same(&self.server)
+            && copy.book.server().same(self.book.server())
     }
 
     // Whether a server that is opened with a configuration is the same as this one.
@@ -96,7 +97,7 @@ impl<'c> Run<'c> {
             return false;
         };
         match Server::open(self.alloc, &config) {
-            Ok(server) => server.same(&self.server),
+            Ok(server) => server.same(self.book.server()),
             Err(_) => false,
         }
     }
@@ -147,7 +148,23 @@ impl<'c> Run<'c> {
             return None;
         }
         let request = admit(self.config.clients(), arrival)?;
-        self.server.step(&request, moment, DRAW).ok()
+        let tag = self.book.history().len() as u64;
+        let entry = self.book.exchange(tag, &request, moment, DRAW).ok()?;
+        let is_last = self.book.history().last()?.same(&entry);
+        if is_last && entry.tag == tag && entry.moment == moment {
+            Some(entry.answer)
+        } else {
+            None
+        }
+    }
+
+    /// Whether the server as it was opened, once it has followed the history, is as this one is now.
+    pub fn is_followed(&self) -> bool {
+        let Ok(mut server) = self.book.opening().copy() else {
+            return false;
+        };
+        let history = self.book.history();
+        follow(&mut server, history, self.book.server()).is_ok() && server.same(self.book.server())
     }
 }
 
