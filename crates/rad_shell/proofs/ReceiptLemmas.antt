@@ -5,19 +5,19 @@ use Rattle.std.proofs.lemmas.Option.{get_or_from_slice_get, slice_get_within}
 use Rattle.std.proofs.lemmas.List.Elements.{All-more, All-push}
 use Rattle.rad_server.specs.declared.entry.Entry.{Entry}
 use Rattle.rad_shell.specs.Passes.{AreNew, IsNew, Pass}
-use Rattle.rad_shell.specs.Settlements.{HasMisplaced, IsSettled, MisplacedDisagree, StandInOrder, receipts_of}
+use Rattle.rad_shell.specs.Settlements.{HasMisplaced, IsSettled, MisplacedDisagree, AreInOrder, receipt_count}
 use Rattle.rad_shell.specs.declared.receipt.Receipt.{Receipt}
 
 -- the receipts of one more pass are counted too
-pub receipts_of_push : (passes : List Pass) (pass : Pass)
-    → receipts_of (passes ++ pass ∷ []) ≡ receipts_of passes + length pass.receipts
-receipts_of_push [] pass = omega arith
-receipts_of_push (first ∷ rest) pass = let h = receipts_of_push rest pass in omega (arith, h)
+pub receipt_count_push : (passes : List Pass) (pass : Pass)
+    → receipt_count (passes ++ pass ∷ []) ≡ receipt_count passes + length pass.receipts
+receipt_count_push [] pass = omega arith
+receipt_count_push (first ∷ rest) pass = let h = receipt_count_push rest pass in omega (arith, h)
 
 -- what is found of the receipts that are left, above a floor, is found of all
 abbrev pub GoesOnFrom : List Entry → List Receipt → ℕ → List Receipt → Type 0
 GoesOnFrom history receipts floor rest =
-    (StandInOrder floor history rest → StandInOrder 0 history receipts)
+    (AreInOrder floor history rest → AreInOrder 0 history receipts)
     × ((place : ℕ) → HasMisplaced floor history rest place → HasMisplaced 0 history receipts place)
 
 -- the passes up to one are settled, and it is too
@@ -42,7 +42,7 @@ one_more_new count passes pass new is_new =
 
 -- receipts of which one is misplaced don't stand in order
 misplaced_out_of_order : (floor : ℕ) (history : List Entry) (receipts : List Receipt) (place : ℕ)
-    → HasMisplaced floor history receipts place → StandInOrder floor history receipts → ⊥
+    → HasMisplaced floor history receipts place → AreInOrder floor history receipts → ⊥
 misplaced_out_of_order floor history [] place misplaced order = misplaced
 misplaced_out_of_order floor history (receipt ∷ rest) place (inl first) order = first.1 order.0
 misplaced_out_of_order floor history (receipt ∷ rest) place (inr later) order =

@@ -18,7 +18,7 @@ pub record IsBlankOf (blank_name blank_parts name parts passes : ℕ) : Type 0 w
   pub part_each : blank_parts ≡ passes
 
 -- the history leads from the opening to the server, the ledger's total is its length, and the share that is left has no part
-pub record IsKept (opening : Server) (history : List Entry) (server : Server) (total parts amount : ℕ) : Type 0 where
+pub record IsConsistent (opening : Server) (history : List Entry) (server : Server) (total parts amount : ℕ) : Type 0 where
   pub run : IsHistory opening history server
   pub counted : total ≡ length history
   pub no_part : parts ≡ 0

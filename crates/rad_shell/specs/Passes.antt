@@ -1,4 +1,4 @@
--- Passes: what one thread carries to a desk and brings back.
+-- Passes: what one thread holds while it asks a desk.
 use Rattle.std.specs.Prelude.{◌≡◌, ℕ, ◌+◌, List, [], ◌∷◌, ◌++◌, length, All}
 use Rattle.rad_auth.specs.declared.arrival.Request.{Request}
 use Rattle.rad_server.specs.Runs.{IsAsked}
@@ -19,13 +19,13 @@ pub record IsCounted (parts amount : ℕ) (receipts : List Receipt) : Type 0 whe
 abbrev pub IsNew : Pass → Type 0
 IsNew pass = (pass.receipts ≡ []) × (pass.amount ≡ 0)
 
--- so many passes, with none of which anything was asked
+-- this many passes, with none of which anything was asked
 abbrev pub AreNew : ℕ → List Pass → Type 0
 AreNew count passes = (length passes ≡ count) × All IsNew passes
 
 -- one more request was asked with a pass: it has one more receipt, whose entry holds what was asked and an answer that can be
 -- sealed, and the amount is greater by one
-pub record AsksOne (tag : ℕ) (request : Request) (moment : ℕ) (draw : List ℕ) (before after : Pass) : Type 0 where
+pub record AddsReceipt (tag : ℕ) (request : Request) (moment : ℕ) (draw : List ℕ) (before after : Pass) : Type 0 where
   pub receipt : Receipt
   pub receipts : after.receipts ≡ before.receipts ++ receipt ∷ []
   pub asked : IsAsked tag request moment draw receipt.entry

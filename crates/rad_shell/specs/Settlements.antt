@@ -11,45 +11,45 @@ use Rattle.rad_shell.specs.declared.receipt.Receipt.{Receipt}
 -- ---- receipts
 
 -- how many receipts passes have
-abbrev pub receipts_of : List Pass → ℕ
-receipts_of [] = 0
-receipts_of (pass ∷ rest) = length pass.receipts + receipts_of rest
+abbrev pub receipt_count : List Pass → ℕ
+receipt_count [] = 0
+receipt_count (pass ∷ rest) = length pass.receipts + receipt_count rest
 
--- the entry of a receipt stands at its place
-abbrev pub Stands : List Entry → Receipt → Type 0
-Stands history receipt = slice_get history receipt.place ≡ Some receipt.entry
+-- the entry of a receipt is at its place
+abbrev pub IsAtItsPlace : List Entry → Receipt → Type 0
+IsAtItsPlace history receipt = slice_get history receipt.place ≡ Some receipt.entry
 
 -- the same, and the place isn't below a floor
-abbrev pub StandsFrom : ℕ → List Entry → Receipt → Type 0
-StandsFrom floor history receipt = (floor ≤ receipt.place) × Stands history receipt
+abbrev pub IsAtItsPlaceFrom : ℕ → List Entry → Receipt → Type 0
+IsAtItsPlaceFrom floor history receipt = (floor ≤ receipt.place) × IsAtItsPlace history receipt
 
--- each receipt stands, and its place is above that of the one before; the first isn't below the floor
-abbrev pub StandInOrder : ℕ → List Entry → List Receipt → Type 0
-StandInOrder floor history [] = Unit {0}
-StandInOrder floor history (receipt ∷ rest) =
-    StandsFrom floor history receipt × StandInOrder (receipt.place + 1) history rest
+-- each receipt's entry is at its place, which is above that of the receipt before; the first place isn't below the floor
+abbrev pub AreInOrder : ℕ → List Entry → List Receipt → Type 0
+AreInOrder floor history [] = Unit {0}
+AreInOrder floor history (receipt ∷ rest) =
+    IsAtItsPlaceFrom floor history receipt × AreInOrder (receipt.place + 1) history rest
 
--- a receipt with this place doesn't stand so
+-- a receipt with this place has its entry elsewhere, or its place isn't above that of the receipt before
 abbrev pub HasMisplaced : ℕ → List Entry → List Receipt → ℕ → Type 0
 HasMisplaced floor history [] place = ⊥
 HasMisplaced floor history (receipt ∷ rest) place =
-    ((receipt.place ≡ place) × (StandsFrom floor history receipt → ⊥))
+    ((receipt.place ≡ place) × (IsAtItsPlaceFrom floor history receipt → ⊥))
     ⊎ HasMisplaced (receipt.place + 1) history rest place
 
 -- ---- passes
 
--- the receipts of a pass stand in order
+-- the receipts of a pass are in order
 abbrev pub IsSettled : List Entry → Pass → Type 0
-IsSettled history pass = StandInOrder 0 history pass.receipts
+IsSettled history pass = AreInOrder 0 history pass.receipts
 
 -- the pass of this number has a misplaced receipt with this place
 abbrev pub IsMisplaced : List Entry → List Pass → ℕ → ℕ → Type 0
 IsMisplaced history passes number place =
     (pass : Pass) × (slice_get passes number ≡ Some pass) × HasMisplaced 0 history pass.receipts place
 
--- a history and passes agree: it has as many entries as they have receipts, and each receipt stands, in the order of its pass
+-- a history and passes agree: it has as many entries as they have receipts, and the receipts of each pass are in order
 pub record Agrees (history : List Entry) (passes : List Pass) : Type 0 where
-  pub count : receipts_of passes ≡ length history
+  pub count : receipt_count passes ≡ length history
   pub settled : All (IsSettled history) passes
 
 -- ---- mismatches
@@ -62,10 +62,10 @@ mismatch_number (At pass place) = 3
 -- why a history and passes don't agree; the count is compared first
 abbrev pub Disagrees : List Entry → List Pass → Mismatch → Type 0
 Disagrees history passes Opening = ⊥
-Disagrees history passes Count = receipts_of passes ≢ length history
-Disagrees history passes (At pass place) = (receipts_of passes ≡ length history) × IsMisplaced history passes pass place
+Disagrees history passes Count = receipt_count passes ≢ length history
+Disagrees history passes (At pass place) = (receipt_count passes ≡ length history) × IsMisplaced history passes pass place
 
--- why a book, the server handed in and passes don't agree; the opening is compared first
+-- why a book, the server given and passes don't agree; the opening is compared first
 abbrev pub IsMismatch : Book → Server → List Pass → Mismatch → Type 0
 IsMismatch book server passes Opening = book.opening ≢ server
 IsMismatch book server passes Count = (book.opening ≡ server) × Disagrees book.history passes Count

@@ -1,11 +1,11 @@
 //! The desk.
-ghost use Rattle.std.specs.Prelude.{◌≡◌, ◌≢◌, ◌↔◌, ◌≤◌, vec_len, Err, OnErr, OnOk, IfOk, All};
+ghost use Rattle.std.specs.Prelude.{◌≡◌, ◌≢◌, ◌↔◌, ◌≤◌, vec_len, Err, IfErr, OnErr, OnOk, IfOk, All};
 ghost use Rattle.rad_auth.specs.Admission.{IsAdmitted};
 ghost use Rattle.rad_config.specs.Spans.{moment_max};
 ghost use Rattle.rad_server.specs.Runs.{IsHistory};
 ghost use Rattle.rad_shell.specs.Desks.{IsBlankOf, passes_max};
-ghost use Rattle.rad_shell.specs.Passes.{AsksOne, AreNew};
-ghost use Rattle.rad_shell.specs.Settlements.{Agrees};
+ghost use Rattle.rad_shell.specs.Passes.{AddsReceipt, AreNew};
+ghost use Rattle.rad_shell.specs.Settlements.{Agrees, Disagrees};
 ghost use Rattle.rad_shell.specs.declared.mismatch.Mismatch.{Mismatch};
 
 use crate::locked::Locked;
@@ -34,7 +34,8 @@ pub struct Desk<'c, L: Opened> {
 impl<'c, L: Opened> Desk<'c, L> {
     /// A desk over a copy of the server, and its passes, at most `PASSES_MAX`.
     ///
-    /// The blank has a part for each pass, and `L` names it and the server. If memory is refused, the blank is gone.
+    /// The blank has a part for each pass, and `L` names it and the server: call this in a function that is generic over `L`, with
+    /// `Brand` for `L`. If memory is refused, the blank is gone.
     pub fn open(
         alloc: Global,
         blank: Blank,
@@ -53,9 +54,8 @@ impl<'c, L: Opened> Desk<'c, L> {
 
     /// Asks the server once, and keeps the receipt in the pass.
     ///
-    /// The request was admitted with the clients of the configuration of the server with which the desk opened. The moment is in
-    /// milliseconds, at most `MOMENT_MAX`. The call may wait for other threads. If memory is refused, pass and server are
-    /// unchanged.
+    /// The request was admitted with the clients of the server's configuration. The moment is in milliseconds, at most
+    /// `MOMENT_MAX`. The call may wait for other threads. If memory is refused, pass and server are unchanged.
     pub fn ask<R: Wait>(
         &self,
         rt: &R,
@@ -67,16 +67,16 @@ impl<'c, L: Opened> Desk<'c, L> {
     ) -> Result<(), AllocError>
         requires moment { moment ≤ moment_max }
         requires admitted { IsAdmitted L.opening.configuration.clients request.now }
-        ensures asked { OnOk result (AsksOne tag request.now moment draw.now pass.old pass.new) }
+        ensures asked { OnOk result (AddsReceipt tag request.now moment draw.now pass.old pass.new) }
         ensures unchanged { OnErr result (pass.new ≡ pass.old) }
     {
         pass.ask(rt, &self.lock, tag, request, moment, draw)
     }
 
-    /// Closes the desk, and compares its history with the server handed in and with the receipts of the passes.
+    /// Closes the desk, and compares its history with the server given and with the receipts of the passes.
     ///
-    /// The first mismatch that applies is told, and then nothing is handed back. Where all passes of the desk are handed in, it is
-    /// not `Mismatch::Count`. The call takes no memory and doesn't wait.
+    /// The first mismatch that applies is returned, and then the desk is dropped. When all its passes are given, that isn't
+    /// `Mismatch::Count`. The call takes no memory and doesn't wait.
     pub fn close(self, server: &Server, passes: Vec<Pass<L>>) -> Result<Closed<'c>, Mismatch>
         ensures run { IfOk result (λ closed.
             IsHistory server.now closed.history.items closed.server) }
@@ -126,7 +126,7 @@ fn split<L: Opened>(
     Ok(all)
 }
 
-/// The server and the history of a lock, where they agree with the receipts of the passes.
+/// The server and the history under a lock, if they agree with the receipts of the passes.
 pub(crate) fn close<'c, L: Opened>(
     locked: Locked<'c, L>,
     passes: Vec<Pass<L>>,
@@ -134,7 +134,7 @@ pub(crate) fn close<'c, L: Opened>(
     ensures history { IfOk result (λ closed. closed.history.items ≡ locked.entry.history) }
     ensures run { IfOk result (λ closed. IsHistory L.opening closed.history.items closed.server) }
     ensures agreed { IfOk result (λ closed. Agrees closed.history.items passes.items) }
-    ensures opening { result ≢ Err Mismatch.Opening }
+    ensures refused { IfErr result (Disagrees locked.entry.history passes.items) }
     ensures complete { vec_len passes ≡ L.parts → result ≢ Err Mismatch.Count }
 {
     let verdict = compare(locked.history(), passes.as_slice());

@@ -1,11 +1,11 @@
-//! The desk: one server that many threads ask (RFC 2865, section 3: each request gets its answer from one state).
+//! The desk: one server that many threads ask.
 //!
-//! A thread carries a `Pass`. `Desk::ask` makes one exchange under the desk's lock and keeps a `Receipt` of it in the pass;
+//! Each thread holds a `Pass`. `Desk::ask` makes one exchange under the desk's lock and keeps a `Receipt` of it in the pass;
 //! `Desk::close` takes the passes back and compares their receipts with the one history that was kept under the lock. Nothing is
 //! decided here: answers are `rad_server`'s.
 //!
-//! Other crates rest on this: where `Desk::close` answers `Ok`, the history leads from the server handed in to the closing one, it
-//! has as many entries as the passes have receipts, and each receipt stands in it (`specs/Settlements.antt`).
+//! Other crates rest on this: when `Desk::close` returns `Ok`, the history leads from the server given to the one returned, it has
+//! as many entries as the passes have receipts, and each receipt's entry is at its place (`specs/Settlements.antt`).
 #![tactic(auto)]
 
 mod desk;

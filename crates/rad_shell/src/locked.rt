@@ -6,7 +6,7 @@ ghost use Rattle.rad_packet.specs.Packets.{packet_octets};
 ghost use Rattle.rad_server.specs.Runs.{IsAsked, IsHistory};
 ghost use Rattle.rad_server.specs.Steps.{IsSealable};
 ghost use Rattle.rad_shell.specs.Desks.{Appends};
-ghost use Rattle.rad_shell.specs.Settlements.{receipts_of};
+ghost use Rattle.rad_shell.specs.Settlements.{receipt_count};
 
 use crate::opened::Opened;
 use crate::pass::Pass;
@@ -20,7 +20,7 @@ use std::sync::ledger::{self, Share};
 
 /// A server and its history, and the total of the ledger, which is the history's length.
 ///
-/// Contracts see the book that it makes with the server in which the desk opened. That one isn't stored here: `L` names it.
+/// Contracts see them as a book, with the server that the desk was opened with. That one isn't stored here: `L` names it.
 #[derive(Drop)]
 pub(crate) struct Locked<'c, L: Opened> {
     server: Server<'c>,
@@ -32,7 +32,7 @@ pub(crate) struct Locked<'c, L: Opened> {
 
 impl<'c, L: Opened> Model for Locked<'c, L> {
     ghost use Rattle.rad_server.specs.Books.{Book};
-    ghost use Rattle.rad_shell.specs.Desks.{IsKept};
+    ghost use Rattle.rad_shell.specs.Desks.{IsConsistent};
 
     ghost Value = { Book };
 
@@ -43,7 +43,7 @@ impl<'c, L: Opened> Model for Locked<'c, L> {
     } };
 
     ghost invariant = { λ locked.
-        IsKept L.opening locked.history.items locked.server locked.total.total locked.rest.parts locked.rest.amount };
+        IsConsistent L.opening locked.history.items locked.server locked.total.total locked.rest.parts locked.rest.amount };
 }
 
 impl<'c, L: Opened> Locked<'c, L> {
@@ -113,13 +113,13 @@ impl<'c, L: Opened> Locked<'c, L> {
 
     /// The history and the server.
     ///
-    /// Where all passes of the ledger are handed in, their receipts are as many as the entries.
+    /// When all passes of the ledger are given, their receipts are as many as the entries.
     pub(crate) fn into_parts(self, passes: Vec<Pass<L>>) -> (Vec<Entry>, Server<'c>)
         ensures history { result.0.items ≡ self.entry.history }
         ensures server { result.1 ≡ self.entry.server }
         ensures run { IsHistory L.opening self.entry.history self.entry.server }
         ensures count { vec_len passes ≡ L.parts
-            → receipts_of passes.items ≡ length self.entry.history }
+            → receipt_count passes.items ≡ length self.entry.history }
     {
         let Locked {
             server,
@@ -134,11 +134,11 @@ impl<'c, L: Opened> Locked<'c, L> {
 }
 
 // The shares of all passes in one.
-#[tactic(auto, using(crate::proofs::ReceiptLemmas::receipts_of_push))]
+#[tactic(auto, using(crate::proofs::ReceiptLemmas::receipt_count_push))]
 fn merged<L: Opened>(mut passes: Vec<Pass<L>>, mut all: Share<L>) -> Share<L>
     requires { (all.parts ≡ 0) × (all.amount ≡ 0) }
     ensures parts { result.parts ≡ vec_len passes }
-    ensures amount { result.amount ≡ receipts_of passes.items }
+    ensures amount { result.amount ≡ receipt_count passes.items }
 {
     while let Some(pass) = passes.pop() {
         all.merge(pass.into_share());

@@ -7,15 +7,15 @@ use thiserror::Error;
 /// Why the receipts of passes don't agree with a history. The first that applies is reported.
 #[derive(Clone, Copy, Debug, PartialEq, Eq, Error)]
 pub enum Mismatch {
-    /// The history began from another server than the one handed in.
+    /// The history began from another server than the one given.
     #[error("the history began from another server")]
     Opening,
     /// The passes have fewer or more receipts than the history has entries.
     #[error("the receipts are not as many as the entries")]
     Count,
-    /// A receipt's entry doesn't stand at its place, or the place isn't above that of the receipt before it.
+    /// A receipt's entry isn't at its place, or the place isn't above that of the receipt before it.
     ///
-    /// `pass` counts the passes from 0, in the order handed in; `place` is the receipt's.
+    /// `pass` counts the passes from 0, in the order given; `place` is the receipt's.
     #[error("pass {pass} has a misplaced receipt for place {place}")]
     At { pass: u64, place: u64 },
 }

@@ -2,7 +2,7 @@
 ghost use Rattle.std.specs.Prelude.{◌≡◌, ◌≤◌, [], length, OnErr, OnOk};
 ghost use Rattle.rad_auth.specs.Admission.{IsAdmitted};
 ghost use Rattle.rad_config.specs.Spans.{moment_max};
-ghost use Rattle.rad_shell.specs.Passes.{AsksOne};
+ghost use Rattle.rad_shell.specs.Passes.{AddsReceipt};
 
 use crate::locked::Locked;
 use crate::opened::Opened;
@@ -14,7 +14,7 @@ use std::marker::Model;
 use std::sync::ledger::Share;
 use std::sync::{Mutex, Wait};
 
-/// What one thread carries to a desk and brings back: its receipts, oldest first, and its share of the desk's ledger.
+/// What one thread holds while it asks a desk: its receipts, oldest first, and its share of the desk's ledger.
 ///
 /// The share is one part, and its amount is the number of the receipts.
 #[derive(Drop)]
@@ -77,7 +77,7 @@ impl<L: Opened> Pass<L> {
     ) -> Result<(), AllocError>
         requires moment { moment ≤ moment_max }
         requires admitted { IsAdmitted L.opening.configuration.clients request.now }
-        ensures asked { OnOk result (AsksOne tag request.now moment draw.now self.old self.new) }
+        ensures asked { OnOk result (AddsReceipt tag request.now moment draw.now self.old self.new) }
         ensures unchanged { OnErr result (self.new ≡ self.old) }
     {
         let Pass {

@@ -7,9 +7,9 @@ ghost use Rattle.rad_shell.specs.Settlements.{
   HasMisplaced,
   IsMismatch,
   MisplacedDisagree,
-  StandInOrder,
-  Stands,
-  receipts_of,
+  AreInOrder,
+  IsAtItsPlace,
+  receipt_count,
 };
 
 use crate::mismatch::Mismatch;
@@ -28,7 +28,7 @@ pub struct Closed<'c> {
 
 /// Compares a book with the server from which it should have begun, and with the receipts of passes.
 ///
-/// The first mismatch that applies is told, and then nothing is handed back. The call takes no memory and doesn't wait.
+/// The first mismatch that applies is returned, and then the book is dropped. The call takes no memory and doesn't wait.
 pub fn settle<'c, L: Opened>(
     book: Book<'c>,
     server: &Server,
@@ -49,14 +49,14 @@ pub fn settle<'c, L: Opened>(
     Ok(Closed { server, history })
 }
 
-/// `settle` tells `Mismatch::At` only where it could not have answered `Ok`: a misplaced receipt and agreement exclude each other.
+/// `settle` returns `Mismatch::At` only when it can't return `Ok`: a misplaced receipt and agreement exclude each other.
 ///
 /// The call costs nothing: it does nothing at run time.
 pub fn misplaced_disagree()
     ensures { MisplacedDisagree }
 {}
 
-/// Whether the receipts of passes are as many as the entries, and stand in the history.
+/// Whether the receipts of passes are as many as the entries, and each entry is at its receipt's place.
 #[tactic(auto, using(crate::proofs::ReceiptLemmas::one_more_settled, crate::proofs::ReceiptLemmas::all_settled))]
 pub(crate) fn compare<L: Opened>(history: &[Entry], passes: &[Pass<L>]) -> Result<(), Mismatch>
     ensures agreed { OnOk result (Agrees history.now passes.now) }
@@ -74,9 +74,9 @@ pub(crate) fn compare<L: Opened>(history: &[Entry], passes: &[Pass<L>]) -> Resul
     Ok(())
 }
 
-// Whether the passes have so many receipts.
+// Whether the passes have this many receipts.
 fn has_receipts<L: Opened>(count: usize, passes: &[Pass<L>]) -> bool
-    ensures { IsTrue result ↔ (receipts_of passes.now ≡ count) }
+    ensures { IsTrue result ↔ (receipt_count passes.now ≡ count) }
 {
     match passes.split_first() {
         None => count == 0,
@@ -87,15 +87,15 @@ fn has_receipts<L: Opened>(count: usize, passes: &[Pass<L>]) -> bool
     }
 }
 
-// The place of the first receipt that doesn't stand there, or not above the one before.
+// The place of the first receipt whose entry isn't there, or that isn't above the one before.
 fn misplaced(history: &[Entry], receipts: &[Receipt]) -> Option<u64>
-    ensures none { IfNone result (StandInOrder 0 history.now receipts.now) }
+    ensures none { IfNone result (AreInOrder 0 history.now receipts.now) }
     ensures some { IfSome result (HasMisplaced 0 history.now receipts.now) }
 {
     let mut floor = 0;
     for i in 0..receipts.len() {
         let receipt = &receipts[i];
-        if receipt.place < floor || !stands(history, receipt) {
+        if receipt.place < floor || !is_at_its_place(history, receipt) {
             return Some(receipt.place);
         }
         floor = receipt.place + 1;
@@ -103,9 +103,9 @@ fn misplaced(history: &[Entry], receipts: &[Receipt]) -> Option<u64>
     None
 }
 
-// Whether the receipt's entry stands at its place.
-fn stands(history: &[Entry], receipt: &Receipt) -> bool
-    ensures { IsTrue result ↔ Stands history.now receipt.now }
+// Whether the receipt's entry is at its place.
+fn is_at_its_place(history: &[Entry], receipt: &Receipt) -> bool
+    ensures { IsTrue result ↔ IsAtItsPlace history.now receipt.now }
 {
     receipt.place < history.len() as u64 && history[receipt.place as usize].same(&receipt.entry)
 }

@@ -1,11 +1,11 @@
 use Rattle.std.proofs.Common.{◌≡◌, ◌+◌, vec_len}
-use Rattle.rad_shell.specs.Settlements.{receipts_of}
+use Rattle.rad_shell.specs.Settlements.{receipt_count}
 use Rattle.rad_shell.proofs.locked.merged.Given as goal
 
 abbrev pub invariant-loop-pass : goal.invariant-loop-pass
 invariant-loop-pass g l =
     (l.all.parts + vec_len l.passes ≡ vec_len l.initial.passes)
-    × (l.all.amount + receipts_of l.passes.items ≡ receipts_of l.initial.passes.items)
+    × (l.all.amount + receipt_count l.passes.items ≡ receipt_count l.initial.passes.items)
 
 abbrev pub decreases-loop-pass : goal.decreases-loop-pass
 decreases-loop-pass g l = vec_len l.passes
