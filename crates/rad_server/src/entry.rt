@@ -1,9 +1,10 @@
 //! Entries of a history.
-ghost use Rattle.std.specs.Prelude.{◌≡◌, ◌↔◌, IsTrue};
+ghost use Rattle.std.specs.Prelude.{◌≡◌, ◌↔◌, IfOk, IsTrue};
 
 use crate::answer::Answer;
 use rad_auth::Door;
 use rad_packet::Octets;
+use std::alloc::AllocError;
 
 /// A request and its answer.
 #[derive(Drop)]
@@ -27,6 +28,22 @@ pub struct Entry {
 }
 
 impl Entry {
+    /// An equal entry.
+    pub fn copy(&self) -> Result<Entry, AllocError>
+        ensures { IfOk result (λ copy. copy ≡ self.now) }
+    {
+        Ok(Entry {
+            tag: self.tag,
+            source: self.source,
+            port: self.port,
+            door: self.door,
+            octets: self.octets.copy()?,
+            moment: self.moment,
+            draw: self.draw,
+            answer: self.answer.copy()?,
+        })
+    }
+
     /// Whether the other entry is equal.
     pub fn same(&self, other: &Entry) -> bool
         ensures { IsTrue result ↔ (self.now ≡ other.now) }
