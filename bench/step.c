@@ -23,7 +23,7 @@ static const struct { const char *name; uint32_t sessions[SIZES]; } rows[KINDS] 
 
 // It takes long to grant many sessions, so it is done less often, for more steps.
 static const struct { int tries; uint32_t copies, steps; } sizes[SIZES] = {
-    {50, 100, 1000}, {20, 100, 1000}, {2, 500, 1000}};
+    {50, 100, 1000}, {20, 100, 1000}, {12, 500, 1000}};
 
 // The best times of a cell of the table: of tries of one step on each copy, and of those with the steps that are measured.
 static struct cell { double first, whole; } cells[KINDS][SIZES];

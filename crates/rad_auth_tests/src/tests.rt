@@ -105,7 +105,7 @@ const OTHER_START: &[u8; 26] = b"\
 type Client = (u32, &'static [u8], bool);
 
 // Three clients, of whom the first and the last have the same secret.
-const THREE: [Client; 3] = [
+const THREE: &[Client] = &[
     (CLIENT, SECRET, false),
     (OTHER_CLIENT, OTHER_SECRET, false),
     (STRICT_CLIENT, SECRET, true),
@@ -131,7 +131,7 @@ fn clients_of(rt: &impl Abort, alloc: Global, rows: &[Client]) -> Clients {
 }
 
 fn three_clients(rt: &impl Abort, alloc: Global) -> Clients {
-    clients_of(rt, alloc, &THREE)
+    clients_of(rt, alloc, THREE)
 }
 
 fn arrival(source: u32, door: Door, octets: &[u8]) -> Option<Arrival<'_>> {

@@ -12,15 +12,15 @@ fn holds(rt: &impl Abort, is_so: bool, what: &str) {
 }
 
 fn is_number(rt: &impl Abort, number: usize, want: usize, what: &str) {
-    assert_eq!(rt; number, want, "{what}");
+    assert!(rt; number == want, "{what}: {number}");
 }
 
 fn is_text(rt: &impl Abort, text: &str, want: &str, what: &str) {
-    assert_eq!(rt; text, want, "{what}");
+    assert!(rt; text == want, "{what}: {text}");
 }
 
 fn are_octets(rt: &impl Abort, octets: &[u8], want: &[u8], what: &str) {
-    assert_eq!(rt; octets, want, "{what}");
+    assert!(rt; octets == want, "{what}");
 }
 
 fn concat(rt: &impl AllocGlobal, parts: &[&str]) -> Result<String, AllocError> {

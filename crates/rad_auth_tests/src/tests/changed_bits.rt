@@ -15,7 +15,7 @@ const LEN_MAX: usize = 74;
 // A request: its name, its port and its octets. If it has a Message-Authenticator, that is last.
 type Case = (&'static str, Door, &'static [u8]);
 
-const CASES: [Case; 4] = [
+const CASES: &[Case] = &[
     ("an Access-Request", Auth, SIGNED_REQUEST),
     ("a Status-Server", Auth, STATUS_SERVER),
     ("a Status-Server for accounting", Acct, STATUS_SERVER),

@@ -27,65 +27,6 @@ fn value(identifier: u8, response: &[u8; 16]) -> [u8; CHAP_VALUE_LEN] {
 // A name, an identifier, a password, how many octets of the longest challenge, and the response.
 type Case = (&'static str, u8, &'static [u8], usize, &'static [u8; 16]);
 
-const CASES: [Case; 8] = [
-    (
-        "identifier 7",
-        7,
-        b"shark",
-        16,
-        b"\xd8\xfa\xfa\x9f\xa1\xb6\x28\x85\x58\xed\x1e\xe7\x33\xf3\xa0\xaa",
-    ),
-    (
-        "identifier 0",
-        0,
-        b"shark",
-        16,
-        b"\xc4\x7c\x76\xeb\x6a\x95\x44\xc3\x98\xf3\x65\x47\xeb\x00\x67\xd2",
-    ),
-    (
-        "identifier 255",
-        255,
-        b"shark",
-        16,
-        b"\x27\xa7\x76\x18\xc3\x3d\x05\xc5\xf2\x69\x04\x95\xbb\xff\x10\x15",
-    ),
-    (
-        "a password of no octets",
-        7,
-        b"",
-        16,
-        b"\xd8\xf0\x33\xcf\x05\x39\x75\x09\x07\xb9\xab\xdf\x83\x86\x16\xa3",
-    ),
-    (
-        "a password of 128 octets",
-        7,
-        LONGEST_PASSWORD,
-        16,
-        b"\xf3\xac\xd8\x95\xdd\xfa\x65\x2f\x05\xb6\xed\x46\xc1\x62\x41\x09",
-    ),
-    (
-        "a challenge of 5 octets",
-        7,
-        b"shark",
-        5,
-        b"\xc6\xb1\x2f\xea\x41\xc2\x7f\x80\x35\x09\xd9\x79\x89\x9e\xc8\xc6",
-    ),
-    (
-        "a challenge of 253 octets, the longest that an attribute has",
-        7,
-        b"shark",
-        253,
-        b"\x99\x42\x2c\x1c\x38\x24\x14\xb2\xf9\x28\x95\x11\x20\x9e\xb2\x93",
-    ),
-    (
-        "a challenge of 4,096 octets",
-        7,
-        b"shark",
-        4096,
-        b"\xb5\xc7\x3c\x1d\x6a\x92\x3d\xe5\x1e\xe8\xd8\x3f\x87\x0b\x71\x5e",
-    ),
-];
-
 // Asserts that a password gives its response, and that a value with it is right.
 fn has_response(rt: &impl Abort, (name, identifier, password, len, want): Case) {
     let longest = longest_challenge();
@@ -97,7 +38,65 @@ fn has_response(rt: &impl Abort, (name, identifier, password, len, want): Case) 
 
 #[test]
 fn each_challenge_has_its_response(rt: HostRuntime) {
-    for case in CASES.iter() {
+    const ROWS: &[Case] = &[
+        (
+            "identifier 7",
+            7,
+            b"shark",
+            16,
+            b"\xd8\xfa\xfa\x9f\xa1\xb6\x28\x85\x58\xed\x1e\xe7\x33\xf3\xa0\xaa",
+        ),
+        (
+            "identifier 0",
+            0,
+            b"shark",
+            16,
+            b"\xc4\x7c\x76\xeb\x6a\x95\x44\xc3\x98\xf3\x65\x47\xeb\x00\x67\xd2",
+        ),
+        (
+            "identifier 255",
+            255,
+            b"shark",
+            16,
+            b"\x27\xa7\x76\x18\xc3\x3d\x05\xc5\xf2\x69\x04\x95\xbb\xff\x10\x15",
+        ),
+        (
+            "a password of no octets",
+            7,
+            b"",
+            16,
+            b"\xd8\xf0\x33\xcf\x05\x39\x75\x09\x07\xb9\xab\xdf\x83\x86\x16\xa3",
+        ),
+        (
+            "a password of 128 octets",
+            7,
+            LONGEST_PASSWORD,
+            16,
+            b"\xf3\xac\xd8\x95\xdd\xfa\x65\x2f\x05\xb6\xed\x46\xc1\x62\x41\x09",
+        ),
+        (
+            "a challenge of 5 octets",
+            7,
+            b"shark",
+            5,
+            b"\xc6\xb1\x2f\xea\x41\xc2\x7f\x80\x35\x09\xd9\x79\x89\x9e\xc8\xc6",
+        ),
+        (
+            "a challenge of 253 octets, the longest that an attribute has",
+            7,
+            b"shark",
+            253,
+            b"\x99\x42\x2c\x1c\x38\x24\x14\xb2\xf9\x28\x95\x11\x20\x9e\xb2\x93",
+        ),
+        (
+            "a challenge of 4,096 octets",
+            7,
+            b"shark",
+            4096,
+            b"\xb5\xc7\x3c\x1d\x6a\x92\x3d\xe5\x1e\xe8\xd8\x3f\x87\x0b\x71\x5e",
+        ),
+    ];
+    for case in ROWS.iter() {
         has_response(&rt, *case);
     }
 }
@@ -132,60 +131,59 @@ type Answer = (
     bool,
 );
 
-const ANSWERS: [Answer; 12] = [
-    ("the password", VALUE, b"shark", REQUEST_AUTHENTICATOR, true),
-    (
-        "identifier 8",
-        OTHER_VALUE,
-        b"shark",
-        REQUEST_AUTHENTICATOR,
-        true,
-    ),
-    ("the RFC", RFC_VALUE, b"arctangent", RFC_CHALLENGE, true),
-    (
-        "7 as 8",
-        IDENTIFIER_CHANGED,
-        b"shark",
-        REQUEST_AUTHENTICATOR,
-        false,
-    ),
-    (
-        "a capital letter",
-        VALUE,
-        b"Shark",
-        REQUEST_AUTHENTICATOR,
-        false,
-    ),
-    ("its front", VALUE, b"shar", REQUEST_AUTHENTICATOR, false),
-    (
-        "an octet more",
-        VALUE,
-        b"sharks",
-        REQUEST_AUTHENTICATOR,
-        false,
-    ),
-    (
-        "a zero more",
-        VALUE,
-        b"shark\0",
-        REQUEST_AUTHENTICATOR,
-        false,
-    ),
-    ("no octets", VALUE, b"", REQUEST_AUTHENTICATOR, false),
-    (
-        "another challenge",
-        VALUE,
-        b"shark",
-        b"Sixteen octets..",
-        false,
-    ),
-    ("a shorter challenge", VALUE, b"shark", SHORTER, false),
-    ("no challenge", VALUE, b"shark", b"", false),
-];
-
 #[test]
 fn a_value_is_of_one_password_and_challenge(rt: HostRuntime) {
-    for (name, value, password, challenge, want) in ANSWERS.iter() {
+    const ROWS: &[Answer] = &[
+        ("the password", VALUE, b"shark", REQUEST_AUTHENTICATOR, true),
+        (
+            "identifier 8",
+            OTHER_VALUE,
+            b"shark",
+            REQUEST_AUTHENTICATOR,
+            true,
+        ),
+        ("the RFC", RFC_VALUE, b"arctangent", RFC_CHALLENGE, true),
+        (
+            "7 as 8",
+            IDENTIFIER_CHANGED,
+            b"shark",
+            REQUEST_AUTHENTICATOR,
+            false,
+        ),
+        (
+            "a capital letter",
+            VALUE,
+            b"Shark",
+            REQUEST_AUTHENTICATOR,
+            false,
+        ),
+        ("its front", VALUE, b"shar", REQUEST_AUTHENTICATOR, false),
+        (
+            "an octet more",
+            VALUE,
+            b"sharks",
+            REQUEST_AUTHENTICATOR,
+            false,
+        ),
+        (
+            "a zero more",
+            VALUE,
+            b"shark\0",
+            REQUEST_AUTHENTICATOR,
+            false,
+        ),
+        ("no octets", VALUE, b"", REQUEST_AUTHENTICATOR, false),
+        (
+            "another challenge",
+            VALUE,
+            b"shark",
+            b"Sixteen octets..",
+            false,
+        ),
+        ("a shorter challenge", VALUE, b"shark", SHORTER, false),
+        ("no challenge", VALUE, b"shark", b"", false),
+    ];
+    for (name, value, password, challenge, want) in ROWS.iter() {
         let is_right = chap_right(*value, password, challenge);
         holds(&rt, is_right == *want, name);
     }

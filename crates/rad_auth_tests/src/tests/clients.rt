@@ -29,18 +29,17 @@ fn a_doubled_address_keeps_the_first_secret(rt: HostRuntime) {
     holds(&rt, is_kept, "a doubled client");
 }
 
-// A name, an address, and the place of the client that has it.
-const PLACES: [(&str, u32, Option<u32>); 4] = [
-    ("first", CLIENT, Some(0)),
-    ("middle", OTHER_CLIENT, Some(1)),
-    ("last", STRICT_CLIENT, Some(2)),
-    ("absent", STRANGER, None),
-];
-
 #[test]
 fn a_client_is_found_at_its_place(rt: HostRuntime) {
+    // A name, an address, and the place of the client that has it.
+    const ROWS: &[(&str, u32, Option<u32>)] = &[
+        ("first", CLIENT, Some(0)),
+        ("middle", OTHER_CLIENT, Some(1)),
+        ("last", STRICT_CLIENT, Some(2)),
+        ("absent", STRANGER, None),
+    ];
     let clients = three_clients(&rt, rt.alloc());
-    for (name, source, place) in PLACES.iter() {
+    for (name, source, place) in ROWS.iter() {
         holds(&rt, clients.find(*source) == *place, name);
     }
 }
@@ -71,37 +70,11 @@ const SECOND: Client = (OTHER_CLIENT, b"xyzzy5462", true);
 
 const TWO: &[Client] = &[FIRST, SECOND];
 
-const FOUR: [Client; 4] = [
+const FOUR: &[Client] = &[
     (CLIENT, SECRET, false),
     (OTHER_CLIENT, OTHER_SECRET, false),
     (STRICT_CLIENT, SECRET, true),
     (STRANGER, SECRET, false),
-];
-
-// A name, two lists of clients, and whether they are the same.
-const LISTS: [(&str, &[Client], &[Client], bool); 7] = [
-    ("built apart", TWO, TWO, true),
-    ("another order", TWO, &[SECOND, FIRST], false),
-    (
-        "another address",
-        TWO,
-        &[(STRANGER, b"xyzzy5461", false), SECOND],
-        false,
-    ),
-    (
-        "another secret",
-        TWO,
-        &[(CLIENT, b"xyzzy5462", false), SECOND],
-        false,
-    ),
-    (
-        "another flag",
-        TWO,
-        &[FIRST, (OTHER_CLIENT, b"xyzzy5462", false)],
-        false,
-    ),
-    ("three built apart", &THREE, &THREE, true),
-    ("one client more", &THREE, &FOUR, false),
 ];
 
 // Whether two lists are the same, or are not, as is wanted.
@@ -119,7 +92,32 @@ fn are_same(
 
 #[test]
 fn lists_are_the_same_by_all_of_each_client(rt: HostRuntime) {
-    for (name, rows, others, want) in LISTS.iter() {
+    // A name, two lists of clients, and whether they are the same.
+    const ROWS: &[(&str, &[Client], &[Client], bool)] = &[
+        ("built apart", TWO, TWO, true),
+        ("another order", TWO, &[SECOND, FIRST], false),
+        (
+            "another address",
+            TWO,
+            &[(STRANGER, b"xyzzy5461", false), SECOND],
+            false,
+        ),
+        (
+            "another secret",
+            TWO,
+            &[(CLIENT, b"xyzzy5462", false), SECOND],
+            false,
+        ),
+        (
+            "another flag",
+            TWO,
+            &[FIRST, (OTHER_CLIENT, b"xyzzy5462", false)],
+            false,
+        ),
+        ("three built apart", THREE, THREE, true),
+        ("one client more", THREE, FOUR, false),
+    ];
+    for (name, rows, others, want) in ROWS.iter() {
         let is_so = are_same(&rt, rt.alloc(), *rows, *others, *want);
         holds(&rt, is_so, name);
     }

@@ -71,7 +71,7 @@ fn the_password_of_the_rfc_is_hidden_and_opened(rt: HostRuntime) {
 }
 
 // How many octets the values of passwords of 0 to 128 octets have.
-const VALUE_LENS: [usize; 129] = [
+const VALUE_LENS: &[usize; 129] = &[
     16, 16, 16, 16, 16, 16, 16, 16, 16, 16, 16, 16, 16, 16, 16, 16, 16, 32, 32, 32, 32, 32, 32, 32,
     32, 32, 32, 32, 32, 32, 32, 32, 32, 48, 48, 48, 48, 48, 48, 48, 48, 48, 48, 48, 48, 48, 48, 48,
     48, 64, 64, 64, 64, 64, 64, 64, 64, 64, 64, 64, 64, 64, 64, 64, 64, 80, 80, 80, 80, 80, 80, 80,
@@ -285,29 +285,28 @@ fn passwords_of_several_blocks_have_their_values(rt: HostRuntime) {
     has_value(&rt, &secret, 128, VALUE_OF_128);
 }
 
-// A length, and whether so many octets can be a value.
-const LENGTHS: [(usize, bool); 16] = [
-    (0, false),
-    (1, false),
-    (15, false),
-    (16, true),
-    (17, false),
-    (24, false),
-    (32, true),
-    (48, true),
-    (64, true),
-    (80, true),
-    (96, true),
-    (112, true),
-    (127, false),
-    (128, true),
-    (129, false),
-    (144, false),
-];
-
 #[test]
 fn a_value_has_whole_blocks_and_at_most_128_octets(rt: HostRuntime) {
-    for (len, want) in LENGTHS.iter() {
+    // A length, and whether so many octets can be a value.
+    const ROWS: &[(usize, bool)] = &[
+        (0, false),
+        (1, false),
+        (15, false),
+        (16, true),
+        (17, false),
+        (24, false),
+        (32, true),
+        (48, true),
+        (64, true),
+        (80, true),
+        (96, true),
+        (112, true),
+        (127, false),
+        (128, true),
+        (129, false),
+        (144, false),
+    ];
+    for (len, want) in ROWS.iter() {
         let fits = value_fits(&[0; 144][..(*len).min(144)]);
         holds_at(&rt, fits == *want, "octets", *len);
     }

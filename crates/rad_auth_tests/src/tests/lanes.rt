@@ -31,7 +31,7 @@ fn have_verdicts(rt: &impl Abort, clients: &Clients, lanes: &[Lane; 8]) {
     }
 }
 
-const MIXED: [Lane; 8] = [
+const MIXED: &[Lane; 8] = &[
     Some((CLIENT, Acct, START, Ok((0, 7)))),
     None,
     Some((CLIENT, Auth, ACCESS_REQUEST, Ok((0, 0)))),
@@ -42,7 +42,7 @@ const MIXED: [Lane; 8] = [
     Some((STRANGER, Acct, b"", Err(UnknownClient))),
 ];
 
-const DIGESTS_AND_HMACS: [Lane; 8] = [
+const DIGESTS_AND_HMACS: &[Lane; 8] = &[
     Some((CLIENT, Acct, START, Ok((0, 7)))),
     Some((CLIENT, Auth, SIGNED_REQUEST, Ok((0, 0)))),
     Some((
@@ -61,8 +61,8 @@ const DIGESTS_AND_HMACS: [Lane; 8] = [
 #[test]
 fn each_lane_has_its_own_verdict(rt: HostRuntime) {
     let clients = three_clients(&rt, rt.alloc());
-    have_verdicts(&rt, &clients, &MIXED);
-    have_verdicts(&rt, &clients, &DIGESTS_AND_HMACS);
+    have_verdicts(&rt, &clients, MIXED);
+    have_verdicts(&rt, &clients, DIGESTS_AND_HMACS);
 }
 
 #[test]
@@ -80,7 +80,7 @@ fn a_request_says_where_it_came_from_and_to(rt: HostRuntime) {
 }
 
 // Requests of two clients, each with its HMAC: the source, the port, and the octets. Their Identifiers are 16 to 23.
-const SIGNED: [(u32, Door, &[u8]); 8] = [
+const SIGNED: &[(u32, Door, &[u8]); 8] = &[
     (
         CLIENT,
         Auth,
@@ -185,7 +185,7 @@ const FIRST_OF_EIGHT: u32 = 0x0A00_0000;
 type OfClient = (&'static [u8; 9], &'static [u8], &'static [u8]);
 
 // The Identifiers are 32 to 39 and 40 to 47.
-const EIGHT: [OfClient; 8] = [
+const EIGHT: &[OfClient; 8] = &[
     (
         b"secret #0",
         b"\x01\x20\x00\x2b\

@@ -74,226 +74,6 @@ const ZEROS: &[u8; 18] = b"\x50\x12\0\0\0\0\0\0\0\0\0\0\0\0\0\0\0\0";
 // What follows the RFC's request: its name, the source, the Length, the octets, and the verdict.
 type Case = (&'static str, u32, u16, &'static [u8], Verdict);
 
-const CASES: [Case; 40] = [
-    // Those that are admitted.
-    ("nothing", CLIENT, 56, b"", Ok((0, 0))),
-    ("padding", CLIENT, 56, b"abc", Ok((0, 0))),
-    ("zeros past Length", CLIENT, 56, ZEROS, Ok((0, 0))),
-    ("the HMAC", CLIENT, 74, HMAC, Ok((0, 0))),
-    ("the HMAC and padding", CLIENT, 74, PADDED_HMAC, Ok((0, 0))),
-    (
-        "the HMAC with another Type",
-        CLIENT,
-        74,
-        OTHER_TYPE,
-        Ok((0, 0)),
-    ),
-    (
-        "an EAP-Message and the HMAC",
-        CLIENT,
-        77,
-        EAP_AND_HMAC,
-        Ok((0, 0)),
-    ),
-    (
-        "the HMAC and an EAP-Message",
-        CLIENT,
-        77,
-        HMAC_AND_EAP,
-        Ok((0, 0)),
-    ),
-    ("nothing", OTHER_CLIENT, 56, b"", Ok((1, 0))),
-    ("the HMAC", OTHER_CLIENT, 74, OTHER_HMAC, Ok((1, 0))),
-    ("the HMAC", STRICT_CLIENT, 74, HMAC, Ok((2, 0))),
-    (
-        "the HMAC and padding",
-        STRICT_CLIENT,
-        74,
-        PADDED_HMAC,
-        Ok((2, 0)),
-    ),
-    (
-        "the HMAC after EAP",
-        STRICT_CLIENT,
-        77,
-        EAP_AND_HMAC,
-        Ok((2, 0)),
-    ),
-    // Those with a wrong or doubled one.
-    ("zeros", CLIENT, 74, ZEROS, Err(BadMessageAuthenticator)),
-    (
-        "no octets",
-        CLIENT,
-        58,
-        b"\x50\x02",
-        Err(BadMessageAuthenticator),
-    ),
-    (
-        "15 octets",
-        CLIENT,
-        73,
-        b"\x50\x11fifteen octets.",
-        Err(BadMessageAuthenticator),
-    ),
-    (
-        "17 octets",
-        CLIENT,
-        75,
-        b"\x50\x13seventeen octets.",
-        Err(BadMessageAuthenticator),
-    ),
-    (
-        "another client's HMAC",
-        OTHER_CLIENT,
-        74,
-        HMAC,
-        Err(BadMessageAuthenticator),
-    ),
-    (
-        "the HMAC over padding too",
-        CLIENT,
-        74,
-        HMAC_OVER_PADDING,
-        Err(BadMessageAuthenticator),
-    ),
-    (
-        "the HMAC over the others",
-        CLIENT,
-        74,
-        HMAC_OVER_OTHERS,
-        Err(BadMessageAuthenticator),
-    ),
-    (
-        "the HMAC over zeros",
-        CLIENT,
-        74,
-        HMAC_OVER_ZEROS,
-        Err(BadMessageAuthenticator),
-    ),
-    (
-        "the HMAC and text",
-        CLIENT,
-        92,
-        HMAC_AND_TEXT,
-        Err(BadMessageAuthenticator),
-    ),
-    (
-        "text and the HMAC",
-        CLIENT,
-        92,
-        TEXT_AND_HMAC,
-        Err(BadMessageAuthenticator),
-    ),
-    (
-        "the HMAC twice",
-        CLIENT,
-        92,
-        HMAC_TWICE,
-        Err(BadMessageAuthenticator),
-    ),
-    (
-        "the HMAC twice",
-        STRICT_CLIENT,
-        92,
-        HMAC_TWICE,
-        Err(BadMessageAuthenticator),
-    ),
-    (
-        "3 octets and the HMAC",
-        CLIENT,
-        79,
-        SHORT_AND_HMAC,
-        Err(BadMessageAuthenticator),
-    ),
-    (
-        "the HMAC and 3 octets",
-        CLIENT,
-        79,
-        HMAC_AND_SHORT,
-        Err(BadMessageAuthenticator),
-    ),
-    (
-        "EAP and a wrong HMAC",
-        CLIENT,
-        77,
-        EAP_AND_WRONG_HMAC,
-        Err(BadMessageAuthenticator),
-    ),
-    // Those that have none, and other discards.
-    (
-        "Length 57 of 56 octets",
-        STRANGER,
-        57,
-        b"",
-        Err(UnknownClient),
-    ),
-    ("the HMAC", STRANGER, 74, HMAC, Err(UnknownClient)),
-    ("Length 57 of 56 octets", CLIENT, 57, b"", Err(Truncated)),
-    (
-        "Length 57 of 56 octets",
-        STRICT_CLIENT,
-        57,
-        b"",
-        Err(Truncated),
-    ),
-    (
-        "an attribute of Length 1",
-        CLIENT,
-        58,
-        b"\x07\x01",
-        Err(BadAttributes),
-    ),
-    (
-        "the HMAC and one octet",
-        CLIENT,
-        75,
-        PADDED_HMAC,
-        Err(BadAttributes),
-    ),
-    (
-        "an EAP-Message",
-        CLIENT,
-        59,
-        b"\x4f\x03a",
-        Err(NoMessageAuthenticator),
-    ),
-    (
-        "an EAP-Message",
-        STRICT_CLIENT,
-        59,
-        b"\x4f\x03a",
-        Err(NoMessageAuthenticator),
-    ),
-    (
-        "an EAP-Message of no octets",
-        CLIENT,
-        58,
-        b"\x4f\x02",
-        Err(NoMessageAuthenticator),
-    ),
-    (
-        "nothing",
-        STRICT_CLIENT,
-        56,
-        b"",
-        Err(NoMessageAuthenticator),
-    ),
-    (
-        "the HMAC past Length",
-        STRICT_CLIENT,
-        56,
-        HMAC,
-        Err(NoMessageAuthenticator),
-    ),
-    (
-        "the HMAC with another Type",
-        STRICT_CLIENT,
-        74,
-        OTHER_TYPE,
-        Err(NoMessageAuthenticator),
-    ),
-];
-
 // The most octets that follow the RFC's request.
 const MORE_MAX: usize = 36;
 
@@ -310,8 +90,227 @@ fn is_case(rt: &impl Abort, clients: &Clients, (name, source, len, more, want): 
 
 #[test]
 fn each_message_authenticator_gets_its_verdict(rt: HostRuntime) {
+    const ROWS: &[Case] = &[
+        // Those that are admitted.
+        ("nothing", CLIENT, 56, b"", Ok((0, 0))),
+        ("padding", CLIENT, 56, b"abc", Ok((0, 0))),
+        ("zeros past Length", CLIENT, 56, ZEROS, Ok((0, 0))),
+        ("the HMAC", CLIENT, 74, HMAC, Ok((0, 0))),
+        ("the HMAC and padding", CLIENT, 74, PADDED_HMAC, Ok((0, 0))),
+        (
+            "the HMAC with another Type",
+            CLIENT,
+            74,
+            OTHER_TYPE,
+            Ok((0, 0)),
+        ),
+        (
+            "an EAP-Message and the HMAC",
+            CLIENT,
+            77,
+            EAP_AND_HMAC,
+            Ok((0, 0)),
+        ),
+        (
+            "the HMAC and an EAP-Message",
+            CLIENT,
+            77,
+            HMAC_AND_EAP,
+            Ok((0, 0)),
+        ),
+        ("nothing", OTHER_CLIENT, 56, b"", Ok((1, 0))),
+        ("the HMAC", OTHER_CLIENT, 74, OTHER_HMAC, Ok((1, 0))),
+        ("the HMAC", STRICT_CLIENT, 74, HMAC, Ok((2, 0))),
+        (
+            "the HMAC and padding",
+            STRICT_CLIENT,
+            74,
+            PADDED_HMAC,
+            Ok((2, 0)),
+        ),
+        (
+            "the HMAC after EAP",
+            STRICT_CLIENT,
+            77,
+            EAP_AND_HMAC,
+            Ok((2, 0)),
+        ),
+        // Those with a wrong or doubled one.
+        ("zeros", CLIENT, 74, ZEROS, Err(BadMessageAuthenticator)),
+        (
+            "no octets",
+            CLIENT,
+            58,
+            b"\x50\x02",
+            Err(BadMessageAuthenticator),
+        ),
+        (
+            "15 octets",
+            CLIENT,
+            73,
+            b"\x50\x11fifteen octets.",
+            Err(BadMessageAuthenticator),
+        ),
+        (
+            "17 octets",
+            CLIENT,
+            75,
+            b"\x50\x13seventeen octets.",
+            Err(BadMessageAuthenticator),
+        ),
+        (
+            "another client's HMAC",
+            OTHER_CLIENT,
+            74,
+            HMAC,
+            Err(BadMessageAuthenticator),
+        ),
+        (
+            "the HMAC over padding too",
+            CLIENT,
+            74,
+            HMAC_OVER_PADDING,
+            Err(BadMessageAuthenticator),
+        ),
+        (
+            "the HMAC over the others",
+            CLIENT,
+            74,
+            HMAC_OVER_OTHERS,
+            Err(BadMessageAuthenticator),
+        ),
+        (
+            "the HMAC over zeros",
+            CLIENT,
+            74,
+            HMAC_OVER_ZEROS,
+            Err(BadMessageAuthenticator),
+        ),
+        (
+            "the HMAC and text",
+            CLIENT,
+            92,
+            HMAC_AND_TEXT,
+            Err(BadMessageAuthenticator),
+        ),
+        (
+            "text and the HMAC",
+            CLIENT,
+            92,
+            TEXT_AND_HMAC,
+            Err(BadMessageAuthenticator),
+        ),
+        (
+            "the HMAC twice",
+            CLIENT,
+            92,
+            HMAC_TWICE,
+            Err(BadMessageAuthenticator),
+        ),
+        (
+            "the HMAC twice",
+            STRICT_CLIENT,
+            92,
+            HMAC_TWICE,
+            Err(BadMessageAuthenticator),
+        ),
+        (
+            "3 octets and the HMAC",
+            CLIENT,
+            79,
+            SHORT_AND_HMAC,
+            Err(BadMessageAuthenticator),
+        ),
+        (
+            "the HMAC and 3 octets",
+            CLIENT,
+            79,
+            HMAC_AND_SHORT,
+            Err(BadMessageAuthenticator),
+        ),
+        (
+            "EAP and a wrong HMAC",
+            CLIENT,
+            77,
+            EAP_AND_WRONG_HMAC,
+            Err(BadMessageAuthenticator),
+        ),
+        // Those that have none, and other discards.
+        (
+            "Length 57 of 56 octets",
+            STRANGER,
+            57,
+            b"",
+            Err(UnknownClient),
+        ),
+        ("the HMAC", STRANGER, 74, HMAC, Err(UnknownClient)),
+        ("Length 57 of 56 octets", CLIENT, 57, b"", Err(Truncated)),
+        (
+            "Length 57 of 56 octets",
+            STRICT_CLIENT,
+            57,
+            b"",
+            Err(Truncated),
+        ),
+        (
+            "an attribute of Length 1",
+            CLIENT,
+            58,
+            b"\x07\x01",
+            Err(BadAttributes),
+        ),
+        (
+            "the HMAC and one octet",
+            CLIENT,
+            75,
+            PADDED_HMAC,
+            Err(BadAttributes),
+        ),
+        (
+            "an EAP-Message",
+            CLIENT,
+            59,
+            b"\x4f\x03a",
+            Err(NoMessageAuthenticator),
+        ),
+        (
+            "an EAP-Message",
+            STRICT_CLIENT,
+            59,
+            b"\x4f\x03a",
+            Err(NoMessageAuthenticator),
+        ),
+        (
+            "an EAP-Message of no octets",
+            CLIENT,
+            58,
+            b"\x4f\x02",
+            Err(NoMessageAuthenticator),
+        ),
+        (
+            "nothing",
+            STRICT_CLIENT,
+            56,
+            b"",
+            Err(NoMessageAuthenticator),
+        ),
+        (
+            "the HMAC past Length",
+            STRICT_CLIENT,
+            56,
+            HMAC,
+            Err(NoMessageAuthenticator),
+        ),
+        (
+            "the HMAC with another Type",
+            STRICT_CLIENT,
+            74,
+            OTHER_TYPE,
+            Err(NoMessageAuthenticator),
+        ),
+    ];
     let clients = three_clients(&rt, rt.alloc());
-    for case in CASES.iter() {
+    for case in ROWS.iter() {
         is_case(&rt, &clients, *case);
     }
 }
@@ -334,35 +333,34 @@ const IN_THE_MIDDLE: &[u8; 74] = b"\
     \x04\x06\xc0\xa8\x01\x10\
     \x05\x06\x00\x00\x00\x03";
 
-// Where it is last, the table above has it.
-const ANYWHERE: [Datagram; 6] = [
-    ("first", CLIENT, Auth, FIRST, Ok((0, 0))),
-    ("in the middle", CLIENT, Auth, IN_THE_MIDDLE, Ok((0, 0))),
-    ("first", STRICT_CLIENT, Auth, FIRST, Ok((2, 0))),
-    (
-        "in the middle",
-        STRICT_CLIENT,
-        Auth,
-        IN_THE_MIDDLE,
-        Ok((2, 0)),
-    ),
-    (
-        "first",
-        OTHER_CLIENT,
-        Auth,
-        FIRST,
-        Err(BadMessageAuthenticator),
-    ),
-    (
-        "in the middle",
-        OTHER_CLIENT,
-        Auth,
-        IN_THE_MIDDLE,
-        Err(BadMessageAuthenticator),
-    ),
-];
-
 #[test]
 fn a_message_authenticator_may_stand_anywhere(rt: HostRuntime) {
-    have_verdicts(&rt, &three_clients(&rt, rt.alloc()), &ANYWHERE);
+    // Where it is last, the table above has it.
+    const ROWS: &[Datagram] = &[
+        ("first", CLIENT, Auth, FIRST, Ok((0, 0))),
+        ("in the middle", CLIENT, Auth, IN_THE_MIDDLE, Ok((0, 0))),
+        ("first", STRICT_CLIENT, Auth, FIRST, Ok((2, 0))),
+        (
+            "in the middle",
+            STRICT_CLIENT,
+            Auth,
+            IN_THE_MIDDLE,
+            Ok((2, 0)),
+        ),
+        (
+            "first",
+            OTHER_CLIENT,
+            Auth,
+            FIRST,
+            Err(BadMessageAuthenticator),
+        ),
+        (
+            "in the middle",
+            OTHER_CLIENT,
+            Auth,
+            IN_THE_MIDDLE,
+            Err(BadMessageAuthenticator),
+        ),
+    ];
+    have_verdicts(&rt, &three_clients(&rt, rt.alloc()), ROWS);
 }

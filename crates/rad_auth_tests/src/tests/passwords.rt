@@ -99,54 +99,53 @@ const LONGEST: &[u8; 128] = b"\
 // A name, a value, a password, and whether that is right.
 type Case = (&'static str, &'static [u8], &'static [u8], bool);
 
-const CASES: [Case; 19] = [
-    // Those of the RFC's value.
-    ("the password", RFC_VALUE, b"arctangent", true),
-    ("its front", RFC_VALUE, b"arctangen", false),
-    ("an octet more", RFC_VALUE, b"arctangentx", false),
-    ("a capital letter", RFC_VALUE, b"Arctangent", false),
-    ("no octets", RFC_VALUE, b"", false),
-    ("a zero after it", RFC_VALUE, b"arctangent\0", true),
-    (
-        "zeros to 16 octets",
-        RFC_VALUE,
-        b"arctangent\0\0\0\0\0\0",
-        true,
-    ),
-    ("zeros to 17", RFC_VALUE, b"arctangent\0\0\0\0\0\0\0", false),
-    // Those of other values.
-    ("no octets", VALUE_OF_NOTHING, b"", true),
-    ("a blank for no octets", VALUE_OF_NOTHING, b" ", false),
-    ("a full stop", SEVENTEEN, b"seventeen octets.", true),
-    ("a mark", OTHER_SEVENTEEN, b"seventeen octets!", true),
-    ("a mark for a stop", SEVENTEEN, b"seventeen octets!", false),
-    (
-        "a stop for a mark",
-        OTHER_SEVENTEEN,
-        b"seventeen octets.",
-        false,
-    ),
-    (
-        "an octet past the value",
-        SIXTEEN,
-        b"seventeen octets.",
-        false,
-    ),
-    ("the first block", SEVENTEEN, b"seventeen octets", false),
-    ("seven blocks of zeros", LONGEST, b"arctangent", true),
-    ("a block of zeros", LONGER_THAN_NEEDED, b"arctangent", true),
-    (
-        "its front and a block of zeros",
-        LONGER_THAN_NEEDED,
-        b"arctangen",
-        false,
-    ),
-];
-
 #[test]
 fn all_blocks_of_a_value_count(rt: HostRuntime) {
+    const ROWS: &[Case] = &[
+        // Those of the RFC's value.
+        ("the password", RFC_VALUE, b"arctangent", true),
+        ("its front", RFC_VALUE, b"arctangen", false),
+        ("an octet more", RFC_VALUE, b"arctangentx", false),
+        ("a capital letter", RFC_VALUE, b"Arctangent", false),
+        ("no octets", RFC_VALUE, b"", false),
+        ("a zero after it", RFC_VALUE, b"arctangent\0", true),
+        (
+            "zeros to 16 octets",
+            RFC_VALUE,
+            b"arctangent\0\0\0\0\0\0",
+            true,
+        ),
+        ("zeros to 17", RFC_VALUE, b"arctangent\0\0\0\0\0\0\0", false),
+        // Those of other values.
+        ("no octets", VALUE_OF_NOTHING, b"", true),
+        ("a blank for no octets", VALUE_OF_NOTHING, b" ", false),
+        ("a full stop", SEVENTEEN, b"seventeen octets.", true),
+        ("a mark", OTHER_SEVENTEEN, b"seventeen octets!", true),
+        ("a mark for a stop", SEVENTEEN, b"seventeen octets!", false),
+        (
+            "a stop for a mark",
+            OTHER_SEVENTEEN,
+            b"seventeen octets.",
+            false,
+        ),
+        (
+            "an octet past the value",
+            SIXTEEN,
+            b"seventeen octets.",
+            false,
+        ),
+        ("the first block", SEVENTEEN, b"seventeen octets", false),
+        ("seven blocks of zeros", LONGEST, b"arctangent", true),
+        ("a block of zeros", LONGER_THAN_NEEDED, b"arctangent", true),
+        (
+            "its front and a block of zeros",
+            LONGER_THAN_NEEDED,
+            b"arctangen",
+            false,
+        ),
+    ];
     let secret = Secret::new(SECRET);
-    for (name, value, password, want) in CASES.iter() {
+    for (name, value, password, want) in ROWS.iter() {
         checks_as(&rt, &secret, *value, *password, *want, name);
     }
 }
@@ -223,30 +222,29 @@ fn a_password_is_right_under_its_own_secret(rt: HostRuntime) {
 // A name, a Request Authenticator, a value, and whether that is of the password.
 type UnderAuthenticator = (&'static str, &'static [u8; 16], &'static [u8; 32], bool);
 
-const AUTHENTICATOR_CASES: [UnderAuthenticator; 4] = [
-    (
-        "the other",
-        OTHER_AUTHENTICATOR,
-        UNDER_OTHER_AUTHENTICATOR,
-        true,
-    ),
-    ("the first", REQUEST_AUTHENTICATOR, SEVENTEEN, true),
-    (
-        "the other for the first",
-        OTHER_AUTHENTICATOR,
-        SEVENTEEN,
-        false,
-    ),
-    (
-        "the first for the other",
-        REQUEST_AUTHENTICATOR,
-        UNDER_OTHER_AUTHENTICATOR,
-        false,
-    ),
-];
-
 #[test]
 fn a_password_is_right_under_its_own_request_authenticator(rt: HostRuntime) {
+    const ROWS: &[UnderAuthenticator] = &[
+        (
+            "the other",
+            OTHER_AUTHENTICATOR,
+            UNDER_OTHER_AUTHENTICATOR,
+            true,
+        ),
+        ("the first", REQUEST_AUTHENTICATOR, SEVENTEEN, true),
+        (
+            "the other for the first",
+            OTHER_AUTHENTICATOR,
+            SEVENTEEN,
+            false,
+        ),
+        (
+            "the first for the other",
+            REQUEST_AUTHENTICATOR,
+            UNDER_OTHER_AUTHENTICATOR,
+            false,
+        ),
+    ];
     let secret = Secret::new(SECRET);
     let value = hidden_with(&rt, &secret, OTHER_AUTHENTICATOR, b"seventeen octets.");
     holds(
@@ -254,7 +252,7 @@ fn a_password_is_right_under_its_own_request_authenticator(rt: HostRuntime) {
         value.octets() == UNDER_OTHER_AUTHENTICATOR.as_slice(),
         "hidden",
     );
-    for (name, authenticator, value, want) in AUTHENTICATOR_CASES.iter() {
+    for (name, authenticator, value, want) in ROWS.iter() {
         let right = is_right(&rt, &secret, authenticator, *value, b"seventeen octets.");
         holds(&rt, right == *want, name);
     }

@@ -41,62 +41,6 @@ const START: u8 = code::ACCOUNTING_REQUEST;
 
 const ACCESS: u8 = code::ACCESS_REQUEST;
 
-const CASES: [Case; 13] = [
-    ("no status", (START, 12, &[]), (Acct, Err(NoStatusType))),
-    ("the most", (START, 12, &[Status]), (Acct, Ok((0, 7)))),
-    (
-        "one more, and no status",
-        (START, 13, &[]),
-        (Acct, Err(NoStatusType)),
-    ),
-    (
-        "one more",
-        (START, 13, &[Status]),
-        (Acct, Err(ProxyStateTooLong)),
-    ),
-    ("the most", (ACCESS, 12, &[]), (Auth, Ok((0, 7)))),
-    (
-        "the most, and an HMAC",
-        (ACCESS, 12, &[Zeros]),
-        (Auth, Ok((0, 7))),
-    ),
-    (
-        "one more",
-        (ACCESS, 13, &[]),
-        (Auth, Err(ProxyStateTooLong)),
-    ),
-    (
-        "one more, and an EAP-Message",
-        (ACCESS, 13, &[Eap]),
-        (Auth, Err(NoMessageAuthenticator)),
-    ),
-    (
-        "one more, an EAP-Message, and an HMAC",
-        (ACCESS, 13, &[Eap, Zeros]),
-        (Auth, Err(ProxyStateTooLong)),
-    ),
-    (
-        "the most",
-        (code::STATUS_SERVER, 12, &[Zeros]),
-        (Auth, Ok((0, 7))),
-    ),
-    (
-        "the most",
-        (code::STATUS_SERVER, 12, &[Zeros]),
-        (Acct, Ok((0, 7))),
-    ),
-    (
-        "one more",
-        (code::STATUS_SERVER, 13, &[Zeros]),
-        (Auth, Err(ProxyStateTooLong)),
-    ),
-    (
-        "one more",
-        (code::STATUS_SERVER, 13, &[Zeros]),
-        (Acct, Err(ProxyStateTooLong)),
-    ),
-];
-
 // Signs a request, Identifier 7, and asserts its verdict.
 fn is_case(
     rt: &impl Abort,
@@ -113,9 +57,64 @@ fn is_case(
 
 #[test]
 fn a_request_has_at_most_3584_octets_of_them(rt: HostRuntime) {
+    const ROWS: &[Case] = &[
+        ("no status", (START, 12, &[]), (Acct, Err(NoStatusType))),
+        ("the most", (START, 12, &[Status]), (Acct, Ok((0, 7)))),
+        (
+            "one more, and no status",
+            (START, 13, &[]),
+            (Acct, Err(NoStatusType)),
+        ),
+        (
+            "one more",
+            (START, 13, &[Status]),
+            (Acct, Err(ProxyStateTooLong)),
+        ),
+        ("the most", (ACCESS, 12, &[]), (Auth, Ok((0, 7)))),
+        (
+            "the most, and an HMAC",
+            (ACCESS, 12, &[Zeros]),
+            (Auth, Ok((0, 7))),
+        ),
+        (
+            "one more",
+            (ACCESS, 13, &[]),
+            (Auth, Err(ProxyStateTooLong)),
+        ),
+        (
+            "one more, and an EAP-Message",
+            (ACCESS, 13, &[Eap]),
+            (Auth, Err(NoMessageAuthenticator)),
+        ),
+        (
+            "one more, an EAP-Message, and an HMAC",
+            (ACCESS, 13, &[Eap, Zeros]),
+            (Auth, Err(ProxyStateTooLong)),
+        ),
+        (
+            "the most",
+            (code::STATUS_SERVER, 12, &[Zeros]),
+            (Auth, Ok((0, 7))),
+        ),
+        (
+            "the most",
+            (code::STATUS_SERVER, 12, &[Zeros]),
+            (Acct, Ok((0, 7))),
+        ),
+        (
+            "one more",
+            (code::STATUS_SERVER, 13, &[Zeros]),
+            (Auth, Err(ProxyStateTooLong)),
+        ),
+        (
+            "one more",
+            (code::STATUS_SERVER, 13, &[Zeros]),
+            (Acct, Err(ProxyStateTooLong)),
+        ),
+    ];
     let clients = three_clients(&rt, rt.alloc());
     let mut frame = new_frame(&rt, rt.alloc());
-    for case in CASES.iter() {
+    for case in ROWS.iter() {
         is_case(&rt, rt.alloc(), &mut frame, &clients, *case);
     }
 }

@@ -108,7 +108,7 @@ fn seal_responses(rt: &impl Abort, alloc: Global, frames: &mut [Frame; 8]) {
     seal8(&jobs, frames);
 }
 
-const RESPONSES: [&[u8]; 8] = [
+const RESPONSES: &[&[u8]; 8] = &[
     START_REPLY,
     b"",
     b"",
@@ -123,7 +123,7 @@ const RESPONSES: [&[u8]; 8] = [
 fn accounting_responses_are_sealed_into_the_frames_of_their_lanes(rt: HostRuntime) {
     let mut frames = empty_frames(&rt, rt.alloc());
     seal_responses(&rt, rt.alloc(), &mut frames);
-    are_written(&rt, &frames, &RESPONSES);
+    are_written(&rt, &frames, RESPONSES);
 }
 
 // The header of a request of the other client, Identifier 17.
@@ -234,7 +234,7 @@ fn seal_mixed(rt: &impl Abort, alloc: Global, frames: &mut [Frame; 8]) {
     seal8(&jobs, frames);
 }
 
-const MIXED: [&[u8]; 8] = [
+const MIXED: &[&[u8]; 8] = &[
     CHALLENGE,
     UNSEALED_REJECT,
     OTHER_RESPONSE,
@@ -249,7 +249,7 @@ const MIXED: [&[u8]; 8] = [
 fn replies_of_each_code_are_sealed_in_one_call(rt: HostRuntime) {
     let mut frames = empty_frames(&rt, rt.alloc());
     seal_mixed(&rt, rt.alloc(), &mut frames);
-    are_written(&rt, &frames, &MIXED);
+    are_written(&rt, &frames, MIXED);
 }
 
 // An accept for the Status-Server of RFC 5997, section 6.1, as this server says it, with a Message-Authenticator.
@@ -276,11 +276,11 @@ fn seal_accepts(rt: &impl Abort, alloc: Global, frames: &mut [Frame; 8]) {
     seal8(&jobs, frames);
 }
 
-const ACCEPTS: [&[u8]; 8] = [STATUS_REPLY, STATUS_REPLY, b"", b"", b"", b"", b"", b""];
+const ACCEPTS: &[&[u8]; 8] = &[STATUS_REPLY, STATUS_REPLY, b"", b"", b"", b"", b"", b""];
 
 #[test]
 fn a_message_authenticator_in_the_body_is_overwritten(rt: HostRuntime) {
     let mut frames = empty_frames(&rt, rt.alloc());
     seal_accepts(&rt, rt.alloc(), &mut frames);
-    are_written(&rt, &frames, &ACCEPTS);
+    are_written(&rt, &frames, ACCEPTS);
 }

@@ -55,97 +55,14 @@ type Case = (u8, u8, &'static [u8; 16], &'static [Attribute]);
 // Its name, the request, and the octets that it is signed as.
 type Signed = (&'static str, Case, &'static [u8]);
 
-const SIGNED: [Signed; 12] = [
-    (
-        "a start",
-        (code::ACCOUNTING_REQUEST, 7, UNUSED, &[Status]),
-        START,
-    ),
-    (
-        "a start with a Message-Authenticator, which is left as it is",
-        (code::ACCOUNTING_REQUEST, 7, UNUSED, &[Status, Zeros]),
-        START_WITH_ZEROS,
-    ),
-    (
-        "a start with a Proxy-State",
-        (code::ACCOUNTING_REQUEST, 7, UNUSED, &[Status, Proxy]),
-        PROXIED_START,
-    ),
-    (
-        "an Access-Request with no room for an HMAC",
-        (code::ACCESS_REQUEST, 0, REQUEST_AUTHENTICATOR, &[]),
-        ACCESS_REQUEST,
-    ),
-    (
-        "an Access-Request with room for one",
-        (code::ACCESS_REQUEST, 0, REQUEST_AUTHENTICATOR, &[Zeros]),
-        SIGNED_REQUEST,
-    ),
-    (
-        "an Access-Request with room for two",
-        (
-            code::ACCESS_REQUEST,
-            0,
-            REQUEST_AUTHENTICATOR,
-            &[Zeros, Text],
-        ),
-        HMAC_AND_TEXT,
-    ),
-    (
-        "an Access-Request with text in the HMAC's place",
-        (code::ACCESS_REQUEST, 0, REQUEST_AUTHENTICATOR, &[Text]),
-        SIGNED_REQUEST,
-    ),
-    (
-        "an Access-Request with one of 3 octets before it",
-        (
-            code::ACCESS_REQUEST,
-            0,
-            REQUEST_AUTHENTICATOR,
-            &[Short, Zeros],
-        ),
-        SHORT_AND_HMAC,
-    ),
-    (
-        "a Status-Server with no room for an HMAC",
-        (code::STATUS_SERVER, 0, &[0; 16], &[]),
-        EMPTY_STATUS,
-    ),
-    (
-        "a Status-Server",
-        (code::STATUS_SERVER, 0, &[0; 16], &[Zeros]),
-        STATUS_SERVER,
-    ),
-    (
-        "the RFC's Status-Server",
-        (
-            code::STATUS_SERVER,
-            218,
-            b"\x8a\x54\xf4\x68\x6f\xb3\x94\xc5\x28\x66\xe3\x02\x18\x5d\x06\x23",
-            &[Zeros],
-        ),
-        RFC_STATUS,
-    ),
-    (
-        "the RFC's Status-Server for accounting",
-        (
-            code::STATUS_SERVER,
-            179,
-            b"\x92\x5f\x6b\x66\xdd\x5f\xed\x57\x1f\xcb\x1d\xb7\xad\x38\x82\x60",
-            &[Zeros],
-        ),
-        RFC_ACCOUNTING_STATUS,
-    ),
-];
-
 // The attributes of the request of RFC 2865, section 7.1.
-const OF_THE_RFC: [Attribute; 4] = [Name, Password, Address, Port];
+const OF_THE_RFC: &[Attribute] = &[Name, Password, Address, Port];
 
 // A body with these attributes, and in an Access-Request the RFC's before them.
 fn body_of(rt: &impl Abort, alloc: Global, code: u8, attributes: &[Attribute]) -> Body {
     let mut body = Body::new(alloc, code);
     if code == code::ACCESS_REQUEST {
-        extend(rt, &mut body, &OF_THE_RFC);
+        extend(rt, &mut body, OF_THE_RFC);
     }
     extend(rt, &mut body, attributes);
     body
@@ -163,21 +80,96 @@ fn is_signed(rt: &impl Abort, alloc: Global, frame: &mut Frame, (name, case, wan
 // One frame serves all. The first Message-Authenticator of 16 octets gets the HMAC.
 #[test]
 fn requests_get_their_authenticators(rt: HostRuntime) {
+    const ROWS: &[Signed] = &[
+        (
+            "a start",
+            (code::ACCOUNTING_REQUEST, 7, UNUSED, &[Status]),
+            START,
+        ),
+        (
+            "a start with a Message-Authenticator, which is left as it is",
+            (code::ACCOUNTING_REQUEST, 7, UNUSED, &[Status, Zeros]),
+            START_WITH_ZEROS,
+        ),
+        (
+            "a start with a Proxy-State",
+            (code::ACCOUNTING_REQUEST, 7, UNUSED, &[Status, Proxy]),
+            PROXIED_START,
+        ),
+        (
+            "an Access-Request with no room for an HMAC",
+            (code::ACCESS_REQUEST, 0, REQUEST_AUTHENTICATOR, &[]),
+            ACCESS_REQUEST,
+        ),
+        (
+            "an Access-Request with room for one",
+            (code::ACCESS_REQUEST, 0, REQUEST_AUTHENTICATOR, &[Zeros]),
+            SIGNED_REQUEST,
+        ),
+        (
+            "an Access-Request with room for two",
+            (
+                code::ACCESS_REQUEST,
+                0,
+                REQUEST_AUTHENTICATOR,
+                &[Zeros, Text],
+            ),
+            HMAC_AND_TEXT,
+        ),
+        (
+            "an Access-Request with text in the HMAC's place",
+            (code::ACCESS_REQUEST, 0, REQUEST_AUTHENTICATOR, &[Text]),
+            SIGNED_REQUEST,
+        ),
+        (
+            "an Access-Request with one of 3 octets before it",
+            (
+                code::ACCESS_REQUEST,
+                0,
+                REQUEST_AUTHENTICATOR,
+                &[Short, Zeros],
+            ),
+            SHORT_AND_HMAC,
+        ),
+        (
+            "a Status-Server with no room for an HMAC",
+            (code::STATUS_SERVER, 0, &[0; 16], &[]),
+            EMPTY_STATUS,
+        ),
+        (
+            "a Status-Server",
+            (code::STATUS_SERVER, 0, &[0; 16], &[Zeros]),
+            STATUS_SERVER,
+        ),
+        (
+            "the RFC's Status-Server",
+            (
+                code::STATUS_SERVER,
+                218,
+                b"\x8a\x54\xf4\x68\x6f\xb3\x94\xc5\x28\x66\xe3\x02\x18\x5d\x06\x23",
+                &[Zeros],
+            ),
+            RFC_STATUS,
+        ),
+        (
+            "the RFC's Status-Server for accounting",
+            (
+                code::STATUS_SERVER,
+                179,
+                b"\x92\x5f\x6b\x66\xdd\x5f\xed\x57\x1f\xcb\x1d\xb7\xad\x38\x82\x60",
+                &[Zeros],
+            ),
+            RFC_ACCOUNTING_STATUS,
+        ),
+    ];
     let mut frame = new_frame(&rt, rt.alloc());
-    for signed in SIGNED.iter() {
+    for signed in ROWS.iter() {
         is_signed(&rt, rt.alloc(), &mut frame, *signed);
     }
 }
 
 // A request's Code, an attribute, the port that it goes to, and why it is discarded from another client.
 type Admitted = (u8, Attribute, Door, Discard);
-
-const ADMITTED: [Admitted; 4] = [
-    (code::ACCESS_REQUEST, Zeros, Auth, BadMessageAuthenticator),
-    (code::STATUS_SERVER, Zeros, Auth, BadMessageAuthenticator),
-    (code::STATUS_SERVER, Zeros, Acct, BadMessageAuthenticator),
-    (code::ACCOUNTING_REQUEST, Status, Acct, BadAuthenticator),
-];
 
 // Signs a request under a secret, Identifier 5, and asserts that it is admitted from the client at this place, whose secret
 // it is, and discarded from another.
@@ -206,12 +198,18 @@ fn is_admitted_from(
 
 #[test]
 fn signed_requests_are_admitted(rt: HostRuntime) {
+    const ROWS: &[Admitted] = &[
+        (code::ACCESS_REQUEST, Zeros, Auth, BadMessageAuthenticator),
+        (code::STATUS_SERVER, Zeros, Auth, BadMessageAuthenticator),
+        (code::STATUS_SERVER, Zeros, Acct, BadMessageAuthenticator),
+        (code::ACCOUNTING_REQUEST, Status, Acct, BadAuthenticator),
+    ];
     let clients = three_clients(&rt, rt.alloc());
     let mut frame = new_frame(&rt, rt.alloc());
     let (secret, other_secret) = (Secret::new(SECRET), Secret::new(OTHER_SECRET));
     let first = (CLIENT, 0, OTHER_CLIENT);
     let other = (OTHER_CLIENT, 1, CLIENT);
-    for row in ADMITTED.iter() {
+    for row in ROWS.iter() {
         is_admitted_from(&rt, rt.alloc(), &mut frame, &clients, *row, &secret, first);
         is_admitted_from(
             &rt,
@@ -255,15 +253,14 @@ fn is_bounded(rt: &impl Abort, alloc: Global, frame: &mut Frame, kept: &mut Fram
 
 #[test]
 fn a_request_of_more_than_4096_octets_is_refused(rt: HostRuntime) {
-    let mut frame = new_frame(&rt, rt.alloc());
-    let mut kept = new_frame(&rt, rt.alloc());
-    for code in [
+    const CODES: &[u8] = &[
         code::ACCESS_REQUEST,
         code::ACCOUNTING_REQUEST,
         code::STATUS_SERVER,
-    ]
-    .iter()
-    {
+    ];
+    let mut frame = new_frame(&rt, rt.alloc());
+    let mut kept = new_frame(&rt, rt.alloc());
+    for code in CODES.iter() {
         is_bounded(&rt, rt.alloc(), &mut frame, &mut kept, *code);
     }
 }

@@ -1,68 +1,67 @@
 use super::{is_printed, read_as};
 use rad_config::ConfigFault;
 
-// Texts, and the printed fault of each, or `read`.
-const PRINTED: [(&str, &str); 25] = [
-    ("", "read"),
-    ("listen = 3\n[proxy]\nclient = 3", "read"),
-    ("client = ", "config fault 1 Syntax"),
-    ("window = 1\nwindow = 1", "config fault 1 Syntax"),
-    ("hold = 9223372036854775808", "config fault 1 Syntax"),
-    ("hold = \"x\"", "config fault 3 BadValue at top 0 hold"),
-    ("hold = 29", "config fault 4 HoldBelowWindow"),
-    ("window = 61", "config fault 4 HoldBelowWindow"),
-    ("client = 3", "config fault 3 BadValue at client 0 list"),
-    ("[client]", "config fault 3 BadValue at client 0 list"),
-    ("client = [1]", "config fault 3 BadValue at client 1 entry"),
-    ("client = [{address = \"1.2.3.4\", secret = \"s\"}]", "read"),
-    (
-        "[[client]]\naddress = \"192.168.1.16\"",
-        "config fault 2 Missing at client 1 secret",
-    ),
-    (
-        "[[client]]\naddress = \"1.2.3.4\"\nsecret = \"a\"\n[[client]]\naddress = \"1.2.3.4\"",
-        "config fault 3 BadValue at client 2 address",
-    ),
-    ("pool = 3", "config fault 3 BadValue at pool 0 list"),
-    ("pool = [[]]", "config fault 3 BadValue at pool 1 entry"),
-    (
-        "[[pool]]\nname = \"a\"\nfirst = \"10.0.0.1\"\nlast = \"10.0.0.9\"\n[[pool]]\nname = \"b\"\nfirst = \"10.0.0.9\"\nlast = \"10.0.0.9\"",
-        "config fault 5 PoolsOverlap",
-    ),
-    (
-        "[[pool]]\nname = \"a\"\nfirst = \"10.0.0.10\"\nlast = \"10.0.0.10\"\n[[pool]]\nname = \"b\"\nfirst = \"10.0.0.9\"\nlast = \"10.0.0.9\"",
-        "read",
-    ),
-    (
-        "[[pool]]\nname = \"a\"\nfirst = \"10.0.0.1\"\nlast = \"10.0.0.1\"\n[[pool]]\nname = \"a\"",
-        "config fault 3 BadValue at pool 2 name",
-    ),
-    ("user = true", "config fault 3 BadValue at user 0 list"),
-    (
-        "[[user]]\nname = \"a\"\npassword = \"b\"\n[[user]]\nname = \"a\"",
-        "config fault 3 BadValue at user 2 name",
-    ),
-    (
-        "[[user]]\nname = \"a\"\npassword = \"b\"\npool = \"p\"",
-        "config fault 3 BadValue at user 1 pool",
-    ),
-    (
-        "[[user]]\nname = \"a\"\npassword = \"b\"\nchallenge = \"c\"",
-        "config fault 2 Missing at user 1 answer",
-    ),
-    (
-        "[[user]]\nname = \"a\"\npassword = \"b\"\nanswer = 5",
-        "config fault 2 Missing at user 1 challenge",
-    ),
-    (
-        "[[user]]\nname = \"a\"\npassword = \"b\"\nchallenge = 5",
-        "config fault 3 BadValue at user 1 challenge",
-    ),
-];
-
 #[test]
 fn each_fault_is_printed(rt: HostRuntime) {
-    read_as(&rt, &PRINTED);
+    // Texts, and the printed fault of each, or `read`.
+    const ROWS: &[(&str, &str)] = &[
+        ("", "read"),
+        ("listen = 3\n[proxy]\nclient = 3", "read"),
+        ("client = ", "config fault 1 Syntax"),
+        ("window = 1\nwindow = 1", "config fault 1 Syntax"),
+        ("hold = 9223372036854775808", "config fault 1 Syntax"),
+        ("hold = \"x\"", "config fault 3 BadValue at top 0 hold"),
+        ("hold = 29", "config fault 4 HoldBelowWindow"),
+        ("window = 61", "config fault 4 HoldBelowWindow"),
+        ("client = 3", "config fault 3 BadValue at client 0 list"),
+        ("[client]", "config fault 3 BadValue at client 0 list"),
+        ("client = [1]", "config fault 3 BadValue at client 1 entry"),
+        ("client = [{address = \"1.2.3.4\", secret = \"s\"}]", "read"),
+        (
+            "[[client]]\naddress = \"192.168.1.16\"",
+            "config fault 2 Missing at client 1 secret",
+        ),
+        (
+            "[[client]]\naddress = \"1.2.3.4\"\nsecret = \"a\"\n[[client]]\naddress = \"1.2.3.4\"",
+            "config fault 3 BadValue at client 2 address",
+        ),
+        ("pool = 3", "config fault 3 BadValue at pool 0 list"),
+        ("pool = [[]]", "config fault 3 BadValue at pool 1 entry"),
+        (
+            "[[pool]]\nname = \"a\"\nfirst = \"10.0.0.1\"\nlast = \"10.0.0.9\"\n[[pool]]\nname = \"b\"\nfirst = \"10.0.0.9\"\nlast = \"10.0.0.9\"",
+            "config fault 5 PoolsOverlap",
+        ),
+        (
+            "[[pool]]\nname = \"a\"\nfirst = \"10.0.0.10\"\nlast = \"10.0.0.10\"\n[[pool]]\nname = \"b\"\nfirst = \"10.0.0.9\"\nlast = \"10.0.0.9\"",
+            "read",
+        ),
+        (
+            "[[pool]]\nname = \"a\"\nfirst = \"10.0.0.1\"\nlast = \"10.0.0.1\"\n[[pool]]\nname = \"a\"",
+            "config fault 3 BadValue at pool 2 name",
+        ),
+        ("user = true", "config fault 3 BadValue at user 0 list"),
+        (
+            "[[user]]\nname = \"a\"\npassword = \"b\"\n[[user]]\nname = \"a\"",
+            "config fault 3 BadValue at user 2 name",
+        ),
+        (
+            "[[user]]\nname = \"a\"\npassword = \"b\"\npool = \"p\"",
+            "config fault 3 BadValue at user 1 pool",
+        ),
+        (
+            "[[user]]\nname = \"a\"\npassword = \"b\"\nchallenge = \"c\"",
+            "config fault 2 Missing at user 1 answer",
+        ),
+        (
+            "[[user]]\nname = \"a\"\npassword = \"b\"\nanswer = 5",
+            "config fault 2 Missing at user 1 challenge",
+        ),
+        (
+            "[[user]]\nname = \"a\"\npassword = \"b\"\nchallenge = 5",
+            "config fault 3 BadValue at user 1 challenge",
+        ),
+    ];
+    read_as(&rt, ROWS);
     let printed = ConfigFault::NoMemory.to_string(rt.alloc());
     let printed = printed.expect(&rt, "a text");
     is_printed(
@@ -73,52 +72,51 @@ fn each_fault_is_printed(rt: HostRuntime) {
     );
 }
 
-// Texts with several faults, and the one that is reported.
-const FIRST: [(&str, &str); 11] = [
-    (
-        "hold = 0\nwindow = 0",
-        "config fault 3 BadValue at top 0 window",
-    ),
-    ("hold = 29\nclient = 3", "config fault 4 HoldBelowWindow"),
-    (
-        "user = 3\npool = 3\nclient = 3",
-        "config fault 3 BadValue at client 0 list",
-    ),
-    (
-        "user = 3\npool = 3",
-        "config fault 3 BadValue at pool 0 list",
-    ),
-    (
-        "client = [{address = \"1.2.3.4\", secret = \"s\"}, 5, {address = \"1.2.3.4\"}]",
-        "config fault 3 BadValue at client 2 entry",
-    ),
-    (
-        "client = [{require_message_authenticator = 0, secret = 5}]",
-        "config fault 2 Missing at client 1 address",
-    ),
-    (
-        "client = [{address = \"1.2.3.4\", require_message_authenticator = 0, secret = 5}]",
-        "config fault 3 BadValue at client 1 secret",
-    ),
-    (
-        "user = 3\n[[pool]]\nname = \"a\"\nfirst = \"10.0.0.1\"\nlast = \"10.0.0.1\"\n[[pool]]\nname = \"b\"\nfirst = \"10.0.0.1\"\nlast = \"10.0.0.1\"",
-        "config fault 5 PoolsOverlap",
-    ),
-    (
-        "[[pool]]\nname = \"a\"\nfirst = \"10.0.0.1\"\nlast = \"10.0.0.1\"\n[[pool]]\nname = \"b\"\nfirst = \"10.0.0.1\"",
-        "config fault 2 Missing at pool 2 last",
-    ),
-    (
-        "user = [{name = \"a\", sessions = 0, pool = \"x\"}]",
-        "config fault 2 Missing at user 1 password",
-    ),
-    (
-        "user = [{name = \"a\", password = \"b\", sessions = 0, pool = \"x\"}]",
-        "config fault 3 BadValue at user 1 pool",
-    ),
-];
-
 #[test]
 fn the_first_fault_is_reported(rt: HostRuntime) {
-    read_as(&rt, &FIRST);
+    // Texts with several faults, and the one that is reported.
+    const ROWS: &[(&str, &str)] = &[
+        (
+            "hold = 0\nwindow = 0",
+            "config fault 3 BadValue at top 0 window",
+        ),
+        ("hold = 29\nclient = 3", "config fault 4 HoldBelowWindow"),
+        (
+            "user = 3\npool = 3\nclient = 3",
+            "config fault 3 BadValue at client 0 list",
+        ),
+        (
+            "user = 3\npool = 3",
+            "config fault 3 BadValue at pool 0 list",
+        ),
+        (
+            "client = [{address = \"1.2.3.4\", secret = \"s\"}, 5, {address = \"1.2.3.4\"}]",
+            "config fault 3 BadValue at client 2 entry",
+        ),
+        (
+            "client = [{require_message_authenticator = 0, secret = 5}]",
+            "config fault 2 Missing at client 1 address",
+        ),
+        (
+            "client = [{address = \"1.2.3.4\", require_message_authenticator = 0, secret = 5}]",
+            "config fault 3 BadValue at client 1 secret",
+        ),
+        (
+            "user = 3\n[[pool]]\nname = \"a\"\nfirst = \"10.0.0.1\"\nlast = \"10.0.0.1\"\n[[pool]]\nname = \"b\"\nfirst = \"10.0.0.1\"\nlast = \"10.0.0.1\"",
+            "config fault 5 PoolsOverlap",
+        ),
+        (
+            "[[pool]]\nname = \"a\"\nfirst = \"10.0.0.1\"\nlast = \"10.0.0.1\"\n[[pool]]\nname = \"b\"\nfirst = \"10.0.0.1\"",
+            "config fault 2 Missing at pool 2 last",
+        ),
+        (
+            "user = [{name = \"a\", sessions = 0, pool = \"x\"}]",
+            "config fault 2 Missing at user 1 password",
+        ),
+        (
+            "user = [{name = \"a\", password = \"b\", sessions = 0, pool = \"x\"}]",
+            "config fault 3 BadValue at user 1 pool",
+        ),
+    ];
+    read_as(&rt, ROWS);
 }

@@ -3,7 +3,7 @@ use std::alloc::AllocError;
 use std::process::Abort;
 
 // Keys that hold a number, each with values that fit, values that don't, and the fault of these.
-const NUMBERS: [(&str, [i64; 2], [i64; 2], &str); 6] = [
+const NUMBERS: &[(&str, [i64; 2], [i64; 2], &str)] = &[
     (
         "hold = 3600\nwindow",
         [1, 3_600],
@@ -42,16 +42,6 @@ const NUMBERS: [(&str, [i64; 2], [i64; 2], &str); 6] = [
     ),
 ];
 
-// What fits no key that holds a number.
-const NO_NUMBERS: [&str; 6] = [
-    "true",
-    "1.0",
-    "\"1\"",
-    "1979-05-27",
-    "[1]",
-    "-9223372036854775808",
-];
-
 // Asserts the outcome of a text with this value at a key.
 fn reads_as_at<R: Abort + AllocGlobal>(rt: &R, key: &str, value: &str, after: &str, want: &str) {
     let text = format!(in rt.alloc(); "{key} = {value}{after}");
@@ -80,27 +70,36 @@ fn read_as_at<R: Abort + AllocGlobal>(rt: &R, key: &str, values: &[&str], want: 
 
 #[test]
 fn numbers_have_ranges(rt: HostRuntime) {
-    for (key, fit, _, _) in &NUMBERS {
+    for (key, fit, _, _) in NUMBERS.iter() {
         numbers_read_as(&rt, key, fit, "read");
     }
 }
 
 #[test]
 fn no_number_is_past_its_range(rt: HostRuntime) {
-    for (key, _, refused, bad) in &NUMBERS {
+    for (key, _, refused, bad) in NUMBERS.iter() {
         numbers_read_as(&rt, key, refused, bad);
     }
 }
 
 #[test]
 fn only_numbers_are_numbers(rt: HostRuntime) {
-    for (key, _, _, bad) in &NUMBERS {
-        read_as_at(&rt, key, &NO_NUMBERS, bad);
+    // What fits no key that holds a number.
+    const VALUES: &[&str] = &[
+        "true",
+        "1.0",
+        "\"1\"",
+        "1979-05-27",
+        "[1]",
+        "-9223372036854775808",
+    ];
+    for (key, _, _, bad) in NUMBERS.iter() {
+        read_as_at(&rt, key, VALUES, bad);
     }
 }
 
 // Keys that hold a text, each with what follows it, lengths that fit, lengths that don't, and the fault of these.
-const TEXTS: [(&str, &str, [usize; 2], [usize; 2], &str); 7] = [
+const TEXTS: &[(&str, &str, [usize; 2], [usize; 2], &str)] = &[
     (
         "[[client]]\naddress = \"1.2.3.4\"\nsecret",
         "",
@@ -185,91 +184,70 @@ fn lengths_read_as<R: Abort + AllocGlobal>(
 
 #[test]
 fn texts_have_lengths(rt: HostRuntime) {
-    for (key, after, fit, _, _) in &TEXTS {
+    for (key, after, fit, _, _) in TEXTS.iter() {
         lengths_read_as(&rt, key, fit, after, "read");
     }
 }
 
 #[test]
 fn no_text_is_past_its_lengths(rt: HostRuntime) {
-    for (key, after, _, refused, bad) in &TEXTS {
+    for (key, after, _, refused, bad) in TEXTS.iter() {
         lengths_read_as(&rt, key, refused, after, bad);
     }
 }
 
 #[test]
 fn numbers_are_no_texts(rt: HostRuntime) {
-    for (key, after, _, _, bad) in &TEXTS {
+    for (key, after, _, _, bad) in TEXTS.iter() {
         reads_as_at(&rt, key, "5", after, bad);
     }
 }
 
-// How many letters of two octets a secret has, and the outcome.
-const LETTERS: [(usize, &str); 2] = [
-    (64, "read"),
-    (65, "config fault 3 BadValue at client 1 secret"),
-];
-
 #[test]
 fn octets_are_counted(rt: HostRuntime) {
-    for (count, want) in LETTERS.iter() {
+    // How many letters of two octets a secret has, and the outcome.
+    const ROWS: &[(usize, &str)] = &[
+        (64, "read"),
+        (65, "config fault 3 BadValue at client 1 secret"),
+    ];
+    for (count, want) in ROWS.iter() {
         let key = "[[client]]\naddress = \"1.2.3.4\"\nsecret";
         letters_read_as(&rt, key, ("ä", *count), "", want);
     }
 }
 
-// Texts with a zero, and the outcome of each.
-const ZEROS: [(&str, &str); 7] = [
-    (
-        "[[client]]\naddress = \"1.2.3.4\"\nsecret = \"\\u0000\"",
-        "read",
-    ),
-    (
-        "[[pool]]\nfirst = \"1.2.3.4\"\nlast = \"1.2.3.4\"\nname = \"\\u0000\"",
-        "read",
-    ),
-    ("[[user]]\nname = \"\\u0000\"\npassword = \"b\"", "read"),
-    (
-        "[[user]]\nname = \"a\"\npassword = \"b\\u0000\"",
-        "config fault 3 BadValue at user 1 password",
-    ),
-    (
-        "[[user]]\nname = \"a\"\npassword = \"b\"\nmessage = \"\\u0000\"",
-        "read",
-    ),
-    (
-        "[[user]]\nname = \"a\"\npassword = \"b\"\nchallenge = \"\\u0000\"\nanswer = \"c\"",
-        "read",
-    ),
-    (
-        "[[user]]\nname = \"a\"\npassword = \"b\"\nchallenge = \"c\"\nanswer = \"\\u0000c\"",
-        "config fault 3 BadValue at user 1 answer",
-    ),
-];
-
 #[test]
 fn only_passwords_and_answers_have_no_zero(rt: HostRuntime) {
-    read_as(&rt, &ZEROS);
+    // Texts with a zero, and the outcome of each.
+    const ROWS: &[(&str, &str)] = &[
+        (
+            "[[client]]\naddress = \"1.2.3.4\"\nsecret = \"\\u0000\"",
+            "read",
+        ),
+        (
+            "[[pool]]\nfirst = \"1.2.3.4\"\nlast = \"1.2.3.4\"\nname = \"\\u0000\"",
+            "read",
+        ),
+        ("[[user]]\nname = \"\\u0000\"\npassword = \"b\"", "read"),
+        (
+            "[[user]]\nname = \"a\"\npassword = \"b\\u0000\"",
+            "config fault 3 BadValue at user 1 password",
+        ),
+        (
+            "[[user]]\nname = \"a\"\npassword = \"b\"\nmessage = \"\\u0000\"",
+            "read",
+        ),
+        (
+            "[[user]]\nname = \"a\"\npassword = \"b\"\nchallenge = \"\\u0000\"\nanswer = \"c\"",
+            "read",
+        ),
+        (
+            "[[user]]\nname = \"a\"\npassword = \"b\"\nchallenge = \"c\"\nanswer = \"\\u0000c\"",
+            "config fault 3 BadValue at user 1 answer",
+        ),
+    ];
+    read_as(&rt, ROWS);
 }
-
-// Addresses of clients, and the outcome of each.
-const ADDRESSES: [(&str, &str); 12] = [
-    ("0.0.0.0", "read"),
-    ("255.255.255.255", "read"),
-    ("256.0.0.1", "config fault 3 BadValue at client 1 address"),
-    (
-        "192.168.1.016",
-        "config fault 3 BadValue at client 1 address",
-    ),
-    ("1.2.3", "config fault 3 BadValue at client 1 address"),
-    ("1.2.3.4.5", "config fault 3 BadValue at client 1 address"),
-    ("1..2.3", "config fault 3 BadValue at client 1 address"),
-    ("+1.2.3.4", "config fault 3 BadValue at client 1 address"),
-    (" 1.2.3.4", "config fault 3 BadValue at client 1 address"),
-    ("1.2.3.4 ", "config fault 3 BadValue at client 1 address"),
-    ("1.2.3.4/32", "config fault 3 BadValue at client 1 address"),
-    ("", "config fault 3 BadValue at client 1 address"),
-];
 
 // Asserts the outcome of a text with this client.
 fn client_reads_as<R: Abort + AllocGlobal>(rt: &R, address: &str, want: &str) {
@@ -279,42 +257,28 @@ fn client_reads_as<R: Abort + AllocGlobal>(rt: &R, address: &str, want: &str) {
 
 #[test]
 fn addresses_have_ranges(rt: HostRuntime) {
-    for (address, want) in ADDRESSES.iter() {
+    // Addresses of clients, and the outcome of each.
+    const ROWS: &[(&str, &str)] = &[
+        ("0.0.0.0", "read"),
+        ("255.255.255.255", "read"),
+        ("256.0.0.1", "config fault 3 BadValue at client 1 address"),
+        (
+            "192.168.1.016",
+            "config fault 3 BadValue at client 1 address",
+        ),
+        ("1.2.3", "config fault 3 BadValue at client 1 address"),
+        ("1.2.3.4.5", "config fault 3 BadValue at client 1 address"),
+        ("1..2.3", "config fault 3 BadValue at client 1 address"),
+        ("+1.2.3.4", "config fault 3 BadValue at client 1 address"),
+        (" 1.2.3.4", "config fault 3 BadValue at client 1 address"),
+        ("1.2.3.4 ", "config fault 3 BadValue at client 1 address"),
+        ("1.2.3.4/32", "config fault 3 BadValue at client 1 address"),
+        ("", "config fault 3 BadValue at client 1 address"),
+    ];
+    for (address, want) in ROWS.iter() {
         client_reads_as(&rt, address, want);
     }
 }
-
-// First and last addresses of pools, and the outcome of each pair.
-const POOLS: [(&str, &str, &str); 8] = [
-    ("0.0.0.1", "0.0.0.1", "read"),
-    (
-        "0.0.0.0",
-        "0.0.0.1",
-        "config fault 3 BadValue at pool 1 first",
-    ),
-    ("255.255.255.253", "255.255.255.253", "read"),
-    (
-        "255.255.255.253",
-        "255.255.255.254",
-        "config fault 3 BadValue at pool 1 last",
-    ),
-    (
-        "255.255.255.254",
-        "255.255.255.254",
-        "config fault 3 BadValue at pool 1 first",
-    ),
-    (
-        "10.0.0.2",
-        "10.0.0.1",
-        "config fault 3 BadValue at pool 1 last",
-    ),
-    ("10.0.0.0", "10.0.255.255", "read"),
-    (
-        "10.0.0.0",
-        "10.1.0.0",
-        "config fault 3 BadValue at pool 1 last",
-    ),
-];
 
 // Asserts the outcome of a text with this pool.
 fn pool_reads_as<R: Abort + AllocGlobal>(rt: &R, first: &str, last: &str, want: &str) {
@@ -326,32 +290,62 @@ fn pool_reads_as<R: Abort + AllocGlobal>(rt: &R, first: &str, last: &str, want: 
 
 #[test]
 fn pools_have_bounds(rt: HostRuntime) {
-    for (first, last, want) in POOLS.iter() {
+    // First and last addresses of pools, and the outcome of each pair.
+    const ROWS: &[(&str, &str, &str)] = &[
+        ("0.0.0.1", "0.0.0.1", "read"),
+        (
+            "0.0.0.0",
+            "0.0.0.1",
+            "config fault 3 BadValue at pool 1 first",
+        ),
+        ("255.255.255.253", "255.255.255.253", "read"),
+        (
+            "255.255.255.253",
+            "255.255.255.254",
+            "config fault 3 BadValue at pool 1 last",
+        ),
+        (
+            "255.255.255.254",
+            "255.255.255.254",
+            "config fault 3 BadValue at pool 1 first",
+        ),
+        (
+            "10.0.0.2",
+            "10.0.0.1",
+            "config fault 3 BadValue at pool 1 last",
+        ),
+        ("10.0.0.0", "10.0.255.255", "read"),
+        (
+            "10.0.0.0",
+            "10.1.0.0",
+            "config fault 3 BadValue at pool 1 last",
+        ),
+    ];
+    for (first, last, want) in ROWS.iter() {
         pool_reads_as(&rt, first, last, want);
     }
 }
 
-// Texts with a flag, and the outcome of each.
-const FLAGS: [(&str, &str); 4] = [
-    (
-        "[[client]]\naddress = \"1.2.3.4\"\nsecret = \"s\"\nrequire_message_authenticator = true",
-        "read",
-    ),
-    (
-        "[[client]]\naddress = \"1.2.3.4\"\nsecret = \"s\"\nrequire_message_authenticator = false",
-        "read",
-    ),
-    (
-        "[[client]]\naddress = \"1.2.3.4\"\nsecret = \"s\"\nrequire_message_authenticator = 1",
-        "config fault 3 BadValue at client 1 require_message_authenticator",
-    ),
-    (
-        "[[client]]\naddress = \"1.2.3.4\"\nsecret = \"s\"\nrequire_message_authenticator = \"true\"",
-        "config fault 3 BadValue at client 1 require_message_authenticator",
-    ),
-];
-
 #[test]
 fn a_flag_is_a_boolean(rt: HostRuntime) {
-    read_as(&rt, &FLAGS);
+    // Texts with a flag, and the outcome of each.
+    const ROWS: &[(&str, &str)] = &[
+        (
+            "[[client]]\naddress = \"1.2.3.4\"\nsecret = \"s\"\nrequire_message_authenticator = true",
+            "read",
+        ),
+        (
+            "[[client]]\naddress = \"1.2.3.4\"\nsecret = \"s\"\nrequire_message_authenticator = false",
+            "read",
+        ),
+        (
+            "[[client]]\naddress = \"1.2.3.4\"\nsecret = \"s\"\nrequire_message_authenticator = 1",
+            "config fault 3 BadValue at client 1 require_message_authenticator",
+        ),
+        (
+            "[[client]]\naddress = \"1.2.3.4\"\nsecret = \"s\"\nrequire_message_authenticator = \"true\"",
+            "config fault 3 BadValue at client 1 require_message_authenticator",
+        ),
+    ];
+    read_as(&rt, ROWS);
 }

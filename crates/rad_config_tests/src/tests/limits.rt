@@ -78,13 +78,6 @@ fn the_longest_lists_are_read(rt: HostRuntime) -> Result<(), Fail> {
     Ok(())
 }
 
-// How many clients, pools and users a text has, and its fault.
-const TOO_MANY: [(u32, u32, u32, &str); 3] = [
-    (257, 0, 0, "config fault 6 TooMany at client"),
-    (0, 17, 0, "config fault 6 TooMany at pool"),
-    (0, 0, 4_097, "config fault 6 TooMany at user"),
-];
-
 // Asserts the outcome of a text with so many clients, pools and users.
 fn numbered_reads_as<R: Abort + AllocGlobal>(
     rt: &R,
@@ -99,7 +92,13 @@ fn numbered_reads_as<R: Abort + AllocGlobal>(
 
 #[test]
 fn longer_lists_are_too_many(rt: HostRuntime) {
-    for (clients, pools, users, want) in TOO_MANY.iter() {
+    // How many clients, pools and users a text has, and its fault.
+    const ROWS: &[(u32, u32, u32, &str)] = &[
+        (257, 0, 0, "config fault 6 TooMany at client"),
+        (0, 17, 0, "config fault 6 TooMany at pool"),
+        (0, 0, 4_097, "config fault 6 TooMany at user"),
+    ];
+    for (clients, pools, users, want) in ROWS.iter() {
         numbered_reads_as(&rt, *clients, *pools, *users, want);
     }
 }

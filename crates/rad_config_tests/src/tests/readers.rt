@@ -35,17 +35,16 @@ fn are_counted(rt: &impl Abort, config: &Config) {
     holds(rt, client == Some(1), "the second client");
 }
 
-// Names, and the place of each in the campus.
-const PLACES: [(&str, Option<u32>); 4] = [
-    ("kay", Some(3)),
-    ("Kay", None),
-    ("ka", None),
-    ("u9", Some(12)),
-];
-
 // Asserts the place of each name.
 fn are_placed(rt: &impl Abort, config: &Config) {
-    for (name, want) in PLACES.iter() {
+    // Names, and the place of each in the campus.
+    const ROWS: &[(&str, Option<u32>)] = &[
+        ("kay", Some(3)),
+        ("Kay", None),
+        ("ka", None),
+        ("u9", Some(12)),
+    ];
+    for (name, want) in ROWS.iter() {
         holds(rt, config.user(name.as_bytes()) == *want, name);
     }
 }
@@ -146,7 +145,7 @@ fn a_user_has_what_the_text_says(rt: HostRuntime) -> Result<(), Fail> {
 const LINE_COUNT: usize = 18;
 
 // The lines of a configuration, each with another that says something else.
-const LINES: [(&str, &str); LINE_COUNT] = [
+const LINES: &[(&str, &str); LINE_COUNT] = &[
     ("window = 30", "window = 29"),
     ("hold = 60", "hold = 61"),
     (
@@ -227,47 +226,6 @@ fn each_value_is_compared(rt: HostRuntime) -> Result<(), Fail> {
     differs_at_each(&rt, &config)
 }
 
-// Texts, and whether each is the configuration of one plain user.
-const USERS: [(&str, bool); 10] = [
-    ("\n[[user]]\nname = \"n\"\npassword = \"p\"\n", true),
-    (
-        "hold = 60\n[[user]]\nname = \"n\"\npassword = \"p\"\n",
-        true,
-    ),
-    (
-        "\n[[user]]\nname = \"n\"\npassword = \"p\"\nservice_type = 3",
-        true,
-    ),
-    (
-        "\n[[user]]\nname = \"n\"\npassword = \"p\"\nsessions = 1",
-        true,
-    ),
-    (
-        "\n[[user]]\nname = \"n\"\npassword = \"p\"\ntimeout = 1",
-        false,
-    ),
-    (
-        "\n[[user]]\nname = \"n\"\npassword = \"p\"\nmessage = \"m\"",
-        false,
-    ),
-    (
-        "\n[[user]]\nname = \"n\"\npassword = \"p\"\nchallenge = \"c\"\nanswer = \"d\"",
-        false,
-    ),
-    (
-        "\n[[user]]\nname = \"n\"\npassword = \"p\"\n[[user]]\nname = \"o\"\npassword = \"p\"",
-        false,
-    ),
-    (
-        "\n[[user]]\nname = \"n\"\npassword = \"p\"\n[[pool]]\nname = \"b\"\nfirst = \"2.0.0.1\"\nlast = \"2.0.0.2\"",
-        false,
-    ),
-    (
-        "\n[[user]]\nname = \"n\"\npassword = \"p\"\n[[client]]\naddress = \"1.2.3.5\"\nsecret = \"s\"",
-        false,
-    ),
-];
-
 // Asserts whether a text says the same as a configuration.
 fn is_compared<R: Abort + AllocGlobal>(
     rt: &R,
@@ -294,8 +252,48 @@ fn are_compared<R: Abort + AllocGlobal>(
 
 #[test]
 fn equal_texts_give_equal_configurations(rt: HostRuntime) -> Result<(), Fail> {
+    // Texts, and whether each is the configuration of one plain user.
+    const ROWS: &[(&str, bool)] = &[
+        ("\n[[user]]\nname = \"n\"\npassword = \"p\"\n", true),
+        (
+            "hold = 60\n[[user]]\nname = \"n\"\npassword = \"p\"\n",
+            true,
+        ),
+        (
+            "\n[[user]]\nname = \"n\"\npassword = \"p\"\nservice_type = 3",
+            true,
+        ),
+        (
+            "\n[[user]]\nname = \"n\"\npassword = \"p\"\nsessions = 1",
+            true,
+        ),
+        (
+            "\n[[user]]\nname = \"n\"\npassword = \"p\"\ntimeout = 1",
+            false,
+        ),
+        (
+            "\n[[user]]\nname = \"n\"\npassword = \"p\"\nmessage = \"m\"",
+            false,
+        ),
+        (
+            "\n[[user]]\nname = \"n\"\npassword = \"p\"\nchallenge = \"c\"\nanswer = \"d\"",
+            false,
+        ),
+        (
+            "\n[[user]]\nname = \"n\"\npassword = \"p\"\n[[user]]\nname = \"o\"\npassword = \"p\"",
+            false,
+        ),
+        (
+            "\n[[user]]\nname = \"n\"\npassword = \"p\"\n[[pool]]\nname = \"b\"\nfirst = \"2.0.0.1\"\nlast = \"2.0.0.2\"",
+            false,
+        ),
+        (
+            "\n[[user]]\nname = \"n\"\npassword = \"p\"\n[[client]]\naddress = \"1.2.3.5\"\nsecret = \"s\"",
+            false,
+        ),
+    ];
     let config = Config::read(rt.alloc(), "[[user]]\nname = \"n\"\npassword = \"p\"\n")?;
-    are_compared(&rt, &config, &USERS)
+    are_compared(&rt, &config, ROWS)
 }
 
 // Asserts that a text gives back the octets that it was made of.

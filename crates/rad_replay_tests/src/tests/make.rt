@@ -57,25 +57,62 @@ fn gives<R: Abort + AllocGlobal>(rt: &R, make: &Make, want: &str, what: &str) ->
     Ok(())
 }
 
-/// Asserts what a secret of so many letters gives.
-fn with_secret<R: Abort + AllocGlobal>(rt: &R, len: usize, want: &str) -> Result<(), Fail> {
-    let text = "a".repeat(rt.alloc(), len)?;
-    let secret = text.as_str();
-    gives(rt, &Make { secret, ..ACCOUNT }, want, "a long secret")
+/// An option that is a text.
+#[derive(Clone, Copy)]
+enum Long {
+    Secret,
+    User,
+    Password,
+}
+
+/// These options with this text for one of them.
+fn with_text<'a>(make: Make<'a>, option: Long, text: &'a str) -> Make<'a> {
+    match option {
+        Long::Secret => Make {
+            secret: text,
+            ..make
+        },
+        Long::User => Make {
+            user: Some(text),
+            ..make
+        },
+        Long::Password => Make {
+            password: Some(text),
+            ..make
+        },
+    }
+}
+
+/// Asserts what these options give, where one of them has so many letters.
+fn gives_with<R: Abort + AllocGlobal>(
+    rt: &R,
+    make: Make,
+    (option, letter, len): (Long, &str, usize),
+    want: &str,
+    what: &str,
+) -> Result<(), Fail> {
+    let text = letter.repeat(rt.alloc(), len)?;
+    let make = with_text(make, option, text.as_str());
+    gives(rt, &make, want, what)
 }
 
 #[test]
 fn long_secrets(rt: HostRuntime) -> Result<(), Fail> {
     let request = "0400001a8aebfb3c25f641990ffa0000e4f27c36280600000001";
-    with_secret(&rt, 128, request)?;
-    with_secret(&rt, 129, BAD_SECRET)
-}
-
-/// Asserts what a User-Name of so many letters gives.
-fn with_user<R: Abort + AllocGlobal>(rt: &R, len: usize, want: &str) -> Result<(), Fail> {
-    let text = "n".repeat(rt.alloc(), len)?;
-    let user = Some(text.as_str());
-    gives(rt, &Make { user, ..ACCOUNT }, want, "a long User-Name")
+    gives_with(
+        &rt,
+        ACCOUNT,
+        (Long::Secret, "a", 128),
+        request,
+        "a long secret",
+    )?;
+    gives_with(
+        &rt,
+        ACCOUNT,
+        (Long::Secret, "a", 129),
+        BAD_SECRET,
+        "a long secret",
+    )
 }
 
 #[test]
@@ -83,8 +120,20 @@ fn long_users(rt: HostRuntime) -> Result<(), Fail> {
     let name = "6e".repeat(rt.alloc(), 253)?;
     let head = "040001190ed802ef7200da2744771e24e02e5af901ff";
     let request = concat(&rt, &[head, name.as_str(), "280600000001"])?;
-    with_user(&rt, 253, request.as_str())?;
-    with_user(&rt, 254, BAD_USER)
+    gives_with(
+        &rt,
+        ACCOUNT,
+        (Long::User, "n", 253),
+        request.as_str(),
+        "a long User-Name",
+    )?;
+    gives_with(
+        &rt,
+        ACCOUNT,
+        (Long::User, "n", 254),
+        BAD_USER,
+        "a long User-Name",
+    )
 }
 
 /// The request of the longest password.
@@ -94,71 +143,74 @@ const LONG_PASSWORD: &str =
 const LONG_CHAP_PASSWORD: &str =
     "010000270f403f9473978057bd83d5cb98f4227a03130763b829ab231dfe80d64a109454df67c5";
 
-/// Options, how many letters their password has, and the request or the fault that they give.
-const PASSWORDS: [(Make<'static>, usize, &str); 6] = [
-    (ACCESS, 128, LONG_PASSWORD),
-    (
-        Make {
-            chap: Some(7),
-            ..ACCESS
-        },
-        128,
-        LONG_CHAP_PASSWORD,
-    ),
-    (
-        Make {
-            extra: "2",
-            ..ACCESS
-        },
-        129,
-        BAD_PASSWORD,
-    ),
-    (ACCOUNT, 129, BAD_PASSWORD),
-    (
-        Make {
-            chap: Some(7),
-            ..STATUS
-        },
-        129,
-        BAD_PASSWORD,
-    ),
-    (
-        Make {
-            user: Some(""),
-            ..ACCESS
-        },
-        129,
-        BAD_USER,
-    ),
-];
-
-/// Asserts what these options give with a password of so many letters.
-fn with_password<R: Abort + AllocGlobal>(
-    rt: &R,
-    make: Make,
-    len: usize,
-    want: &str,
-) -> Result<(), Fail> {
-    let text = "p".repeat(rt.alloc(), len)?;
-    let password = Some(text.as_str());
-    gives(rt, &Make { password, ..make }, want, "a long password")
-}
-
 /// The longest password, hidden and by CHAP, and one octet more in each kind: that is reported after the User-Name and before
 /// `extra`.
 #[test]
 fn long_passwords(rt: HostRuntime) -> Result<(), Fail> {
-    for (make, len, want) in PASSWORDS.iter() {
-        with_password(&rt, *make, *len, want)?;
+    // Options, how many letters their password has, and the request or the fault that they give.
+    const ROWS: &[(Make<'static>, usize, &str)] = &[
+        (ACCESS, 128, LONG_PASSWORD),
+        (
+            Make {
+                chap: Some(7),
+                ..ACCESS
+            },
+            128,
+            LONG_CHAP_PASSWORD,
+        ),
+        (
+            Make {
+                extra: "2",
+                ..ACCESS
+            },
+            129,
+            BAD_PASSWORD,
+        ),
+        (ACCOUNT, 129, BAD_PASSWORD),
+        (
+            Make {
+                chap: Some(7),
+                ..STATUS
+            },
+            129,
+            BAD_PASSWORD,
+        ),
+        (
+            Make {
+                user: Some(""),
+                ..ACCESS
+            },
+            129,
+            BAD_USER,
+        ),
+    ];
+    for (make, len, want) in ROWS.iter() {
+        gives_with(
+            &rt,
+            *make,
+            (Long::Password, "p", *len),
+            want,
+            "a long password",
+        )?;
     }
     Ok(())
 }
 
+/// So many attributes of 255 octets, each with this head and 253 octets of this, in hexadecimal.
+pub fn attributes(
+    rt: &impl AllocGlobal,
+    head: &str,
+    octet: &str,
+    count: usize,
+) -> Result<String, AllocError> {
+    let value = octet.repeat(rt.alloc(), 253)?;
+    let attribute = concat(rt, &[head, value.as_str()])?;
+    attribute.repeat(rt.alloc(), count)
+}
+
 /// Fifteen Proxy-States of 255 octets, a head and so many octets, in hexadecimal.
 fn long_extra(rt: &impl AllocGlobal, head: &str, count: usize) -> Result<String, AllocError> {
-    let value = "61".repeat(rt.alloc(), 253)?;
-    let attribute = concat(rt, &["21ff", value.as_str()])?;
-    let attributes = attribute.repeat(rt.alloc(), 15)?;
+    let attributes = attributes(rt, "21ff", "61", 15)?;
     let value = "62".repeat(rt.alloc(), count)?;
     concat(rt, &[attributes.as_str(), head, value.as_str()])
 }

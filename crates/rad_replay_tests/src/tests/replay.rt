@@ -1,7 +1,7 @@
 //! Whole replays, over memory. The digests and HMACs of requests and replies were made with Python's `hashlib` and `hmac`, but
 //! for those of RFC 2865, section 7.1, and RFC 5997, section 6.
 
-use crate::tests::make::ACCOUNT;
+use crate::tests::make::{ACCOUNT, attributes};
 use crate::tests::{are_octets, concat, is_number, is_text};
 use rad_config::ConfigFault;
 use rad_replay::{Make, RunFault, TEXT_MAX, run_replay};
@@ -124,204 +124,6 @@ struct Scenario {
     fault: &'static str,
 }
 
-const SCENARIOS: [Scenario; 24] = [
-    Scenario {
-        name: "ten ways to be dropped",
-        input: &[GATEWAY, DROPS],
-        output: &[DROPPED],
-        fault: "",
-    },
-    Scenario {
-        name: "a stranger, where no client is configured",
-        input: &["---\n", START],
-        output: &["1 drop 1 UnknownClient\n"],
-        fault: "",
-    },
-    Scenario {
-        name: "two replies with a drop between them",
-        input: &[GATEWAY, START, "\n0 acct 1.2.3.4:5 -\n", SECOND, "\n"],
-        output: &[
-            "1 ",
-            START_REPLY,
-            "2 drop 1 UnknownClient\n3 ",
-            SECOND_REPLY,
-        ],
-        fault: "",
-    },
-    Scenario {
-        name: "a Proxy-State",
-        input: &[GATEWAY, PROXIED, "\n"],
-        output: &["1 ", PROXIED_REPLY],
-        fault: "",
-    },
-    Scenario {
-        name: "two Proxy-States",
-        input: &[GATEWAY, TWICE_PROXIED, "\n"],
-        output: &["1 ", TWICE_PROXIED_REPLY],
-        fault: "",
-    },
-    Scenario {
-        name: "an Access-Request",
-        input: &[GATEWAY, ACCESS, "\n"],
-        output: &["1 ", ACCESS_REPLY],
-        fault: "",
-    },
-    Scenario {
-        name: "an Access-Request with two Proxy-States",
-        input: &[GATEWAY, PROXIED_ACCESS, "\n"],
-        output: &["1 ", PROXIED_ACCESS_REPLY],
-        fault: "",
-    },
-    Scenario {
-        name: "an Access-Request with a State, and one with an EAP-Message",
-        input: &[GATEWAY, STATE_ACCESS, "\n", EAP_ACCESS, "\n"],
-        output: &["1 ", STATE_ACCESS_REPLY, "2 ", EAP_ACCESS_REPLY],
-        fault: "",
-    },
-    Scenario {
-        name: "a client that has to send Message-Authenticators",
-        input: &[SUMMING_GATEWAY, ACCESS, "\n", EAP_ACCESS, "\n", START, "\n"],
-        output: &[
-            "1 drop 9 NoMessageAuthenticator\n2 ",
-            EAP_ACCESS_REPLY,
-            "3 ",
-            START_REPLY,
-        ],
-        fault: "",
-    },
-    Scenario {
-        name: "an Access-Request to the accounting port",
-        input: &[
-            GATEWAY,
-            "0 acct 192.168.1.16:1024 010000380f403f9473978057bd83d5cb98f4227a01066e656d6f02120dbe708d93d413ce3196e43f782a0aee0406c0a80110050600000003\n",
-        ],
-        output: &["1 drop 6 WrongCode\n"],
-        fault: "",
-    },
-    Scenario {
-        name: "a Status-Server to each port",
-        input: &[GATEWAY, STATUS, "\n", ACCT_STATUS, "\n"],
-        output: &["1 ", STATUS_REPLY, "2 ", ACCT_STATUS_REPLY],
-        fault: "",
-    },
-    Scenario {
-        name: "a Status-Server with two Proxy-States to each port",
-        input: &[
-            GATEWAY,
-            "0 auth",
-            PROXIED_STATUS,
-            "\n0 acct",
-            PROXIED_STATUS,
-            "\n",
-        ],
-        output: &["1 ", PROXIED_STATUS_ACCEPT, "2 ", PROXIED_STATUS_RESPONSE],
-        fault: "",
-    },
-    Scenario {
-        name: "repeats",
-        input: &[
-            GATEWAY, STATUS, "\n", ACCESS, "\n", STATUS, "\n", ACCESS, "\n", START, "\n", START,
-            "\n",
-        ],
-        output: &[
-            "1 ",
-            STATUS_REPLY,
-            "2 ",
-            ACCESS_REPLY,
-            "3 ",
-            STATUS_REPLY,
-            "4 ",
-            ACCESS_REPLY,
-            "5 ",
-            START_REPLY,
-            "6 ",
-            START_REPLY,
-        ],
-        fault: "",
-    },
-    Scenario {
-        name: "a malformed line after a good one",
-        input: &[GATEWAY, START, "\nx\n", SECOND, "\n"],
-        output: &["1 ", START_REPLY],
-        fault: "datagram 2 is malformed",
-    },
-    Scenario {
-        name: "a second divider",
-        input: &[GATEWAY, "---\n", START, "\n"],
-        output: &[],
-        fault: "datagram 1 is malformed",
-    },
-    Scenario {
-        name: "skipped lines",
-        input: &[
-            GATEWAY,
-            "# x\n\n#\n",
-            START,
-            "\n\n",
-            SECOND,
-            "\n#",
-            START,
-            "\nx\n",
-        ],
-        output: &["1 ", START_REPLY, "2 ", SECOND_REPLY],
-        fault: "datagram 3 is malformed",
-    },
-    Scenario {
-        name: "line ends with carriage returns",
-        input: &[
-            "[[client]]\r\naddress = \"192.168.1.16\"\r\nsecret = \"xyzzy5461\"\r\n---\r\n\r\n#\r\n",
-            START,
-            "\r\n",
-            SECOND,
-            "\r\n",
-        ],
-        output: &["1 ", START_REPLY, "2 ", SECOND_REPLY],
-        fault: "",
-    },
-    Scenario {
-        name: "no line feed at the end",
-        input: &[GATEWAY, START],
-        output: &["1 ", START_REPLY],
-        fault: "",
-    },
-    Scenario {
-        name: "no datagrams",
-        input: &[GATEWAY],
-        output: &[],
-        fault: "",
-    },
-    Scenario {
-        name: "a divider alone",
-        input: &["---"],
-        output: &[],
-        fault: "",
-    },
-    Scenario {
-        name: "nothing",
-        input: &[],
-        output: &[],
-        fault: "no divider",
-    },
-    Scenario {
-        name: "no divider below a faulty configuration",
-        input: &["client = 3\n----\n", START],
-        output: &[],
-        fault: "no divider",
-    },
-    Scenario {
-        name: "a client without a secret, and a malformed line",
-        input: &["[[client]]\naddress = \"192.168.1.16\"\n---\nx\n"],
-        output: &[],
-        fault: "config fault 2 Missing at client 1 secret",
-    },
-    Scenario {
-        name: "a text that ends at the divider",
-        input: &["# \"\"\"\nname = \"\"\"\n---\n\"\"\"\n---\n", START],
-        output: &[],
-        fault: "config fault 1 Syntax",
-    },
-];
-
 /// The printed fault, or nothing.
 fn printed(rt: &impl AllocGlobal, ended: Result<(), RunFault>) -> Result<String, AllocError> {
     match ended {
@@ -363,16 +165,218 @@ fn replays<R: Abort + AllocGlobal>(
     replays_octets(rt, input.as_bytes(), output.as_bytes(), fault, what);
 }
 
+/// Asserts what a replay of a scenario writes.
+fn is_replayed<R: Abort + AllocGlobal>(rt: &R, it: Scenario) {
+    replays(rt, it.input, it.output, it.fault, it.name);
+}
+
 #[test]
 fn scenarios(rt: HostRuntime) {
-    for it in SCENARIOS.iter() {
-        replays(&rt, it.input, it.output, it.fault, it.name);
+    const ROWS: &[Scenario] = &[
+        Scenario {
+            name: "ten ways to be dropped",
+            input: &[GATEWAY, DROPS],
+            output: &[DROPPED],
+            fault: "",
+        },
+        Scenario {
+            name: "a stranger, where no client is configured",
+            input: &["---\n", START],
+            output: &["1 drop 1 UnknownClient\n"],
+            fault: "",
+        },
+        Scenario {
+            name: "two replies with a drop between them",
+            input: &[GATEWAY, START, "\n0 acct 1.2.3.4:5 -\n", SECOND, "\n"],
+            output: &[
+                "1 ",
+                START_REPLY,
+                "2 drop 1 UnknownClient\n3 ",
+                SECOND_REPLY,
+            ],
+            fault: "",
+        },
+        Scenario {
+            name: "a Proxy-State",
+            input: &[GATEWAY, PROXIED, "\n"],
+            output: &["1 ", PROXIED_REPLY],
+            fault: "",
+        },
+        Scenario {
+            name: "two Proxy-States",
+            input: &[GATEWAY, TWICE_PROXIED, "\n"],
+            output: &["1 ", TWICE_PROXIED_REPLY],
+            fault: "",
+        },
+        Scenario {
+            name: "an Access-Request",
+            input: &[GATEWAY, ACCESS, "\n"],
+            output: &["1 ", ACCESS_REPLY],
+            fault: "",
+        },
+        Scenario {
+            name: "an Access-Request with two Proxy-States",
+            input: &[GATEWAY, PROXIED_ACCESS, "\n"],
+            output: &["1 ", PROXIED_ACCESS_REPLY],
+            fault: "",
+        },
+        Scenario {
+            name: "an Access-Request with a State, and one with an EAP-Message",
+            input: &[GATEWAY, STATE_ACCESS, "\n", EAP_ACCESS, "\n"],
+            output: &["1 ", STATE_ACCESS_REPLY, "2 ", EAP_ACCESS_REPLY],
+            fault: "",
+        },
+        Scenario {
+            name: "a client that has to send Message-Authenticators",
+            input: &[SUMMING_GATEWAY, ACCESS, "\n", EAP_ACCESS, "\n", START, "\n"],
+            output: &[
+                "1 drop 9 NoMessageAuthenticator\n2 ",
+                EAP_ACCESS_REPLY,
+                "3 ",
+                START_REPLY,
+            ],
+            fault: "",
+        },
+        Scenario {
+            name: "an Access-Request to the accounting port",
+            input: &[
+                GATEWAY,
+                "0 acct 192.168.1.16:1024 010000380f403f9473978057bd83d5cb98f4227a01066e656d6f02120dbe708d93d413ce3196e43f782a0aee0406c0a80110050600000003\n",
+            ],
+            output: &["1 drop 6 WrongCode\n"],
+            fault: "",
+        },
+        Scenario {
+            name: "a Status-Server to each port",
+            input: &[GATEWAY, STATUS, "\n", ACCT_STATUS, "\n"],
+            output: &["1 ", STATUS_REPLY, "2 ", ACCT_STATUS_REPLY],
+            fault: "",
+        },
+        Scenario {
+            name: "a Status-Server with two Proxy-States to each port",
+            input: &[
+                GATEWAY,
+                "0 auth",
+                PROXIED_STATUS,
+                "\n0 acct",
+                PROXIED_STATUS,
+                "\n",
+            ],
+            output: &["1 ", PROXIED_STATUS_ACCEPT, "2 ", PROXIED_STATUS_RESPONSE],
+            fault: "",
+        },
+        Scenario {
+            name: "repeats",
+            input: &[
+                GATEWAY, STATUS, "\n", ACCESS, "\n", STATUS, "\n", ACCESS, "\n", START, "\n",
+                START, "\n",
+            ],
+            output: &[
+                "1 ",
+                STATUS_REPLY,
+                "2 ",
+                ACCESS_REPLY,
+                "3 ",
+                STATUS_REPLY,
+                "4 ",
+                ACCESS_REPLY,
+                "5 ",
+                START_REPLY,
+                "6 ",
+                START_REPLY,
+            ],
+            fault: "",
+        },
+        Scenario {
+            name: "a malformed line after a good one",
+            input: &[GATEWAY, START, "\nx\n", SECOND, "\n"],
+            output: &["1 ", START_REPLY],
+            fault: "datagram 2 is malformed",
+        },
+        Scenario {
+            name: "a second divider",
+            input: &[GATEWAY, "---\n", START, "\n"],
+            output: &[],
+            fault: "datagram 1 is malformed",
+        },
+        Scenario {
+            name: "skipped lines",
+            input: &[
+                GATEWAY,
+                "# x\n\n#\n",
+                START,
+                "\n\n",
+                SECOND,
+                "\n#",
+                START,
+                "\nx\n",
+            ],
+            output: &["1 ", START_REPLY, "2 ", SECOND_REPLY],
+            fault: "datagram 3 is malformed",
+        },
+        Scenario {
+            name: "line ends with carriage returns",
+            input: &[
+                "[[client]]\r\naddress = \"192.168.1.16\"\r\nsecret = \"xyzzy5461\"\r\n---\r\n\r\n#\r\n",
+                START,
+                "\r\n",
+                SECOND,
+                "\r\n",
+            ],
+            output: &["1 ", START_REPLY, "2 ", SECOND_REPLY],
+            fault: "",
+        },
+        Scenario {
+            name: "no line feed at the end",
+            input: &[GATEWAY, START],
+            output: &["1 ", START_REPLY],
+            fault: "",
+        },
+        Scenario {
+            name: "no datagrams",
+            input: &[GATEWAY],
+            output: &[],
+            fault: "",
+        },
+        Scenario {
+            name: "a divider alone",
+            input: &["---"],
+            output: &[],
+            fault: "",
+        },
+        Scenario {
+            name: "nothing",
+            input: &[],
+            output: &[],
+            fault: "no divider",
+        },
+        Scenario {
+            name: "no divider below a faulty configuration",
+            input: &["client = 3\n----\n", START],
+            output: &[],
+            fault: "no divider",
+        },
+        Scenario {
+            name: "a client without a secret, and a malformed line",
+            input: &["[[client]]\naddress = \"192.168.1.16\"\n---\nx\n"],
+            output: &[],
+            fault: "config fault 2 Missing at client 1 secret",
+        },
+        Scenario {
+            name: "a text that ends at the divider",
+            input: &["# \"\"\"\nname = \"\"\"\n---\n\"\"\"\n---\n", START],
+            output: &[],
+            fault: "config fault 1 Syntax",
+        },
+    ];
+    for row in ROWS.iter() {
+        is_replayed(&rt, *row);
     }
 }
 
 #[test]
 fn printed_faults(rt: HostRuntime) {
-    let faults = [
+    const ROWS: &[(RunFault, &str)] = &[
         (RunFault::Read, "read failed"),
         (RunFault::TooLong, "input too long"),
         (RunFault::NoDivider, "no divider"),
@@ -384,22 +388,15 @@ fn printed_faults(rt: HostRuntime) {
         (RunFault::Write, "write failed"),
         (RunFault::NoMemory, "out of memory"),
     ];
-    for (fault, text) in faults.iter() {
+    for (fault, text) in ROWS.iter() {
         ends(&rt, Err(*fault), text, text);
     }
-}
-
-/// Fourteen Proxy-States of 255 octets, in hexadecimal.
-fn long_proxy_states(rt: &impl AllocGlobal) -> Result<String, AllocError> {
-    let value = "61".repeat(rt.alloc(), 253)?;
-    let attribute = concat(rt, &["21ff", value.as_str()])?;
-    attribute.repeat(rt.alloc(), 14)
 }
 
 /// An Access-Request without a name, with 3,584 octets of Proxy-State, the most that are copied, and one with an octet more.
 #[test]
 fn the_most_proxy_states(rt: HostRuntime) -> Result<(), Fail> {
-    let long = long_proxy_states(&rt)?;
+    let long = attributes(&rt, "21ff", "61", 14)?;
     let input = [
         GATEWAY,
         "0 auth 192.168.1.16:1024 01000e140f403f9473978057bd83d5cb98f4227a",
@@ -422,9 +419,7 @@ fn the_most_proxy_states(rt: HostRuntime) -> Result<(), Fail> {
 
 /// Fifteen attributes 26 of 255 octets and one of 245, all zeros, in hexadecimal.
 fn long_attributes(rt: &impl AllocGlobal) -> Result<String, AllocError> {
-    let zeros = "00".repeat(rt.alloc(), 253)?;
-    let attribute = concat(rt, &["1aff", zeros.as_str()])?;
-    let attributes = attribute.repeat(rt.alloc(), 15)?;
+    let attributes = attributes(rt, "1aff", "00", 15)?;
     let zeros = "00".repeat(rt.alloc(), 243)?;
     concat(rt, &[attributes.as_str(), "1af5", zeros.as_str()])
 }
@@ -452,12 +447,10 @@ fn replies_to_the_longest_request(rt: HostRuntime) -> Result<(), Fail> {
 }
 
 /// A request, and a comment that makes the transcript so many octets.
-fn commented(rt: &(impl Abort + AllocGlobal), len: usize) -> Result<Vec<u8>, Fail> {
+fn commented(rt: &impl AllocGlobal, len: usize) -> Result<String, AllocError> {
     let head = concat(rt, &[GATEWAY, START, "\n"])?;
-    let mut text = vec![in rt.alloc(); b'#'; len]?;
-    assert!(rt; head.len() <= text.len());
-    text[..head.len()].copy_from_slice(head.as_bytes());
-    Ok(text)
+    let comment = "#".repeat(rt.alloc(), len.saturating_sub(head.len()))?;
+    concat(rt, &[head.as_str(), comment.as_str()])
 }
 
 /// Asserts what a replay of a transcript of so many octets writes.
@@ -470,7 +463,7 @@ fn replays_long<R: Abort + AllocGlobal>(
 ) -> Result<(), Fail> {
     let input = commented(rt, len)?;
     let output = concat(rt, output)?;
-    replays_octets(rt, input.as_slice(), output.as_bytes(), fault, what);
+    replays_octets(rt, input.as_bytes(), output.as_bytes(), fault, what);
     Ok(())
 }
 

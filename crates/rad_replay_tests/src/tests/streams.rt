@@ -8,7 +8,7 @@ use std::io::{Read, Write};
 use std::process::Abort;
 
 /// Two requests.
-const PAIR: [&str; 5] = [GATEWAY, START, "\n", SECOND, "\n"];
+const PAIR: &[&str] = &[GATEWAY, START, "\n", SECOND, "\n"];
 
 /// Moves at most `step` octets a call, and fails once `calls` calls were made.
 #[derive(Drop)]
@@ -58,44 +58,9 @@ struct Halt {
     fault: &'static str,
 }
 
-const HALTS: [Halt; 4] = [
-    Halt {
-        name: "an octet a time",
-        step: 1,
-        reads: usize::MAX,
-        writes: usize::MAX,
-        output: &["1 ", START_REPLY, "2 ", SECOND_REPLY],
-        fault: "",
-    },
-    Halt {
-        name: "a fault in the middle of the input",
-        step: 100,
-        reads: 1,
-        writes: usize::MAX,
-        output: &[],
-        fault: "read failed",
-    },
-    Halt {
-        name: "a fault in the place of the input's end",
-        step: usize::MAX,
-        reads: 1,
-        writes: usize::MAX,
-        output: &[],
-        fault: "read failed",
-    },
-    Halt {
-        name: "a fault at the second write",
-        step: usize::MAX,
-        reads: usize::MAX,
-        writes: 1,
-        output: &["1 ", START_REPLY],
-        fault: "write failed",
-    },
-];
-
 fn replays<R: Abort + AllocGlobal>(rt: &R, halt: Halt) {
     let Halt { name, step, .. } = halt;
-    let input = concat(rt, &PAIR).expect(rt, name);
+    let input = concat(rt, PAIR).expect(rt, name);
     let output = concat(rt, halt.output).expect(rt, name);
     let (inner, calls) = (input.as_bytes(), halt.reads);
     let mut reader = Halting { inner, step, calls };
@@ -108,7 +73,41 @@ fn replays<R: Abort + AllocGlobal>(rt: &R, halt: Halt) {
 
 #[test]
 fn few_octets_and_faults(rt: HostRuntime) {
-    for halt in HALTS.iter() {
+    const ROWS: &[Halt] = &[
+        Halt {
+            name: "an octet a time",
+            step: 1,
+            reads: usize::MAX,
+            writes: usize::MAX,
+            output: &["1 ", START_REPLY, "2 ", SECOND_REPLY],
+            fault: "",
+        },
+        Halt {
+            name: "a fault in the middle of the input",
+            step: 100,
+            reads: 1,
+            writes: usize::MAX,
+            output: &[],
+            fault: "read failed",
+        },
+        Halt {
+            name: "a fault in the place of the input's end",
+            step: usize::MAX,
+            reads: 1,
+            writes: usize::MAX,
+            output: &[],
+            fault: "read failed",
+        },
+        Halt {
+            name: "a fault at the second write",
+            step: usize::MAX,
+            reads: usize::MAX,
+            writes: 1,
+            output: &["1 ", START_REPLY],
+            fault: "write failed",
+        },
+    ];
+    for halt in ROWS.iter() {
         replays(&rt, *halt);
     }
 }
@@ -137,7 +136,7 @@ impl<'a> Read for Stumbling<'a> {
 
 /// Asserts that a replay ends at the fault after so many calls, when so many octets were given.
 fn ends_at_fault<R: Abort + AllocGlobal>(rt: &R, step: usize, calls: usize, given: usize) {
-    let input = concat(rt, &PAIR).expect(rt, "a transcript");
+    let input = concat(rt, PAIR).expect(rt, "a transcript");
     let mut reader = Stumbling {
         rest: input.as_bytes(),
         step,
@@ -161,7 +160,8 @@ fn ends_at_fault<R: Abort + AllocGlobal>(rt: &R, step: usize, calls: usize, give
 /// Nothing is read after the first fault.
 #[test]
 fn a_reader_that_goes_on_after_a_fault(rt: HostRuntime) {
-    for (step, calls, given) in [(100, 0, 0), (1, 1, 1), (100, 2, 200), (7, 9, 63)].iter() {
+    const ROWS: &[(usize, usize, usize)] = &[(100, 0, 0), (1, 1, 1), (100, 2, 200), (7, 9, 63)];
+    for (step, calls, given) in ROWS.iter() {
         ends_at_fault(&rt, *step, *calls, *given);
     }
 }

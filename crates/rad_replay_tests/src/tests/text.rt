@@ -11,46 +11,45 @@ use std::test::Fail;
 fn is_read(rt: &impl Abort, line: &[u8], want: Option<DatagramLine>) {
     let mut octets = [0; 4096];
     let found = read_datagram_line(line, &mut octets);
-    assert_eq!(rt; found, want, "{line:?}");
+    assert!(rt; found == want, "{line:?}");
 }
 
 #[test]
 fn reads_datagram_lines(rt: HostRuntime) {
-    let lines = [
+    const ROWS: &[(&[u8], DatagramLine)] = &[
         (
-            b"0 acct 192.168.1.17:1813 -".as_slice(),
-            0,
-            0xc0a8_0111,
-            1813,
-            Door::Acct,
-            0,
+            b"0 acct 192.168.1.17:1813 -",
+            DatagramLine {
+                moment: 0,
+                source: 0xc0a8_0111,
+                port: 1813,
+                door: Door::Acct,
+                len: 0,
+            },
         ),
         (
             b"0000000000000000042 auth 0.0.0.255:00080 0aFfbC",
-            42,
-            255,
-            80,
-            Door::Auth,
-            3,
+            DatagramLine {
+                moment: 42,
+                source: 255,
+                port: 80,
+                door: Door::Auth,
+                len: 3,
+            },
         ),
         (
             b"4611686018427387904 auth 255.255.255.255:65535 00",
-            4_611_686_018_427_387_904,
-            0xffff_ffff,
-            65535,
-            Door::Auth,
-            1,
+            DatagramLine {
+                moment: 4_611_686_018_427_387_904,
+                source: 0xffff_ffff,
+                port: 65535,
+                door: Door::Auth,
+                len: 1,
+            },
         ),
     ];
-    for (line, moment, source, port, door, len) in lines.iter() {
-        let found = DatagramLine {
-            moment: *moment,
-            source: *source,
-            port: *port,
-            door: *door,
-            len: *len,
-        };
-        is_read(&rt, line, Some(found));
+    for (line, want) in ROWS.iter() {
+        is_read(&rt, line, Some(*want));
     }
 }
 
@@ -64,8 +63,8 @@ fn decodes_octets(rt: HostRuntime) {
 
 #[test]
 fn refuses_other_lines(rt: HostRuntime) {
-    let lines = [
-        b"".as_slice(),
+    const ROWS: &[&[u8]] = &[
+        b"",
         b"4611686018427387905 auth 1.2.3.4:5 00",
         b"00000000000000000042 auth 1.2.3.4:5 00",
         b" auth 1.2.3.4:5 00",
@@ -91,7 +90,7 @@ fn refuses_other_lines(rt: HostRuntime) {
         b"1 auth 1.2.3.4:5  00",
         b"1 auth 1.2.3.4:5 00 ",
     ];
-    for line in lines.iter() {
+    for line in ROWS.iter() {
         is_read(&rt, line, None);
     }
 }
@@ -111,7 +110,7 @@ fn has_octets<R: Abort + AllocGlobal>(
 }
 
 fn is_len(rt: &impl Abort, len: Option<usize>, want: Option<usize>) {
-    assert_eq!(rt; len, want);
+    assert!(rt; len == want, "octets of a line");
 }
 
 #[test]
@@ -128,12 +127,8 @@ fn is_divided(rt: &impl Abort, text: &[u8], want: Option<(&[u8], &[u8])>) {
 
 #[test]
 fn divides_texts(rt: HostRuntime) {
-    let texts = [
-        (
-            b"a\r\nb\n---\r\nc\n---\n".as_slice(),
-            b"a\r\nb\n".as_slice(),
-            b"c\n---\n".as_slice(),
-        ),
+    const ROWS: &[(&[u8], &[u8], &[u8])] = &[
+        (b"a\r\nb\n---\r\nc\n---\n", b"a\r\nb\n", b"c\n---\n"),
         (b"a\n---", b"a\n", b""),
         (b"---", b"", b""),
         (
@@ -142,30 +137,22 @@ fn divides_texts(rt: HostRuntime) {
             b"x",
         ),
     ];
-    for (text, before, after) in texts.iter() {
+    for (text, before, after) in ROWS.iter() {
         is_divided(&rt, text, Some((before, after)));
     }
 }
 
 #[test]
 fn finds_no_divider(rt: HostRuntime) {
-    let texts = [
-        b"".as_slice(),
-        b"\n",
-        b"a",
-        b"---\r\r",
-        b" ---\n",
-        b"--- \n",
-    ];
-    for text in texts.iter() {
+    const ROWS: &[&[u8]] = &[b"", b"\n", b"a", b"---\r\r", b" ---\n", b"--- \n"];
+    for text in ROWS.iter() {
         is_divided(&rt, text, None);
     }
 }
 
 /// Asserts which line comes next.
 fn comes_next(rt: &impl Abort, lines: &mut DatagramLines, want: Option<&[u8]>) {
-    let line = lines.next();
-    assert_eq!(rt; line, want);
+    assert!(rt; lines.next() == want, "a datagram line");
 }
 
 /// Asserts which datagram lines a text has.
