@@ -63,7 +63,9 @@ pub fn admitted_are_answerable()
     ensures { AdmittedAreAnswerable }
 {}
 
-/// The same of one request.
+/// An admitted request may be answered: the same law, of one request.
+///
+/// The call costs nothing: it does nothing at run time.
 pub fn admitted_is_answerable(_clients: &Clients, _request: &Request)
     requires { IsAdmitted _clients.now _request.now }
     ensures { IsAnswerable _clients.now _request.now }

@@ -12,7 +12,7 @@ pub struct Octets {
     store: Store,
 }
 
-// Who has the octets. Those that are shared are not changed.
+// The octets, owned or shared. Shared ones don't change.
 #[derive(Drop)]
 enum Store {
     Own(Vec<u8>),

@@ -143,7 +143,7 @@ impl Recent {
         self.keep_shared(key, Octets::new(octets), body, now)
     }
 
-    /// Does as `keep` does. Octets that are shared stay so.
+    /// Does what `keep` does, with octets that others may share.
     pub fn keep_shared(
         &mut self,
         key: Key,

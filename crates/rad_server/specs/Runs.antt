@@ -37,7 +37,7 @@ pub record IsExchange (configuration : Configuration) (before : State) (entry : 
 abbrev pub CanComeNext : Configuration → State → Entry → Type 0
 CanComeNext configuration before entry = (after : State) × IsExchange configuration before entry after
 
--- the step at an entry leads to this state alone
+-- the step at an entry leads to this state alone; of an entry that can't come next this says nothing
 abbrev pub LeadsTo : Configuration → State → Entry → State → Type 0
 LeadsTo configuration before entry state = (after : State) → IsExchange configuration before entry after → state ≡ after
 

@@ -1,4 +1,4 @@
-//! Plans for requests that were answered before. The answer says what changes: no rule is asked again, and no password is checked.
+//! Plans for requests that were answered before. The answer says what changes: no password is checked, and no reply is made.
 ghost use Rattle.std.specs.Prelude.{◌≡◌, ◌≤◌, ◌<◌, IfOk, IfSome, List, ℕ, length, option_copied, option_map};
 ghost use Rattle.rad_packet.specs.Packets.{packet_octets};
 ghost use Rattle.rad_config.specs.Spans.{moment_max};

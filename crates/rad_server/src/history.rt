@@ -66,9 +66,10 @@ pub fn exchange(
     })
 }
 
-/// Makes the exchanges of a history again, on a server that is as the other one was before them: then it is as the other one is now.
+/// Makes the exchanges of a history again, on a server equal to the one from which the history leads to `leader`. Afterwards the
+/// server is equal to `leader`.
 ///
-/// The entries say what changes: no rule is asked again, and no password is checked. If memory is refused, some may have been made.
+/// The entries say what changes: no password is checked, and no reply is made. If memory is refused, some may have been made.
 #[doc(hidden)]
 pub fn follow(server: &mut Server, history: &[Entry], leader: &Server) -> Result<(), AllocError>
     requires { IsHistory server.old history.now leader.now }

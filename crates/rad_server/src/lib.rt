@@ -4,6 +4,8 @@
 //! `Server::step` plans first: `plan` only reads, and makes the reply's body. Then memory is made ready, and then `commit`, which
 //! can't fail, changes the state. So if memory is refused, the state is unchanged. Nothing here reads a clock or a socket.
 //!
+//! `exchange` appends a step to a history, `Book` keeps a server with its history, and `follow` makes the exchanges of a history again.
+//!
 //! Other crates rest on this: an answer and the state after it are those of `specs/Steps.antt`, and an answer that is sent can be
 //! sealed.
 #![tactic(auto)]

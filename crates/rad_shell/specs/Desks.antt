@@ -11,7 +11,7 @@ use Rattle.rad_shell.specs.declared.receipt.Receipt.{Receipt}
 abbrev pub passes_max : ℕ
 passes_max = 8
 
--- what a ledger opens with is a blank of its name, and of its parts, of which each pass gets one
+-- a blank is that of the ledger: it has the ledger's name and its parts, one for each pass
 pub record IsBlankOf (blank_name blank_parts name parts passes : ℕ) : Type 0 where
   pub same_name : blank_name ≡ name
   pub same_parts : blank_parts ≡ parts
@@ -24,12 +24,12 @@ pub record IsConsistent (opening : Server) (history : List Entry) (server : Serv
   pub no_part : parts ≡ 0
   pub no_amount : amount ≡ 0
 
--- a history is longer by the entry of a receipt, which stands at the receipt's place
+-- a history is longer by the entry of a receipt, which is at the receipt's place
 pub record Appends (before after : List Entry) (receipt : Receipt) : Type 0 where
   pub appended : after ≡ before ++ receipt.entry ∷ []
   pub place : receipt.place ≡ length before
 
--- some server, for a ledger before a call says how its desk opens
+-- some server: the opening of `Brand`, until a call names another
 abbrev pub some_server : Server
 some_server =
     let configuration : Configuration = record { window = 0; hold = 0; clients = []; pools = []; users = [] } in

@@ -55,7 +55,8 @@ impl<'c, L: Opened> Desk<'c, L> {
     /// Asks the server once, and keeps the receipt in the pass.
     ///
     /// The request was admitted with the clients of the server's configuration. The moment is in milliseconds, at most
-    /// `MOMENT_MAX`. The call may wait for other threads. If memory is refused, pass and server are unchanged.
+    /// `MOMENT_MAX`. The call may wait for other threads. If memory is refused, the pass is
+    /// unchanged, and so is the server.
     pub fn ask<R: Wait>(
         &self,
         rt: &R,

@@ -18,7 +18,7 @@ use crate::pass::Pass;
 use crate::receipt::Receipt;
 use rad_server::{Book, Entry, Server};
 
-/// What a closed desk leaves behind.
+/// What is left of a closed desk.
 #[derive(Drop)]
 pub struct Closed<'c> {
     pub server: Server<'c>,

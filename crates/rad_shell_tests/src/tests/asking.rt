@@ -35,7 +35,7 @@ pub(crate) enum Ending {
     Settle(&'static [Asked]),
 }
 
-/// What a desk leaves behind.
+/// What is left of a closed desk.
 #[derive(Drop)]
 pub(crate) struct Ended {
     /// The receipts of the first pass, and then those of the second one.

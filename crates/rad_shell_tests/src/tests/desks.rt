@@ -54,7 +54,7 @@ fn what_does_not_agree_does_not_close(rt: HostRuntime) -> Result<(), Fail> {
     holds(
         &rt,
         mismatches(&rt, rt.alloc(), &server, CloseWithOne, Mismatch::Count),
-        "a missing pass",
+        "a missing pass with a receipt",
     );
     let swapped = Settle(&[DORY_8, NEMO_7]);
     let at = Mismatch::At { pass: 0, place: 0 };
@@ -64,6 +64,15 @@ fn what_does_not_agree_does_not_close(rt: HostRuntime) -> Result<(), Fail> {
         "another order",
     );
     holds(&rt, counts(rt.alloc(), &server), "no pass");
+    Ok(())
+}
+
+#[test]
+fn a_pass_without_receipts_may_be_missing(rt: HostRuntime) -> Result<(), Fail> {
+    let config = Config::read(rt.alloc(), CAMPUS)?;
+    let server = Server::open(rt.alloc(), &config)?;
+    let ended = one_thread(&rt, rt.alloc(), &server, &[NEMO_7], CloseWithOne);
+    holds(&rt, has_history(&ended, &[(7, ACCESS_ACCEPT)]), "an Accept");
     Ok(())
 }
 
