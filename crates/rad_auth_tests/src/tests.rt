@@ -252,6 +252,23 @@ fn extend_by_proxies(rt: &impl Abort, body: &mut Body, whole: usize, last: usize
     }
 }
 
+// A request with so many Proxy-States of 255 octets, one more with a Value of so many, and these attributes after them.
+fn proxied(
+    rt: &impl Abort,
+    alloc: Global,
+    code: u8,
+    whole: usize,
+    last: usize,
+    more: &[Attribute],
+) -> Body
+    requires { last ≤ value_max }
+{
+    let mut body = Body::new(alloc, code);
+    extend_by_proxies(rt, &mut body, whole, last);
+    extend(rt, &mut body, more);
+    body
+}
+
 fn new_frame(rt: &impl Abort, alloc: Global) -> Frame {
     Frame::new(alloc).expect(rt, "a frame")
 }

@@ -1,33 +1,20 @@
 //! How many octets of Proxy-State attributes a request may have: fourteen of 255 octets and one of 14 are 3,584.
-ghost use Rattle.std.specs.Prelude.{◌≤◌};
-ghost use Rattle.rad_packet.specs.Attributes.{value_max};
 
 use super::Attribute::{Eap, Status, Zeros};
 use super::{
-    Attribute, CLIENT, SECRET, Verdict, extend, extend_by_proxies, has_verdict, holds, new_frame,
-    sign, three_clients,
+    Attribute, CLIENT, SECRET, Verdict, has_verdict, holds, new_frame, proxied, sign, three_clients,
 };
 use rad_auth::Discard::{NoMessageAuthenticator, NoStatusType, ProxyStateTooLong};
 use rad_auth::Door::{Acct, Auth};
 use rad_auth::{Clients, Door, Secret};
 use rad_packet::attribute::VALUE_MAX;
-use rad_packet::{Body, Frame, code};
+use rad_packet::{Frame, code};
 use std::alloc::Global;
 use std::process::Abort;
 
-// A request with fifteen Proxy-States, the last with a Value of so many octets, and these attributes after them.
-fn request(rt: &impl Abort, alloc: Global, code: u8, last: usize, more: &[Attribute]) -> Body
-    requires { last ≤ value_max }
-{
-    let mut body = Body::new(alloc, code);
-    extend_by_proxies(rt, &mut body, 14, last);
-    extend(rt, &mut body, more);
-    body
-}
-
 #[test]
 fn fourteen_of_255_octets_and_one_of_14_are_3584(rt: HostRuntime) {
-    let body = request(&rt, rt.alloc(), code::ACCOUNTING_REQUEST, 12, &[]);
+    let body = proxied(&rt, rt.alloc(), code::ACCOUNTING_REQUEST, 14, 12, &[]);
     holds(&rt, body.size() == 3584, "octets");
 }
 
@@ -49,7 +36,7 @@ fn is_case(
     clients: &Clients,
     (name, (code, last, more), (door, want)): Case,
 ) {
-    let body = request(rt, alloc, code, last.min(VALUE_MAX), more);
+    let body = proxied(rt, alloc, code, 14, last.min(VALUE_MAX), more);
     let from = (7, b"Sixteen octets..");
     sign(rt, frame, &body, from, &Secret::new(SECRET)).expect(rt, name);
     has_verdict(rt, clients, (CLIENT, door), frame.octets(), want, name);

@@ -1,12 +1,10 @@
 //! Requests as `sign_request` writes them.
-ghost use Rattle.std.specs.Prelude.{◌≤◌};
-ghost use Rattle.rad_packet.specs.Attributes.{value_max};
 
 use super::Attribute::{Address, Name, Password, Port, Proxy, Short, Status, Text, Zeros};
 use super::{
     ACCESS_REQUEST, Attribute, CLIENT, OTHER_CLIENT, OTHER_SECRET, PROXIED_START,
     REQUEST_AUTHENTICATOR, RFC_ACCOUNTING_STATUS, RFC_STATUS, SECRET, SIGNED_REQUEST, START,
-    STATUS_SERVER, extend, extend_by_proxies, has_verdict, holds, new_frame, sign, three_clients,
+    STATUS_SERVER, extend, has_verdict, holds, new_frame, proxied, sign, three_clients,
 };
 use rad_auth::Discard::{BadAuthenticator, BadMessageAuthenticator};
 use rad_auth::Door::{Acct, Auth};
@@ -223,24 +221,15 @@ fn signed_requests_are_admitted(rt: HostRuntime) {
     }
 }
 
-// A body whose last Proxy-State has a Value of so many octets: with 249 the request has 4,096.
-fn proxied(rt: &impl Abort, alloc: Global, code: u8, last: usize) -> Body
-    requires { last ≤ value_max }
-{
-    let mut body = Body::new(alloc, code);
-    extend_by_proxies(rt, &mut body, 15, last);
-    body
-}
-
-// Signs the greatest request into both frames, and then one of an octet more into the first. It is refused, and the frame
-// stays as it was, as the other shows.
+// Signs the greatest request, of 4,096 octets, into both frames, and then one of an octet more into the first. It is refused,
+// and the frame stays as it was, as the other shows.
 fn is_bounded(rt: &impl Abort, alloc: Global, frame: &mut Frame, kept: &mut Frame, code: u8) {
     let secret = Secret::new(SECRET);
-    let most = proxied(rt, alloc, code, 249);
+    let most = proxied(rt, alloc, code, 15, 249, &[]);
     sign(rt, frame, &most, (7, UNUSED), &secret).expect(rt, "the greatest");
     sign(rt, kept, &most, (7, UNUSED), &secret).expect(rt, "the greatest");
     holds(rt, frame.octets().len() == 4096, "the greatest");
-    let over = proxied(rt, alloc, code, 250);
+    let over = proxied(rt, alloc, code, 15, 250, &[]);
     holds(rt, over.size() == 4077, "octets of attributes");
     let signed = sign(rt, frame, &over, (8, UNUSED), &secret);
     holds(rt, signed == Err(TooLong), "a refusal");
