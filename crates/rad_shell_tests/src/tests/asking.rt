@@ -147,7 +147,7 @@ fn end_of<'c, L: Opened>(
     mut passes: Vec<Pass<L>>,
     ending: Ending,
 ) -> Option<Ended> {
-    let receipts = receipt_count(alloc, &passes)?;
+    let receipts = copies_of(alloc, &passes)?;
     let closed = match ending {
         Ending::Close => desk.close(server, passes),
         Ending::CloseLater => desk.close(&later(server)?, passes),
@@ -167,7 +167,7 @@ fn history_of(closed: Result<Closed, Mismatch>) -> Result<Vec<Entry>, Mismatch> 
 }
 
 // Copies of all receipts.
-fn receipt_count<L: Opened>(alloc: Global, passes: &[Pass<L>]) -> Option<Vec<Receipt>> {
+fn copies_of<L: Opened>(alloc: Global, passes: &[Pass<L>]) -> Option<Vec<Receipt>> {
     let mut all = Vec::new(alloc);
     for pass in passes.iter() {
         append(&mut all, pass.receipts())?;
