@@ -94,7 +94,8 @@ impl<'c, L: Opened> Desk<'c, L> {
 }
 
 /// A lock over a server that is moved in, and its passes.
-pub(crate) fn open_with<'c, L: Opened>(
+#[doc(hidden)]
+pub fn open_with<'c, L: Opened>(
     alloc: Global,
     blank: Blank,
     server: Server<'c>,
@@ -127,8 +128,9 @@ fn split<L: Opened>(
     Ok(all)
 }
 
-/// The server and the history under a lock, if they agree with the receipts of the passes.
-pub(crate) fn close<'c, L: Opened>(
+/// The server and the history of a lock, if they agree with the receipts of the passes.
+#[doc(hidden)]
+pub fn close<'c, L: Opened>(
     locked: Locked<'c, L>,
     passes: Vec<Pass<L>>,
 ) -> Result<Closed<'c>, Mismatch>

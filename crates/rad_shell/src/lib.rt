@@ -16,7 +16,7 @@ mod pass;
 mod receipt;
 mod settling;
 
-pub use desk::{Desk, PASSES_MAX};
+pub use desk::{Desk, PASSES_MAX, close, open_with};
 pub use mismatch::Mismatch;
 pub use opened::Opened;
 pub use pass::Pass;

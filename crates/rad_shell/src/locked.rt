@@ -22,7 +22,7 @@ use std::sync::ledger::{self, Share};
 ///
 /// Contracts see them as a book, with the server that the desk was opened with. That one isn't stored here: `L` names it.
 #[derive(Drop)]
-pub(crate) struct Locked<'c, L: Opened> {
+pub struct Locked<'c, L: Opened> {
     server: Server<'c>,
     history: Vec<Entry>,
     total: ledger::Book<L>,
