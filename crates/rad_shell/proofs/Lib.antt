@@ -1,1 +1,3 @@
 pub mod ReceiptLemmas
+pub mod WorkLemmas
+pub mod TableLemmas
