@@ -2,8 +2,12 @@
 //! RFC 5997.
 mod asking;
 mod campus;
+mod datagrams;
 mod desks;
+mod gates;
 mod requests;
+mod rounds;
+mod serving;
 
 use std::process::Abort;
 
