@@ -1,5 +1,5 @@
 use Rattle.std.proofs.Common.{◌≡◌}
-use Rattle.bench_desk.proofs.servers.take_steps.Given as goal
+use Rattle.bench_threads.proofs.servers.take_steps.Given as goal
 
 -- The configuration stays.
 abbrev pub invariant-steps : goal.invariant-steps

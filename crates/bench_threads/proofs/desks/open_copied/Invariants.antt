@@ -1,4 +1,4 @@
-use Rattle.bench_desk.proofs.desks.open_copied.Given as goal
+use Rattle.bench_threads.proofs.desks.open_copied.Given as goal
 
 abbrev pub ghosts-open_and_close-L-Ledger : goal.ghosts-open_and_close-L-Ledger
 ghosts-open_and_close-L-Ledger a = record { name = a.blank.name; parts = a.blank.parts }

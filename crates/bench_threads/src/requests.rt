@@ -74,6 +74,16 @@ impl Kind {
         }
     }
 
+    /// The datagram of the client from a port.
+    pub fn arrival(self, port: u16) -> Arrival<'static> {
+        Arrival {
+            source: 0xC0A8_0110,
+            port,
+            door: self.door(),
+            octets: self.octets(),
+        }
+    }
+
     /// The moment of the next step by a clock that several threads share. A reply is kept for a second, so a second passes, but for a
     /// Status-Server, which is never a repeat.
     pub fn moment(self, clock: &AtomicU64) -> u64
@@ -101,13 +111,16 @@ impl Kind {
     pub fn admit(self, clients: &Clients, port: u16) -> Option<Request<'static>>
         ensures { IfSome result (IsAdmitted clients.now) }
     {
-        let arrival = Arrival {
-            source: 0xC0A8_0110,
-            port,
-            door: self.door(),
-            octets: self.octets(),
-        };
-        let arrivals = [Some(arrival), None, None, None, None, None, None, None];
+        let arrivals = [
+            Some(self.arrival(port)),
+            None,
+            None,
+            None,
+            None,
+            None,
+            None,
+            None,
+        ];
         let mut verdicts = check8(clients, &arrivals).into_iter();
         match verdicts.next() {
             Some(Some(Ok(request))) => Some(request),

@@ -1,4 +1,4 @@
-use Rattle.bench_desk.proofs.asks.time_asks.Given as goal
+use Rattle.bench_threads.proofs.asks.time_asks.Given as goal
 
 abbrev pub ghosts-time_desk-L-Ledger : goal.ghosts-time_desk-L-Ledger
 ghosts-time_desk-L-Ledger g a = record { name = a.blank.name; parts = a.blank.parts }

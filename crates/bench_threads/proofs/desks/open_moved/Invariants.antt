@@ -1,4 +1,4 @@
-use Rattle.bench_desk.proofs.desks.open_moved.Given as goal
+use Rattle.bench_threads.proofs.desks.open_moved.Given as goal
 
 abbrev pub ghosts-move_in_and_out-L-Ledger : goal.ghosts-move_in_and_out-L-Ledger
 ghosts-move_in_and_out-L-Ledger a = record { name = a.blank.name; parts = a.blank.parts }

@@ -1,4 +1,4 @@
-//! The tables. What a line compares takes turns, so that what else the machine does for a while disturbs none of it alone.
+//! The tables of a desk. What a line compares takes turns, so that what else the machine does for a while disturbs none of it alone.
 
 use crate::asks::{Work, time_asks, time_steps};
 use crate::desks::{time_copied, time_moved};

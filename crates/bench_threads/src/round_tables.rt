@@ -1,0 +1,127 @@
+//! The table of rounds. What a line compares takes turns, so that what else the machine does for a while disturbs none of it alone.
+
+use crate::pairs::{Lot, Pair, Timing, Way};
+use crate::servers::CONFIGURATION;
+use rad_config::Config;
+use std::alloc::Global;
+use std::num::nearest_u64_to_f64;
+use std::sync::Wait;
+use std::thread::Threads;
+use std::time::Clock;
+
+/// Tries with one pair. In each, a clock goes on by up to 512 seconds for each number of workers, and a session lives a day.
+const TRIES: u32 = 20;
+
+/// A number of sessions, and how many pairs are measured with it.
+#[derive(Clone, Copy)]
+struct Size {
+    sessions: u16,
+    pairs: u32,
+}
+
+const FEW: Size = Size {
+    sessions: 16,
+    pairs: 10,
+};
+
+const MANY: Size = Size {
+    sessions: 4_096,
+    pairs: 1,
+};
+
+/// The least nanoseconds of each way.
+#[derive(Clone, Copy)]
+struct Best {
+    alone: u64,
+    one: u64,
+    two: u64,
+    four: u64,
+}
+
+/// Measures and prints; none if memory is refused, a reply is missing, or the clock or the printing fails.
+pub(crate) fn print_table<R: Threads + Wait + Sync + Clock + Print>(
+    rt: &R,
+    alloc: Global,
+) -> Option<()> {
+    let config = Config::read(alloc, CONFIGURATION).ok()?;
+    println!(rt;
+        "| requests | sessions | datagrams | one thread µs | workers | round µs | times one thread |"
+    ).ok()?;
+    println!(rt; "|---|---|---|---|---|---|---|").ok()?;
+    for size in [FEW, MANY] {
+        for timing in [Timing::Apart, Timing::Together, Timing::Again] {
+            for count in [1, 8, 64, 512] {
+                let lot = Lot { timing, count };
+                let best = measure(rt, alloc, &config, size, lot)?;
+                print_lines(rt, size, lot, best)?;
+            }
+        }
+    }
+    Some(())
+}
+
+fn measure<R: Threads + Wait + Sync + Clock>(
+    rt: &R,
+    alloc: Global,
+    config: &Config,
+    size: Size,
+    lot: Lot,
+) -> Option<Best> {
+    let mut best = Best {
+        alone: u64::MAX,
+        one: u64::MAX,
+        two: u64::MAX,
+        four: u64::MAX,
+    };
+    for _ in 0..size.pairs {
+        let mut pair = Pair::open(rt, alloc, config, size.sessions)?;
+        for _ in 0..TRIES {
+            best = better(rt, &mut pair, lot, best)?;
+        }
+    }
+    Some(best)
+}
+
+// One try of each way.
+fn better<R: Threads + Wait + Sync + Clock>(
+    rt: &R,
+    pair: &mut Pair,
+    lot: Lot,
+    best: Best,
+) -> Option<Best> {
+    Some(Best {
+        alone: best.alone.min(pair.time(rt, lot, Way::Alone)?),
+        one: best.one.min(pair.time(rt, lot, Way::Workers(1))?),
+        two: best.two.min(pair.time(rt, lot, Way::Workers(2))?),
+        four: best.four.min(pair.time(rt, lot, Way::Workers(4))?),
+    })
+}
+
+fn print_lines<R: Print>(rt: &R, size: Size, lot: Lot, best: Best) -> Option<()> {
+    let alone = microseconds(best.alone, lot);
+    print_line(rt, size, lot, alone, 1, microseconds(best.one, lot))?;
+    print_line(rt, size, lot, alone, 2, microseconds(best.two, lot))?;
+    print_line(rt, size, lot, alone, 4, microseconds(best.four, lot))
+}
+
+fn print_line<R: Print>(
+    rt: &R,
+    size: Size,
+    lot: Lot,
+    alone: f64,
+    workers: u32,
+    round: f64,
+) -> Option<()> {
+    let name = lot.timing.name();
+    let Lot { count, .. } = lot;
+    let Size { sessions, .. } = size;
+    let times = round / alone;
+    println!(rt;
+        "| {name} | {sessions} | {count} | {alone:.2} | {workers} | {round:.2} | {times:.2} |"
+    ).ok()
+}
+
+// Of one round.
+fn microseconds(spent: u64, lot: Lot) -> f64 {
+    nearest_u64_to_f64(spent) / (1_000.0 * f64::from(lot.rounds()))
+}
