@@ -18,9 +18,11 @@ refused-memory:
 	trials/refused_memory/run
 
 # Proves everything from nothing, tries the must-fail edits, and runs the tests and the programs. The run of radpool is the
-# example, and before all, a replay whose configuration is refused memory is run without a proof.
+# example, the list in docs/PROVED.md is the one that docs/definitions makes, and before all, a replay whose configuration is refused
+# memory is run without a proof.
 test:
 	@cmp examples/requests.txt crates/radpool/stdin
 	@cmp examples/requests.expected crates/radpool/stdout
+	@docs/definitions --check
 	@cd crates/refused_memory && rt try --steps 1000 --fail-alloc 5 | diff stdout -
 	@rt ci
