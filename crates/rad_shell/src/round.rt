@@ -14,7 +14,7 @@ use crate::round_fault::RoundFault;
 use crate::settling::Closed;
 use crate::table::{Table, collect, finish};
 use crate::timed::Timed;
-use crate::worker::Worker;
+use crate::worker::{Room, Worker};
 use rad_auth::Clients;
 use rad_server::{Entry, Server};
 use std::alloc::{AllocError, Global};
@@ -40,6 +40,7 @@ pub(crate) fn run_round<'c, R: Threads + Wait + Sync, G: Gate + Sync>(
     arrivals: &[Timed],
     workers: u64,
     gate: &G,
+    rooms: &mut Vec<Room>,
 ) -> Result<(Server<'c>, Done), RoundFault>
     requires workers { (1 ≤ workers) × (workers ≤ workers_max) }
     requires count { length arrivals.now ≤ arrivals_max }
@@ -56,6 +57,7 @@ pub(crate) fn run_round<'c, R: Threads + Wait + Sync, G: Gate + Sync>(
         arrivals,
         workers,
         gate,
+        rooms,
     )
 }
 
@@ -68,6 +70,7 @@ fn run_in<'c, L: Opened + Send + Sync, R: Threads + Wait + Sync, G: Gate + Sync>
     arrivals: &[Timed],
     workers: u64,
     gate: &G,
+    rooms: &mut Vec<Room>,
 ) -> Result<(Server<'c>, Done), RoundFault>
     requires workers { (1 ≤ workers) × (workers ≤ workers_max) }
     requires count { length arrivals.now ≤ arrivals_max }
@@ -80,19 +83,24 @@ fn run_in<'c, L: Opened + Send + Sync, R: Threads + Wait + Sync, G: Gate + Sync>
 {
     let clients = server.config().clients();
     let (lock, passes) = open_with::<L>(alloc, blank, server, workers)?;
-    let mut workers = begin(alloc, passes)?;
+    let mut workers = begin(alloc, passes, rooms)?;
     work_all(rt, &lock, clients, arrivals, gate, workers.as_mut_slice());
-    settle_round(alloc, clients, arrivals, lock.into_inner(), workers)
+    settle_round(alloc, clients, arrivals, lock.into_inner(), workers, rooms)
 }
 
-// A worker for each pass.
-fn begin<L: Opened>(alloc: Global, mut passes: Vec<Pass<L>>) -> Result<Vec<Worker<L>>, AllocError>
+// A worker for each pass, in the room that an earlier round has left, if it has.
+fn begin<L: Opened>(
+    alloc: Global,
+    mut passes: Vec<Pass<L>>,
+    rooms: &mut Vec<Room>,
+) -> Result<Vec<Worker<L>>, AllocError>
     ensures count { IfOk result (λ workers. vec_len workers ≡ vec_len passes) }
     ensures idle { IfOk result (λ workers. AreIdle workers.items) }
 {
     let mut workers = Vec::with_capacity(alloc, passes.len())?;
     while let Some(pass) = passes.pop() {
-        workers.push(Worker::new(alloc, pass))?;
+        let room = rooms.pop().unwrap_or(Room::new(alloc));
+        workers.push(Worker::new(alloc, pass, room))?;
     }
     Ok(workers)
 }
@@ -132,6 +140,7 @@ fn settle_round<'c, L: Opened>(
     arrivals: &[Timed],
     locked: Locked<'c, L>,
     workers: Vec<Worker<L>>,
+    rooms: &mut Vec<Room>,
 ) -> Result<(Server<'c>, Done), RoundFault>
     requires clients { clients.now ≡ L.opening.configuration.clients }
     requires parts { vec_len workers ≡ L.parts }
@@ -141,7 +150,7 @@ fn settle_round<'c, L: Opened>(
     ensures fault { IfErr result IsOwnFault }
 {
     let mut table = Table::new(alloc, arrivals.len())?;
-    let passes = collect(alloc, clients, arrivals, workers, &mut table)?;
+    let passes = collect(alloc, clients, arrivals, workers, &mut table, rooms)?;
     let Closed { server, history } = close(locked, passes)?;
     let outcomes = finish(clients, arrivals, history.as_slice(), table)?;
     Ok((server, Done { outcomes, history }))

@@ -12,6 +12,7 @@ use crate::gate::Gate;
 use crate::round::{Done, run_round};
 use crate::round_fault::RoundFault;
 use crate::timed::Timed;
+use crate::worker::Room;
 use rad_config::Config;
 use rad_server::{Entry, Server, follow, runs_are_lawful, runs_repeat};
 use std::alloc::{AllocError, Global};
@@ -33,6 +34,8 @@ pub struct Service<'c> {
     current: Server<'c>,
     // An equal server, if there is one. While a round has the current server, it stands in for it.
     spare: Option<Server<'c>>,
+    // What the workers of a round leave to those of the next.
+    rooms: Vec<Room>,
 }
 
 impl<'c> Model for Service<'c> {
@@ -56,6 +59,7 @@ impl<'c> Service<'c> {
             alloc,
             current: Server::open(alloc, config)?,
             spare: None,
+            rooms: Vec::new(alloc),
         })
     }
 
@@ -101,7 +105,15 @@ impl<'c> Service<'c> {
         };
         let server = mem::replace(&mut self.current, spare);
         let workers = workers.min(batch_count(arrivals));
-        let (after, done) = run_round(rt, self.alloc, server, arrivals, workers, gate)?;
+        let (after, done) = run_round(
+            rt,
+            self.alloc,
+            server,
+            arrivals,
+            workers,
+            gate,
+            &mut self.rooms,
+        )?;
         let before = mem::replace(&mut self.current, after);
         self.spare = brought_up(before, done.history.as_slice(), &self.current);
         Ok(done)

@@ -9,7 +9,7 @@ use crate::outcome::Outcome;
 use crate::pass::Pass;
 use crate::round_fault::RoundFault;
 use crate::timed::Timed;
-use crate::worker::{Numbered, Worker};
+use crate::worker::{Numbered, Room, Worker};
 use rad_auth::Clients;
 use rad_server::Entry;
 use std::alloc::{AllocError, Global};
@@ -92,13 +92,14 @@ impl Table {
     }
 }
 
-/// Puts the outcomes of the workers into the table, and returns their passes.
+/// Puts the outcomes of the workers into the table, and returns their passes. Their room is left in `rooms`.
 pub(crate) fn collect<L: Opened>(
     alloc: Global,
     clients: &Clients,
     arrivals: &[Timed],
     mut workers: Vec<Worker<L>>,
     table: &mut Table,
+    rooms: &mut Vec<Room>,
 ) -> Result<Vec<Pass<L>>, AllocError>
     requires workers { HaveAnswered clients.now arrivals.now workers.items }
     requires table { AreFound clients.now arrivals.now (HasReceiptOfSome []) table.old }
@@ -108,17 +109,18 @@ pub(crate) fn collect<L: Opened>(
 {
     let mut passes = Vec::with_capacity(alloc, workers.len())?;
     while let Some(worker) = workers.pop() {
-        take_in(clients, arrivals, &mut passes, table, worker)?;
+        take_in(clients, arrivals, &mut passes, table, rooms, worker)?;
     }
     Ok(passes)
 }
 
-// Takes a worker's pass and outcomes.
+// Takes a worker's pass and outcomes, and leaves its room.
 fn take_in<L: Opened>(
     clients: &Clients,
     arrivals: &[Timed],
     passes: &mut Vec<Pass<L>>,
     table: &mut Table,
+    rooms: &mut Vec<Room>,
     worker: Worker<L>,
 ) -> Result<(), AllocError>
     requires worker { HasAnswered clients.now arrivals.now worker }
@@ -128,20 +130,28 @@ fn take_in<L: Opened>(
         (AreFound clients.now arrivals.now (HasReceiptOfSome passes.new.items) table.new) }
 {
     passes.reserve(1)?;
-    let (pass, outcomes) = worker.into_parts();
+    let (pass, outcomes, frames) = worker.into_parts();
     passes.push_reserved(pass);
-    put_all(clients, arrivals, passes.as_slice(), outcomes, table);
+    let outcomes = put_all(clients, arrivals, passes.as_slice(), outcomes, table);
+    leave(rooms, Room { outcomes, frames });
     Ok(())
 }
 
-// Puts the outcomes of a worker into the table.
+// Leaves room to the next round, if there is memory to keep it.
+fn leave(rooms: &mut Vec<Room>, room: Room) {
+    if rooms.reserve(1).is_ok() {
+        rooms.push_reserved(room);
+    }
+}
+
+// Puts the outcomes of a worker into the table. Returns the room that they had.
 fn put_all<L: Opened>(
     clients: &Clients,
     arrivals: &[Timed],
     passes: &[Pass<L>],
     mut outcomes: Vec<Numbered>,
     table: &mut Table,
-)
+) -> Vec<Numbered>
     requires outcomes { All (IsFoundBy clients.now arrivals.now (HasReceiptOfSome passes.now)) outcomes.items }
     requires table { AreFound clients.now arrivals.now (HasReceiptOfSome passes.now) table.old }
     ensures { AreFound clients.now arrivals.now (HasReceiptOfSome passes.now) table.new }
@@ -152,6 +162,7 @@ fn put_all<L: Opened>(
     while let Some(found) = outcomes.pop() {
         table.put(found);
     }
+    outcomes
 }
 
 /// The outcomes, if each is there and has its entry, and each entry its outcome.

@@ -28,6 +28,23 @@ pub(crate) struct Numbered {
     pub outcome: Outcome,
 }
 
+/// The room that a worker leaves to one of the next round. What is in it says nothing.
+#[derive(Drop)]
+pub(crate) struct Room {
+    pub outcomes: Vec<Numbered>,
+    /// Frames that no reply has taken.
+    pub frames: Vec<Frame>,
+}
+
+impl Room {
+    pub fn new(alloc: Global) -> Room {
+        Room {
+            outcomes: Vec::new(alloc),
+            frames: Vec::new(alloc),
+        }
+    }
+}
+
 /// A worker: its pass, and the outcomes of its arrivals.
 #[derive(Drop)]
 pub(crate) struct Worker<L: Opened> {
@@ -48,24 +65,34 @@ impl<L: Opened> Model for Worker<L> {
 
 impl<L: Opened> Worker<L> {
     /// A worker that has done nothing.
-    pub fn new(alloc: Global, pass: Pass<L>) -> Worker<L>
+    pub fn new(alloc: Global, pass: Pass<L>, room: Room) -> Worker<L>
         ensures { result.outcomes ≡ [] }
     {
+        let Room {
+            mut outcomes,
+            frames,
+        } = room;
+        outcomes.clear();
         Worker {
             alloc,
             pass,
-            outcomes: Vec::new(alloc),
-            frames: Vec::new(alloc),
+            outcomes,
+            frames,
         }
     }
 
-    /// The pass, and the outcomes.
-    pub fn into_parts(self) -> (Pass<L>, Vec<Numbered>)
+    /// The pass, the outcomes, and the frames that no reply has taken.
+    pub fn into_parts(self) -> (Pass<L>, Vec<Numbered>, Vec<Frame>)
         ensures pass { result.0 ≡ self.pass }
         ensures outcomes { result.1.items ≡ self.outcomes }
     {
-        let Worker { pass, outcomes, .. } = self;
-        (pass, outcomes)
+        let Worker {
+            pass,
+            outcomes,
+            frames,
+            ..
+        } = self;
+        (pass, outcomes, frames)
     }
 
     /// Answers the batches of the worker of this number: that one, and each `workers`th from there.

@@ -3,8 +3,8 @@ use Rattle.rad_shell.proofs.TableLemmas.{answered_of_last, table_push}
 use Rattle.rad_shell.specs.Works.{AreFound, HasReceiptOfSome, IsFoundBy}
 use Rattle.rad_shell.proofs.table.take_in.Goals as goal
 
-pub put_all-requires-clause-outcomes : goal.put_all-requires-clause-outcomes
-put_all-requires-clause-outcomes g c =
+pub put_all-outcomes-requires-clause-outcomes : goal.put_all-outcomes-requires-clause-outcomes
+put_all-outcomes-requires-clause-outcomes g c =
     let clients = c.args.clients.now in
     let arrivals = c.args.arrivals.now in
     let passes = c.as_slice.ensures.value ∙ c.push_reserved.ensures.items
@@ -15,8 +15,8 @@ put_all-requires-clause-outcomes g c =
     (sym c.into_parts-pass.ensures.outcomes)
     (answered_of_last clients arrivals c.args.passes.now.items c.args.worker c.requires.worker))
 
-pub put_all-requires-clause-table : goal.put_all-requires-clause-table
-put_all-requires-clause-table g c =
+pub put_all-outcomes-requires-clause-table : goal.put_all-outcomes-requires-clause-table
+put_all-outcomes-requires-clause-table g c =
     let passes = c.as_slice.ensures.value ∙ c.push_reserved.ensures.items
     ∙ ap (λ list. list ++ c.into_parts-pass.result.0 ∷ []) c.reserve.ensures.items in
     subst (λ list. AreFound c.args.clients.now c.args.arrivals.now (HasReceiptOfSome list) c.args.table.now) (sym passes)
