@@ -13,7 +13,8 @@ demo:
 	(cat examples/radpool.toml; echo; echo ---) | crates/radpool/out/radpool replay
 	@echo "The output is that of examples/requests.expected. The program is crates/radpool/out/radpool."
 
-# Proves and builds refused_memory, and runs it again and again, each time with another allocation refused. It needs cc.
+# Proves and builds refused_memory and refused_rounds, and runs each again and again, each time with another allocation refused. It
+# needs cc.
 refused-memory:
 	trials/refused_memory/run
 
