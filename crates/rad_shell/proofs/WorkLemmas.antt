@@ -1,7 +1,7 @@
 -- What a worker of a round knows.
-use Rattle.std.proofs.Common.{rules, ◌≡◌, ◌≢◌, ◌⊎◌, ◌<◌, ℕ, zero, suc, ◌+◌, List, [], ◌∷◌, ◌++◌, length, get_or, set, drop, map, All, Option, Some, None, IfSome, MatchOption, option_map, unwrap_or, Result, Ok, Err, slice_get, arith, inl, inr, refl, sym, ap, subst, ◌∙◌}
+use Rattle.std.proofs.Common.{rules, ◌≡◌, ◌≢◌, ◌⊎◌, ◌<◌, ℕ, zero, suc, ◌+◌, List, [], ◌∷◌, ◌++◌, length, get_or, set, drop, map, All, Option, Some, None, IfSome, MatchOption, option_map, unwrap_or, slice_get, arith, inl, inr, refl, sym, ap, subst, ◌∙◌}
 use Rattle.std.proofs.lemmas.List.Elements.{All-push, All-weaker}
-use Rattle.std.proofs.lemmas.Option.{get_or_from_slice_get, none-some, slice_get-get_or, slice_get-map, slice_get_within}
+use Rattle.std.proofs.lemmas.Option.{get_or_from_slice_get, none-some, slice_get-map, slice_get_within}
 use lib.Lanes.{zip2}
 use Rattle.rad_auth.specs.Admission.{HoldsAdmitted, admission, lane_admission}
 use Rattle.rad_auth.specs.Clients.{Client}

@@ -1,5 +1,5 @@
 -- Works: what a worker of a round knows while it works. Arrivals are counted from 0, and so are lanes and the receipts of a pass.
-use Rattle.std.specs.Prelude.{◌≡◌, ◌≢◌, ℕ, ◌+◌, List, [], Option, Some, None, Result, Ok, length, replicate, slice_get, slice_set, IfSome, IsSome, All}
+use Rattle.std.specs.Prelude.{◌≡◌, ◌≢◌, ℕ, ◌+◌, List, [], Option, Some, None, Result, Ok, length, replicate, slice_get, slice_set, IsSome, All}
 use Rattle.std.specs.Option.{option_map}
 use Rattle.rad_auth.specs.Admission.{HoldsAdmitted, admission}
 use Rattle.rad_auth.specs.Clients.{Client, client_at}
