@@ -17,6 +17,7 @@ mod opened;
 mod outcome;
 mod pass;
 mod receipt;
+mod room;
 mod round;
 mod round_fault;
 mod service;

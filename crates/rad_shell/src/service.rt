@@ -9,10 +9,10 @@ ghost use Rattle.rad_shell.specs.declared.round_fault.RoundFault.{RoundFault};
 
 use crate::batch::BATCH;
 use crate::gate::Gate;
+use crate::room::{Room, give_back};
 use crate::round::{Done, run_round};
 use crate::round_fault::RoundFault;
 use crate::timed::Timed;
-use crate::worker::Room;
 use rad_config::Config;
 use rad_server::{Entry, Server, follow, runs_are_lawful, runs_repeat};
 use std::alloc::{AllocError, Global};
@@ -117,6 +117,14 @@ impl<'c> Service<'c> {
         let before = mem::replace(&mut self.current, after);
         self.spare = brought_up(before, done.history.as_slice(), &self.current);
         Ok(done)
+    }
+
+    /// Takes back what a round made, once its replies are sent. The frames serve the replies of later rounds.
+    pub fn reuse(&mut self, done: Done)
+        ensures { self.new ≡ self.old }
+    {
+        let Done { outcomes, .. } = done;
+        give_back(&mut self.rooms, outcomes);
     }
 }
 

@@ -7,9 +7,10 @@ use crate::mismatch::Mismatch;
 use crate::opened::Opened;
 use crate::outcome::Outcome;
 use crate::pass::Pass;
+use crate::room::{Room, leave};
 use crate::round_fault::RoundFault;
 use crate::timed::Timed;
-use crate::worker::{Numbered, Room, Worker};
+use crate::worker::{Numbered, Worker};
 use rad_auth::Clients;
 use rad_server::Entry;
 use std::alloc::{AllocError, Global};
@@ -135,13 +136,6 @@ fn take_in<L: Opened>(
     let outcomes = put_all(clients, arrivals, passes.as_slice(), outcomes, table);
     leave(rooms, Room { outcomes, frames });
     Ok(())
-}
-
-// Leaves room to the next round, if there is memory to keep it.
-fn leave(rooms: &mut Vec<Room>, room: Room) {
-    if rooms.reserve(1).is_ok() {
-        rooms.push_reserved(room);
-    }
 }
 
 // Puts the outcomes of a worker into the table. Returns the room that they had.

@@ -10,6 +10,7 @@ use crate::opened::Opened;
 use crate::outcome::Outcome;
 use crate::pass::Pass;
 use crate::receipt::Receipt;
+use crate::room::Room;
 use crate::timed::Timed;
 use rad_auth::Clients;
 use rad_packet::Frame;
@@ -26,23 +27,6 @@ pub(crate) struct Numbered {
     /// The place of its entry in the history, if it has one.
     pub place: Option<u64>,
     pub outcome: Outcome,
-}
-
-/// The room that a worker leaves to one of the next round. What is in it says nothing.
-#[derive(Drop)]
-pub(crate) struct Room {
-    pub outcomes: Vec<Numbered>,
-    /// Frames that no reply has taken.
-    pub frames: Vec<Frame>,
-}
-
-impl Room {
-    pub fn new(alloc: Global) -> Room {
-        Room {
-            outcomes: Vec::new(alloc),
-            frames: Vec::new(alloc),
-        }
-    }
 }
 
 /// A worker: its pass, and the outcomes of its arrivals.

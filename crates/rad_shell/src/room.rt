@@ -1,0 +1,62 @@
+//! The room that the workers of a round leave to those of the next.
+use crate::batch::BATCH;
+use crate::outcome::Outcome;
+use crate::worker::Numbered;
+use rad_packet::Frame;
+use std::alloc::Global;
+
+/// The most frames that a worker keeps: as many as a round has replies.
+const FRAMES_MAX: usize = 512;
+
+/// What a worker leaves. What is in it says nothing.
+#[derive(Drop)]
+pub(crate) struct Room {
+    pub outcomes: Vec<Numbered>,
+    /// Frames that no reply has taken.
+    pub frames: Vec<Frame>,
+}
+
+impl Room {
+    pub fn new(alloc: Global) -> Room {
+        Room {
+            outcomes: Vec::new(alloc),
+            frames: Vec::new(alloc),
+        }
+    }
+
+    // Keeps a frame, if there is memory.
+    fn keep(&mut self, frame: Frame) {
+        if self.frames.len() < FRAMES_MAX && self.frames.reserve(1).is_ok() {
+            self.frames.push_reserved(frame);
+        }
+    }
+}
+
+/// Leaves room to the next round, if there is memory to keep it.
+pub(crate) fn leave(rooms: &mut Vec<Room>, room: Room) {
+    if rooms.reserve(1).is_ok() {
+        rooms.push_reserved(room);
+    }
+}
+
+/// Gives the frames of a round's replies back to the workers that made them. The last room is that of the first worker.
+pub(crate) fn give_back(rooms: &mut [Room], mut outcomes: Vec<Outcome>) {
+    let workers = rooms.len().min(outcomes.len().div_ceil(BATCH));
+    while let Some(outcome) = outcomes.pop() {
+        let batch = outcomes.len() / BATCH;
+        if let Outcome::Reply(frame) = outcome {
+            give(rooms, batch.checked_rem(workers), frame);
+        }
+    }
+}
+
+// Gives a frame to the worker of this number, if there is one.
+fn give(rooms: &mut [Room], worker: Option<usize>, frame: Frame) {
+    let Some(worker) = worker else {
+        return;
+    };
+    if worker < rooms.len() {
+        let place = rooms.len() - 1 - worker;
+        rooms[place].keep(frame);
+    }
+}
