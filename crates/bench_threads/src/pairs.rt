@@ -170,7 +170,8 @@ impl<'c> Pair<'c> {
     }
 }
 
-// Nanoseconds of a round; none if it fails, or if a reply is missing or has another Code.
+// Nanoseconds of a round, with the look at its replies and the reuse of its frames; none if it fails, or if a reply is missing or has
+// another Code.
 fn time_round<R: Threads + Wait + Sync + Clock>(
     rt: &R,
     service: &mut Service,
@@ -185,16 +186,13 @@ fn time_round<R: Threads + Wait + Sync + Clock>(
     let done = service
         .round(rt, arrivals, workers.clamp(1, 8), &OpenGate)
         .ok()?;
-    let spent = nanoseconds_since(rt, start)?;
-    if done
+    let is_answered = done
         .outcomes
         .iter()
-        .all(|outcome| is_reply(outcome, wanted))
-    {
-        Some(spent)
-    } else {
-        None
-    }
+        .all(|outcome| is_reply(outcome, wanted));
+    service.reuse(done);
+    let spent = nanoseconds_since(rt, start)?;
+    if is_answered { Some(spent) } else { None }
 }
 
 fn is_reply(outcome: &Outcome, wanted: u8) -> bool {
