@@ -1,3 +1,2 @@
-pub mod ReceiptLemmas
 pub mod WorkLemmas
 pub mod TableLemmas

@@ -4,17 +4,17 @@ use Rattle.std.proofs.lemmas.Option.{get_or_from_slice_get, none-some, slice_get
 use Rattle.std.proofs.lemmas.List.{drop_all, length-replicate, length-set}
 use Rattle.std.proofs.lemmas.List.Elements.{All-append, All-nil, All-take, All-weaker}
 use Rattle.rad_auth.specs.Clients.{Client}
+use Rattle.rad_desk.specs.Passes.{Pass}
+use Rattle.rad_desk.specs.Settlements.{Agrees, AreInOrder, IsSettled}
+use Rattle.rad_desk.specs.declared.receipt.Receipt.{Receipt}
 use Rattle.rad_server.specs.Runs.{IsHistory}
 use Rattle.rad_server.specs.Servers.{Server}
 use Rattle.rad_server.specs.declared.entry.Entry.{Entry}
 use Rattle.rad_shell.proofs.WorkLemmas.{found_weaker, get_append, get_set, get_set_other, get_set_same, outcome_weaker}
-use Rattle.rad_shell.specs.Passes.{Pass}
 use Rattle.rad_shell.specs.Rounds.{AreOutcomes, HasArrival, HasEntry, HaveOwnTags, IsEntryOf, IsOutcome, Round}
-use Rattle.rad_shell.specs.Settlements.{Agrees, AreInOrder, IsSettled}
 use Rattle.rad_shell.specs.Works.{AreComplete, AreFound, AreTagged, HasAnswered, HasReceipt, HasReceiptOfSome, IsEntryAt, IsFound, IsFoundBy, IsPlaced, Table, Worker, empty_table, with_found}
 use Rattle.rad_shell.specs.declared.outcome.Outcome.{Outcome}
 use Rattle.rad_shell.specs.declared.outcome.Outcome.TheVariants.{Dropped, Busy, NoMemory, Reply}
-use Rattle.rad_shell.specs.declared.receipt.Receipt.{Receipt}
 use Rattle.rad_shell.specs.declared.timed.Timed.{Timed}
 use Rattle.rad_shell.specs.declared.worker.Numbered.{Numbered}
 

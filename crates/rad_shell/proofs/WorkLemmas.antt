@@ -9,12 +9,12 @@ use Rattle.rad_auth.specs.Datagrams.{datagram_of}
 use Rattle.rad_auth.specs.Sealing.{lane_octets, sealed}
 use Rattle.rad_auth.specs.declared.arrival.Arrival.{Arrival}
 use Rattle.rad_auth.specs.declared.job.Job.{Job}
+use Rattle.rad_desk.specs.declared.receipt.Receipt.{Receipt}
 use Rattle.rad_server.specs.declared.entry.Entry.{Entry}
 use Rattle.rad_shell.specs.Rounds.{IsOutcome}
 use Rattle.rad_shell.specs.Works.{AreAsked, AreKept, AreSealed, AreVerdicts, HasReceipt, IsAskedIn, IsFound, IsFoundBy, IsJobIn, Verdict}
 use Rattle.rad_shell.specs.declared.outcome.Outcome.{Outcome}
 use Rattle.rad_shell.specs.declared.outcome.Outcome.TheVariants.{Dropped, Busy, NoMemory, Reply}
-use Rattle.rad_shell.specs.declared.receipt.Receipt.{Receipt}
 use Rattle.rad_shell.specs.declared.timed.Timed.{Timed}
 use Rattle.rad_shell.specs.declared.worker.Numbered.{Numbered}
 

@@ -1,6 +1,6 @@
-pub mod Passes
-pub mod Desks
-pub mod Settlements
 pub mod Rounds
 pub mod Faults
 pub mod Works
+pub use Rattle.rad_desk.specs.Passes
+pub use Rattle.rad_desk.specs.Desks
+pub use Rattle.rad_desk.specs.Settlements

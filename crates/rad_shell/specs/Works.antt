@@ -8,17 +8,17 @@ use Rattle.rad_auth.specs.Sealing.{job_octets, reply_octets}
 use Rattle.rad_auth.specs.declared.arrival.Request.{Request}
 use Rattle.rad_auth.specs.declared.discard.Discard.{Discard}
 use Rattle.rad_auth.specs.declared.job.Job.{Job}
+use Rattle.rad_desk.specs.Passes.{Pass}
+use Rattle.rad_desk.specs.declared.mismatch.Mismatch.TheVariants.{Opening, Count}
+use Rattle.rad_desk.specs.declared.receipt.Receipt.{Receipt}
 use Rattle.rad_packet.specs.Bodies.{Body}
 use Rattle.rad_server.specs.Runs.{IsAsked}
 use Rattle.rad_server.specs.Steps.{IsSealable}
 use Rattle.rad_server.specs.declared.answer.Answer.TheVariants.{Send}
 use Rattle.rad_server.specs.declared.entry.Entry.{Entry}
-use Rattle.rad_shell.specs.Passes.{Pass}
 use Rattle.rad_shell.specs.Rounds.{IsOutcome}
-use Rattle.rad_shell.specs.declared.mismatch.Mismatch.TheVariants.{Opening, Count}
 use Rattle.rad_shell.specs.declared.outcome.Outcome.{Outcome}
 use Rattle.rad_shell.specs.declared.outcome.Outcome.TheVariants.{Dropped, Busy, NoMemory, Reply}
-use Rattle.rad_shell.specs.declared.receipt.Receipt.{Receipt}
 use Rattle.rad_shell.specs.declared.round_fault.RoundFault.{RoundFault}
 use Rattle.rad_shell.specs.declared.round_fault.RoundFault.TheVariants.{Mismatch, NoThread}
 use Rattle.rad_shell.specs.declared.timed.Timed.{Timed}

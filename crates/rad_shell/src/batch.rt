@@ -5,12 +5,9 @@ ghost use Rattle.rad_auth.specs.Sealing.{IsJob};
 ghost use Rattle.rad_shell.specs.Rounds.{AreMoments};
 ghost use Rattle.rad_shell.specs.Works.{AreAsked, AreKept, AreSealed, AreVerdicts, IsAskedIn, IsJobIn, IsJobOf, IsVerdict};
 
-use crate::locked::Locked;
-use crate::opened::Opened;
-use crate::pass::Pass;
-use crate::receipt::Receipt;
 use crate::timed::Timed;
 use rad_auth::{Arrival, Clients, Discard, Job, Request, admitted_is_answerable, check8, seal8};
+use rad_desk::{Locked, Opened, Pass, Receipt};
 use rad_packet::Frame;
 use rad_server::Answer;
 use std::sync::{Mutex, Wait};

@@ -1,22 +1,18 @@
 //! A round: its workers, each on a thread, over one lock.
 ghost use Rattle.std.specs.Prelude.{◌≡◌, ◌<◌, ◌≤◌, length, vec_len, IfErr, IfOk};
-ghost use Rattle.rad_shell.specs.Desks.{IsBlankOf};
+ghost use Rattle.rad_desk.specs.Desks.{IsBlankOf};
 ghost use Rattle.rad_shell.specs.Rounds.{AreMoments, Round, arrivals_max, workers_max};
 ghost use Rattle.rad_shell.specs.Works.{AreIdle, HasAnswered, HaveAnswered, IsIdle, IsOwnFault};
 
-use crate::desk::{close, open_with};
 use crate::gate::Gate;
-use crate::locked::Locked;
-use crate::opened::Opened;
 use crate::outcome::Outcome;
-use crate::pass::Pass;
 use crate::room::Room;
 use crate::round_fault::RoundFault;
-use crate::settling::Closed;
 use crate::table::{Table, collect, finish};
 use crate::timed::Timed;
 use crate::worker::Worker;
 use rad_auth::Clients;
+use rad_desk::{Closed, Locked, Opened, Pass, close, open_with};
 use rad_server::{Entry, Server};
 use std::alloc::{AllocError, Global};
 use std::marker::Brand;

@@ -2,7 +2,7 @@
 ghost use Rattle.std.specs.Prelude.{◌≡◌};
 ghost use Rattle.rad_shell.specs.Faults.{round_fault_number};
 
-use crate::mismatch::Mismatch;
+use rad_desk::Mismatch;
 use std::alloc::AllocError;
 use thiserror::Error;
 

@@ -1,10 +1,10 @@
 //! The service: a server that answers rounds of datagrams.
 ghost use Rattle.std.specs.Prelude.{◌≡◌, ◌≢◌, ◌≤◌, length, Err, IfOk, IfSome, OnErr};
+ghost use Rattle.rad_desk.specs.declared.mismatch.Mismatch.{Mismatch};
 ghost use Rattle.rad_server.specs.Repeats.{Repeat};
 ghost use Rattle.rad_server.specs.Runs.{IsHistory, IsLawfulThroughout};
 ghost use Rattle.rad_server.specs.States.{opening};
 ghost use Rattle.rad_shell.specs.Rounds.{AreMoments, Round, arrivals_max, workers_max};
-ghost use Rattle.rad_shell.specs.declared.mismatch.Mismatch.{Mismatch};
 ghost use Rattle.rad_shell.specs.declared.round_fault.RoundFault.{RoundFault};
 
 use crate::batch::BATCH;

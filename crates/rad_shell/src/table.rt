@@ -3,15 +3,13 @@ ghost use Rattle.std.specs.Prelude.{◌≡◌, [], ◌+◌, length, vec_len, sli
 ghost use Rattle.rad_shell.specs.Rounds.{AreOutcomes, HasArrival, HaveOwnTags};
 ghost use Rattle.rad_shell.specs.Works.{AreComplete, AreFound, AreTagged, HasAnswered, HasReceiptOfSome, HaveAnswered, IsEntryAt, IsFoundBy, IsOwnFault, empty_table, with_found};
 
-use crate::mismatch::Mismatch;
-use crate::opened::Opened;
 use crate::outcome::Outcome;
-use crate::pass::Pass;
 use crate::room::{Room, leave};
 use crate::round_fault::RoundFault;
 use crate::timed::Timed;
 use crate::worker::{Numbered, Worker};
 use rad_auth::Clients;
+use rad_desk::{Mismatch, Opened, Pass};
 use rad_server::Entry;
 use std::alloc::{AllocError, Global};
 use std::marker::Model;

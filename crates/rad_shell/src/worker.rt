@@ -5,14 +5,11 @@ ghost use Rattle.rad_shell.specs.Works.{AreAsked, AreSealed, AreVerdicts, HasAns
 
 use crate::batch::{BATCH, Verdict, ask_batch, check_batch, seal_batch};
 use crate::gate::Gate;
-use crate::locked::Locked;
-use crate::opened::Opened;
 use crate::outcome::Outcome;
-use crate::pass::Pass;
-use crate::receipt::Receipt;
 use crate::room::Room;
 use crate::timed::Timed;
 use rad_auth::Clients;
+use rad_desk::{Locked, Opened, Pass, Receipt};
 use rad_packet::Frame;
 use rad_server::Answer;
 use std::alloc::{AllocError, Global};

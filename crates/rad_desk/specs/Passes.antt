@@ -3,7 +3,7 @@ use Rattle.std.specs.Prelude.{◌≡◌, ℕ, ◌+◌, List, [], ◌∷◌, ◌+
 use Rattle.rad_auth.specs.declared.arrival.Request.{Request}
 use Rattle.rad_server.specs.Runs.{IsAsked}
 use Rattle.rad_server.specs.Steps.{IsSealable}
-use Rattle.rad_shell.specs.declared.receipt.Receipt.{Receipt}
+use Rattle.rad_desk.specs.declared.receipt.Receipt.{Receipt}
 
 -- the receipts, oldest first, and the amount of the share of the desk's ledger
 pub record Pass : Type 0 where

@@ -2,7 +2,7 @@
 ghost use Rattle.std.specs.Prelude.{◌≡◌, ◌≤◌, [], length, OnErr, OnOk};
 ghost use Rattle.rad_auth.specs.Admission.{IsAdmitted};
 ghost use Rattle.rad_config.specs.Spans.{moment_max};
-ghost use Rattle.rad_shell.specs.Passes.{AddsReceipt};
+ghost use Rattle.rad_desk.specs.Passes.{AddsReceipt};
 
 use crate::locked::Locked;
 use crate::opened::Opened;
@@ -25,7 +25,7 @@ pub struct Pass<L: Opened> {
 }
 
 impl<L: Opened> Model for Pass<L> {
-    ghost use Rattle.rad_shell.specs.Passes.{Pass, IsCounted};
+    ghost use Rattle.rad_desk.specs.Passes.{Pass, IsCounted};
 
     ghost Value = { Pass };
 
@@ -66,7 +66,7 @@ impl<L: Opened> Pass<L> {
     }
 
     /// One exchange under the lock, of which the pass keeps a receipt.
-    pub(crate) fn ask<'c, R: Wait>(
+    pub fn ask<'c, R: Wait>(
         &mut self,
         rt: &R,
         lock: &Mutex<Locked<'c, L>>,

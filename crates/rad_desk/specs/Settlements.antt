@@ -3,10 +3,10 @@ use Rattle.std.specs.Prelude.{◌≡◌, ◌≢◌, ℕ, ◌+◌, ◌≤◌, ◌
 use Rattle.rad_server.specs.Books.{Book}
 use Rattle.rad_server.specs.Servers.{Server}
 use Rattle.rad_server.specs.declared.entry.Entry.{Entry}
-use Rattle.rad_shell.specs.Passes.{Pass}
-use Rattle.rad_shell.specs.declared.mismatch.Mismatch.{Mismatch}
-use Rattle.rad_shell.specs.declared.mismatch.Mismatch.TheVariants.{Opening, Count, At}
-use Rattle.rad_shell.specs.declared.receipt.Receipt.{Receipt}
+use Rattle.rad_desk.specs.Passes.{Pass}
+use Rattle.rad_desk.specs.declared.mismatch.Mismatch.{Mismatch}
+use Rattle.rad_desk.specs.declared.mismatch.Mismatch.TheVariants.{Opening, Count, At}
+use Rattle.rad_desk.specs.declared.receipt.Receipt.{Receipt}
 
 -- ---- receipts
 

@@ -1,7 +1,7 @@
 //! Whether the receipts of passes agree with a history.
 ghost use Rattle.std.specs.Prelude.{◌≡◌, ◌≤◌, length, IfErr, IfOk, IfSome, IfNone, IsTrue, OnOk, ◌↔◌};
 ghost use Rattle.rad_server.specs.Runs.{IsHistory};
-ghost use Rattle.rad_shell.specs.Settlements.{
+ghost use Rattle.rad_desk.specs.Settlements.{
   Agrees,
   Disagrees,
   HasMisplaced,

@@ -1,6 +1,6 @@
 //! Why receipts don't settle.
 ghost use Rattle.std.specs.Prelude.{◌≡◌};
-ghost use Rattle.rad_shell.specs.Settlements.{mismatch_number};
+ghost use Rattle.rad_desk.specs.Settlements.{mismatch_number};
 
 use thiserror::Error;
 

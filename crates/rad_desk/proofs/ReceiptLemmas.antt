@@ -4,9 +4,9 @@ use Rattle.std.proofs.lemmas.List.{take_all}
 use Rattle.std.proofs.lemmas.Option.{get_or_from_slice_get, slice_get_within}
 use Rattle.std.proofs.lemmas.List.Elements.{All-more, All-push}
 use Rattle.rad_server.specs.declared.entry.Entry.{Entry}
-use Rattle.rad_shell.specs.Passes.{AreNew, IsNew, Pass}
-use Rattle.rad_shell.specs.Settlements.{HasMisplaced, IsSettled, MisplacedDisagree, AreInOrder, receipt_count}
-use Rattle.rad_shell.specs.declared.receipt.Receipt.{Receipt}
+use Rattle.rad_desk.specs.Passes.{AreNew, IsNew, Pass}
+use Rattle.rad_desk.specs.Settlements.{HasMisplaced, IsSettled, MisplacedDisagree, AreInOrder, receipt_count}
+use Rattle.rad_desk.specs.declared.receipt.Receipt.{Receipt}
 
 -- the receipts of one more pass are counted too
 pub receipt_count_push : (passes : List Pass) (pass : Pass)

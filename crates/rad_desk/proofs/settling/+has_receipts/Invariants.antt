@@ -1,5 +1,5 @@
 use Rattle.std.proofs.Common.{length}
-use Rattle.rad_shell.proofs.settling.+has_receipts.Given as goal
+use Rattle.rad_desk.proofs.settling.+has_receipts.Given as goal
 
 abbrev pub decreases-has_receipts : goal.decreases-has_receipts
 decreases-has_receipts g l = length l.passes.now

@@ -1,6 +1,6 @@
 use Rattle.std.proofs.Common.{◌≡◌, ◌+◌, vec_len}
-use Rattle.rad_shell.specs.Settlements.{receipt_count}
-use Rattle.rad_shell.proofs.locked.merged.Given as goal
+use Rattle.rad_desk.specs.Settlements.{receipt_count}
+use Rattle.rad_desk.proofs.locked.merged.Given as goal
 
 abbrev pub invariant-loop-pass : goal.invariant-loop-pass
 invariant-loop-pass g l =

@@ -5,7 +5,7 @@ use Rattle.rad_config.specs.Configurations.{Configuration}
 use Rattle.rad_server.specs.Servers.{Server}
 use Rattle.rad_server.specs.States.{opening}
 use Rattle.rad_server.specs.declared.entry.Entry.{Entry}
-use Rattle.rad_shell.specs.declared.receipt.Receipt.{Receipt}
+use Rattle.rad_desk.specs.declared.receipt.Receipt.{Receipt}
 
 -- the most passes of a desk
 abbrev pub passes_max : ℕ

@@ -3,10 +3,10 @@ ghost use Rattle.std.specs.Prelude.{◌≡◌, ◌≢◌, ◌↔◌, ◌≤◌, 
 ghost use Rattle.rad_auth.specs.Admission.{IsAdmitted};
 ghost use Rattle.rad_config.specs.Spans.{moment_max};
 ghost use Rattle.rad_server.specs.Runs.{IsHistory};
-ghost use Rattle.rad_shell.specs.Desks.{IsBlankOf, passes_max};
-ghost use Rattle.rad_shell.specs.Passes.{AddsReceipt, AreNew};
-ghost use Rattle.rad_shell.specs.Settlements.{Agrees, Disagrees};
-ghost use Rattle.rad_shell.specs.declared.mismatch.Mismatch.{Mismatch};
+ghost use Rattle.rad_desk.specs.Desks.{IsBlankOf, passes_max};
+ghost use Rattle.rad_desk.specs.Passes.{AddsReceipt, AreNew};
+ghost use Rattle.rad_desk.specs.Settlements.{Agrees, Disagrees};
+ghost use Rattle.rad_desk.specs.declared.mismatch.Mismatch.{Mismatch};
 
 use crate::locked::Locked;
 use crate::mismatch::Mismatch;

@@ -5,8 +5,8 @@ ghost use Rattle.rad_config.specs.Spans.{moment_max};
 ghost use Rattle.rad_packet.specs.Packets.{packet_octets};
 ghost use Rattle.rad_server.specs.Runs.{IsAsked, IsHistory};
 ghost use Rattle.rad_server.specs.Steps.{IsSealable};
-ghost use Rattle.rad_shell.specs.Desks.{Appends};
-ghost use Rattle.rad_shell.specs.Settlements.{receipt_count};
+ghost use Rattle.rad_desk.specs.Desks.{Appends};
+ghost use Rattle.rad_desk.specs.Settlements.{receipt_count};
 
 use crate::opened::Opened;
 use crate::pass::Pass;
@@ -32,7 +32,7 @@ pub struct Locked<'c, L: Opened> {
 
 impl<'c, L: Opened> Model for Locked<'c, L> {
     ghost use Rattle.rad_server.specs.Books.{Book};
-    ghost use Rattle.rad_shell.specs.Desks.{IsConsistent};
+    ghost use Rattle.rad_desk.specs.Desks.{IsConsistent};
 
     ghost Value = { Book };
 

@@ -10,7 +10,7 @@ pub trait Opened: Ledger {
 }
 
 impl Opened for Brand {
-    ghost use Rattle.rad_shell.specs.Desks.{some_server};
+    ghost use Rattle.rad_desk.specs.Desks.{some_server};
 
     ghost opening = { some_server };
 }

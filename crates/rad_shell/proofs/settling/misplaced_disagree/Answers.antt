@@ -1,5 +1,0 @@
-use Rattle.rad_shell.proofs.ReceiptLemmas.{misplaced_disagree}
-use Rattle.rad_shell.proofs.settling.misplaced_disagree.Goals as goal
-
-pub returns : goal.returns
-returns c = misplaced_disagree
