@@ -4,3 +4,4 @@ pub mod Works
 pub use Rattle.rad_desk.specs.Passes
 pub use Rattle.rad_desk.specs.Desks
 pub use Rattle.rad_desk.specs.Settlements
+pub mod Serving

@@ -9,22 +9,34 @@
 
 mod batch;
 mod gate;
+mod memory_ports;
 mod outcome;
+mod ports;
+mod received;
 mod room;
 mod round;
 mod round_fault;
+mod serve_fault;
+mod served;
 mod service;
+mod serving;
 mod table;
 mod timed;
+mod turn;
 mod worker;
 
 pub use gate::{Gate, OpenGate};
+pub use memory_ports::{Datagram, MemoryPorts};
 pub use outcome::Outcome;
+pub use ports::{Got, PortFault, Ports, RECEIVED_MAX};
 pub use rad_desk::{
     Closed, Desk, Mismatch, Opened, PASSES_MAX, Pass, Receipt, close, misplaced_disagree,
     open_with, settle,
 };
 pub use round::Done;
 pub use round_fault::RoundFault;
+pub use serve_fault::ServeFault;
+pub use served::Served;
 pub use service::{ARRIVALS_MAX, Service, WORKERS_MAX};
+pub use serving::run_rounds;
 pub use timed::Timed;

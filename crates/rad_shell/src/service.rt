@@ -70,6 +70,11 @@ impl<'c> Service<'c> {
         &self.current
     }
 
+    /// Where its memory comes from.
+    pub(crate) fn alloc(&self) -> Global {
+        self.alloc
+    }
+
     /// Answers the datagrams of a round, at most `ARRIVALS_MAX`, by at most so many workers, from 1 to `WORKERS_MAX`.
     ///
     /// Batch b has the datagrams 8b to 8b + 7, as far as there are any, and worker b modulo `workers` takes it. The caller's thread is

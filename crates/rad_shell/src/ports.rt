@@ -1,0 +1,63 @@
+//! Ports: where datagrams come in and go out.
+ghost use Rattle.std.specs.Prelude.{◌≡◌, ◌≤◌, ◌<◌, ℕ, IfErr, IfOk, IfSome};
+ghost use Rattle.rad_shell.specs.Serving.{IsReceived};
+
+use rad_auth::Door;
+use std::sync::Wait;
+use thiserror::Error;
+
+/// The most octets of a datagram that are received: a packet has no more (RFC 2865, section 3), and what follows is padding.
+pub const RECEIVED_MAX: usize = 4096;
+
+/// A datagram that was received. Its octets are in the room that was lent for them.
+#[derive(Clone, Copy, Debug, PartialEq, Eq)]
+pub struct Got {
+    /// The source address, most significant octet first.
+    pub source: u32,
+    /// The source port.
+    pub port: u16,
+    /// The server's port that it came to.
+    pub door: Door,
+    /// How many octets of the room are the datagram's, at most `RECEIVED_MAX`.
+    pub len: usize,
+    /// When it came, in milliseconds, at most `MOMENT_MAX`.
+    pub moment: u64,
+}
+
+/// A failure of a port, which was counted.
+#[derive(Clone, Copy, Debug, PartialEq, Eq, Error)]
+#[error("a port failed")]
+pub struct PortFault;
+
+/// The authentication port and the accounting port of a server.
+///
+/// Who implements it counts the failures. A failure that concerns one datagram alone, such as a destination that can't be reached,
+/// may be counted without being reported: the datagram is lost, as on any network. When the count is 2^64 - 1 it stays, and nothing
+/// is reported any more. No call takes memory.
+pub trait Ports {
+    /// The failures so far.
+    ghost failures: { Self → ℕ };
+
+    /// Waits until a datagram may have come, or for a second at most.
+    fn wait<R: Wait>(&mut self, rt: &R)
+        ensures counted { failures self.old ≤ failures self.new };
+
+    /// Receives the next datagram, if one waits: its first 4,096 octets go to the beginning of the room.
+    ///
+    /// Returns `PortFault` only if a failure was counted in the call.
+    fn receive(&mut self, room: &mut [u8; RECEIVED_MAX]) -> Result<Option<Got>, PortFault>
+        ensures received { IfOk result (λ got. IfSome got IsReceived) }
+        ensures counted { failures self.old ≤ failures self.new }
+        ensures fault { IfErr result (λ _. failures self.old < failures self.new) };
+
+    /// Sends octets from one of the server's ports to an address and a port.
+    ///
+    /// Returns `PortFault` only if a failure was counted in the call.
+    fn send(&mut self, door: Door, address: u32, port: u16, octets: &[u8]) -> Result<(), PortFault>
+        ensures counted { failures self.old ≤ failures self.new }
+        ensures fault { IfErr result (λ _. failures self.old < failures self.new) };
+
+    /// The failures so far.
+    fn faults(&self) -> u64
+        ensures { result ≡ failures self.now };
+}

@@ -1,0 +1,115 @@
+//! What a turn received.
+ghost use Rattle.std.specs.Prelude.{◌≡◌, ◌≤◌, ◌<◌, All, IfErr, IfOk, length, vec_capacity, vec_len};
+ghost use Rattle.rad_shell.specs.Rounds.{AreMoments, arrivals_max};
+ghost use Rattle.rad_shell.specs.Serving.{IsReceived};
+
+use crate::outcome::Outcome;
+use crate::ports::{Got, PortFault, Ports, RECEIVED_MAX};
+use crate::service::ARRIVALS_MAX;
+use crate::timed::Timed;
+use rad_auth::Arrival;
+use rand_core::Rng;
+use std::alloc::{AllocError, Global};
+
+/// The datagrams of a turn, with their draws. The memory for all of a full round is taken once.
+#[derive(Drop)]
+pub(crate) struct Received {
+    room: [u8; RECEIVED_MAX],
+    // Those of one datagram after those of another.
+    octets: Vec<u8>,
+    got: Vec<Got>,
+    draws: Vec<[u8; 16]>,
+    ghost octets_fit: { 2097152 ≤ vec_capacity octets },
+    ghost got_fit: { 512 ≤ vec_capacity got },
+    ghost draws_fit: { 512 ≤ vec_capacity draws },
+    ghost few: { vec_len got ≤ arrivals_max },
+    ghost all: { All IsReceived got.items },
+}
+
+impl Received {
+    /// Room for the datagrams of a full round.
+    pub fn new(alloc: Global) -> Result<Received, AllocError> {
+        Ok(Received {
+            room: [0; RECEIVED_MAX],
+            octets: Vec::with_capacity(alloc, RECEIVED_MAX * ARRIVALS_MAX)?,
+            got: Vec::with_capacity(alloc, ARRIVALS_MAX)?,
+            draws: Vec::with_capacity(alloc, ARRIVALS_MAX)?,
+        })
+    }
+
+    /// How many datagrams there are.
+    pub fn len(&self) -> usize
+        ensures { result ≤ arrivals_max }
+    {
+        self.got.len()
+    }
+
+    /// Receives until no datagram waits or a round is full. What was there before is dropped. It takes no memory.
+    pub fn receive<P: Ports>(&mut self, ports: &mut P) -> Result<(), PortFault>
+        ensures counted { P.failures ports.old ≤ P.failures ports.new }
+        ensures fault { IfErr result (λ _. P.failures ports.old < P.failures ports.new) }
+    {
+        self.octets.clear();
+        self.got.clear();
+        for _ in 0..ARRIVALS_MAX {
+            let Some(got) = ports.receive(&mut self.room)? else {
+                return Ok(());
+            };
+            let Ok(()) = self.octets.extend_from_slice(&self.room[..got.len]) else {
+                unreachable!();
+            };
+            self.got.push_reserved(got);
+        }
+        Ok(())
+    }
+
+    /// Takes a draw for each datagram, in order.
+    pub fn draw<D: Rng>(&mut self, random: &mut D) {
+        self.draws.clear();
+        for _ in 0..self.got.len() {
+            let mut draw = [0; 16];
+            random.fill_bytes(&mut draw);
+            self.draws.push_reserved(draw);
+        }
+    }
+
+    /// The datagrams as arrivals of a round.
+    pub fn arrivals(&self, alloc: Global) -> Result<Vec<Timed<'_>>, AllocError>
+        ensures count { IfOk result (λ arrivals. length arrivals.items ≤ arrivals_max) }
+        ensures moments { IfOk result (λ arrivals. AreMoments arrivals.items) }
+    {
+        let mut arrivals = Vec::with_capacity(alloc, self.got.len())?;
+        let mut rest = self.octets.as_slice();
+        for (got, draw) in self.got.iter().zip(&self.draws) {
+            let Some((octets, after)) = rest.split_at_checked(got.len) else {
+                return Ok(arrivals);
+            };
+            let arrival = Arrival {
+                source: got.source,
+                port: got.port,
+                door: got.door,
+                octets,
+            };
+            arrivals.push(Timed {
+                arrival,
+                moment: got.moment,
+                draw: *draw,
+            })?;
+            rest = after;
+        }
+        Ok(arrivals)
+    }
+
+    /// Sends the replies among the outcomes of the datagrams, in order, each to where its datagram came from.
+    pub fn reply<P: Ports>(&self, ports: &mut P, outcomes: &[Outcome]) -> Result<(), PortFault>
+        ensures counted { P.failures ports.old ≤ P.failures ports.new }
+        ensures fault { IfErr result (λ _. P.failures ports.old < P.failures ports.new) }
+    {
+        for (got, outcome) in self.got.iter().zip(outcomes) {
+            if let Outcome::Reply(frame) = outcome {
+                ports.send(got.door, got.source, got.port, frame.octets())?;
+            }
+        }
+        Ok(())
+    }
+}

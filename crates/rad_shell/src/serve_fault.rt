@@ -1,0 +1,32 @@
+//! Why serving ends.
+ghost use Rattle.std.specs.Prelude.{◌≡◌};
+ghost use Rattle.rad_shell.specs.Serving.{serve_fault_number};
+
+use thiserror::Error;
+
+/// Why `run_rounds` ended before its last turn. The server is as it was after the last closed round.
+#[derive(Clone, Copy, Debug, PartialEq, Eq, Error)]
+pub enum ServeFault {
+    /// A port failed while datagrams were received. Those of this turn are dropped, before any draw for them.
+    #[error("receive failed")]
+    Receive,
+    /// A port failed while replies were sent. The round is closed: the replies before this one went out, the rest don't.
+    #[error("send failed")]
+    Send,
+    /// The history of a round doesn't agree with what its workers were answered.
+    #[error("mismatch")]
+    Mismatch,
+}
+
+impl ServeFault {
+    /// The number under which it is reported.
+    pub fn number(self) -> u8
+        ensures { result ≡ serve_fault_number self }
+    {
+        match self {
+            ServeFault::Receive => 1,
+            ServeFault::Send => 2,
+            ServeFault::Mismatch => 3,
+        }
+    }
+}

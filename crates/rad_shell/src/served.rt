@@ -1,0 +1,93 @@
+//! What turns came to.
+ghost use Rattle.std.specs.Prelude.{◌≡◌, ◌+◌, ◌≤◌, ◌<◌, length};
+ghost use Rattle.rad_shell.specs.Rounds.{arrivals_max};
+ghost use Rattle.rad_shell.specs.Serving.{AddTurn, AddUp, exchange_count, turns_max};
+
+use crate::outcome::Outcome;
+use std::fmt;
+
+/// What turns came to. It is printed as one line, each number after its field's name.
+#[derive(Clone, Copy, Debug, PartialEq, Eq)]
+pub struct Served {
+    /// The turns, those without datagrams too.
+    pub rounds: u64,
+    /// The datagrams that were received.
+    pub datagrams: u64,
+    pub replies: u64,
+    /// The datagrams that weren't admitted.
+    pub drops: u64,
+    pub busy: u64,
+    /// The datagrams for which memory was refused, though not for their round.
+    pub nomemory: u64,
+    /// The rounds that were lost because memory was refused. Their datagrams count in `datagrams` alone.
+    pub failed: u64,
+}
+
+impl Served {
+    /// The sums of no turn.
+    pub(crate) fn nothing() -> Served
+        ensures sums { AddUp result }
+        ensures rounds { result.rounds ≡ 0 }
+        ensures exchanged { result.replies + result.busy ≡ 0 }
+    {
+        Served {
+            rounds: 0,
+            datagrams: 0,
+            replies: 0,
+            drops: 0,
+            busy: 0,
+            nomemory: 0,
+            failed: 0,
+        }
+    }
+
+    /// Adds a turn whose round is lost, with so many datagrams.
+    pub(crate) fn add_lost(&mut self, datagrams: usize)
+        requires sums { AddUp self.old }
+        requires turns { self.old.rounds < turns_max }
+        requires count { datagrams ≤ arrivals_max }
+        ensures { AddTurn 0 self.old self.new }
+    {
+        self.rounds += 1;
+        self.datagrams += datagrams as u64;
+        self.failed += 1;
+    }
+
+    /// Adds a turn whose round has these outcomes.
+    pub(crate) fn add_outcomes(&mut self, outcomes: &[Outcome])
+        requires sums { AddUp self.old }
+        requires turns { self.old.rounds < turns_max }
+        requires count { length outcomes.now ≤ arrivals_max }
+        ensures { AddTurn (exchange_count outcomes.now) self.old self.new }
+    {
+        self.rounds += 1;
+        self.datagrams += outcomes.len() as u64;
+        for i in 0..outcomes.len() {
+            match &outcomes[i] {
+                Outcome::Dropped(_) => self.drops += 1,
+                Outcome::Busy => self.busy += 1,
+                Outcome::NoMemory => self.nomemory += 1,
+                Outcome::Reply(_) => self.replies += 1,
+            }
+        }
+    }
+}
+
+impl fmt::Display for Served {
+    fn fmt<W: fmt::Write>(&self, f: &mut fmt::Formatter<W>) -> fmt::Result {
+        let Served {
+            rounds,
+            datagrams,
+            replies,
+            drops,
+            busy,
+            nomemory,
+            failed,
+        } = self;
+        write!(
+            f,
+            "rounds {rounds} datagrams {datagrams} replies {replies} drops {drops} "
+        )?;
+        write!(f, "busy {busy} nomemory {nomemory} failed {failed}")
+    }
+}

@@ -1,0 +1,83 @@
+//! One turn: datagrams are received, answered in a round, and their replies sent.
+ghost use Rattle.std.specs.Prelude.{◌≡◌, ◌≤◌, ◌<◌, IfErr, IfOk, OnErr};
+ghost use Rattle.rad_shell.specs.Rounds.{workers_max};
+ghost use Rattle.rad_shell.specs.Serving.{AddUp, IsCounted, IsMade, IsTurn, turns_max};
+
+use crate::gate::Gate;
+use crate::mismatch::Mismatch;
+use crate::outcome::Outcome;
+use crate::ports::Ports;
+use crate::received::Received;
+use crate::round_fault::RoundFault;
+use crate::serve_fault::ServeFault;
+use crate::served::Served;
+use crate::service::Service;
+use rand_core::Rng;
+use std::sync::Wait;
+use std::thread::Threads;
+
+/// Makes a turn, and adds it to the sums.
+///
+/// The room for datagrams is made if it isn't there yet. If memory for it is refused, the turn receives nothing, and its round is lost.
+pub(crate) fn make_turn<R: Threads + Wait + Sync, P: Ports, D: Rng, G: Gate + Sync>(
+    service: &mut Service,
+    rt: &R,
+    ports: &mut P,
+    random: &mut D,
+    gate: &G,
+    workers: u64,
+    room: &mut Option<Received>,
+    served: &mut Served,
+) -> Result<(), ServeFault>
+    requires workers { (1 ≤ workers) × (workers ≤ workers_max) }
+    requires sums { AddUp served.old }
+    requires turns { served.old.rounds < turns_max }
+    ensures turn { IsTurn service.old served.old result service.new served.new }
+    ensures counted { P.failures ports.old ≤ P.failures ports.new }
+    ensures fault { IfErr result (IsCounted (P.failures ports.old) (P.failures ports.new)) }
+{
+    ports.wait(rt);
+    if room.is_none() {
+        *room = Received::new(service.alloc()).ok();
+    }
+    let Some(received) = room else {
+        served.add_lost(0);
+        return Ok(());
+    };
+    if received.receive(ports).is_err() {
+        return Err(ServeFault::Receive);
+    }
+    received.draw(random);
+    let Ok(outcomes) = answer(service, rt, received, gate, workers) else {
+        return Err(ServeFault::Mismatch);
+    };
+    let Some(outcomes) = outcomes else {
+        served.add_lost(received.len());
+        return Ok(());
+    };
+    served.add_outcomes(&outcomes);
+    if received.reply(ports, &outcomes).is_err() {
+        return Err(ServeFault::Send);
+    }
+    Ok(())
+}
+
+// The outcomes of what was received, in a round; none if the round is lost.
+fn answer<R: Threads + Wait + Sync, G: Gate + Sync>(
+    service: &mut Service,
+    rt: &R,
+    received: &Received,
+    gate: &G,
+    workers: u64,
+) -> Result<Option<Vec<Outcome>>, Mismatch>
+    requires workers { (1 ≤ workers) × (workers ≤ workers_max) }
+{
+    let Ok(arrivals) = received.arrivals(service.alloc()) else {
+        return Ok(None);
+    };
+    match service.round(rt, &arrivals, workers, gate) {
+        Ok(done) => Ok(Some(done.outcomes)),
+        Err(RoundFault::Mismatch(mismatch)) => Err(mismatch),
+        Err(RoundFault::NoMemory | RoundFault::NoThread) => Ok(None),
+    }
+}
