@@ -2,7 +2,8 @@
 --
 -- A turn receives until no datagram waits or a round is full. A round for which memory is refused is lost: its datagrams are counted,
 -- and the server is as it was.
-use Rattle.std.specs.Prelude.{◌≡◌, ℕ, ◌+◌, ◌*◌, ◌^◌, ◌≤◌, ◌<◌, Bool, true, false, List, [], length, filter, Option, Some, None, Result, Ok, Err, IfOk, OnOk}
+use Rattle.std.specs.Prelude.{◌≡◌, ℕ, ◌+◌, ◌*◌, ◌^◌, ◌≤◌, ◌<◌, Bool, true, false, List, length, filter, Result, IfOk, OnOk}
+use Rattle.std.specs.List.{sum_by}
 use Rattle.rad_config.specs.Spans.{moment_max}
 use Rattle.rad_packet.specs.Packets.{length_max}
 use Rattle.rad_server.specs.Repeats.{Repeat}
@@ -59,6 +60,10 @@ pub record IsServed (turns : ℕ) (before : Server) (result : Result Served Serv
 
 -- ---- one turn (private)
 
+-- the octets of datagrams
+abbrev pub octet_count : List Got → ℕ
+octet_count got = sum_by (λ one. one.len) got
+
 -- whether an outcome is that of an exchange
 abbrev pub is_exchanged : Outcome → Bool
 is_exchanged (Dropped discard) = false
@@ -88,14 +93,21 @@ pub record AddTurn (exchanges : ℕ) (before after : Served) : Type 0 where
   pub rounds : after.rounds ≡ before.rounds + 1
   pub exchanged : after.replies + after.busy ≡ before.replies + before.busy + exchanges
 
--- what became of a round: so many exchanges lead from one server to another, or it is lost and they are equal
-abbrev pub IsMade : Server → Option (List Outcome) → Server → Type 0
-IsMade before None after = after ≡ before
-IsMade before (Some outcomes) after =
-    (history : List Entry) × IsHistory before history after × (length history ≡ exchange_count outcomes) × (length outcomes ≤ arrivals_max)
+-- a round was made: exchanges lead from one server to another, one for each outcome of an exchange
+pub record IsRoundMade (before : Server) (outcomes : List Outcome) (after : Server) : Type 0 where
+  pub history : List Entry
+  pub run : IsHistory before history after
+  pub exchanged : length history ≡ exchange_count outcomes
+  pub few : length outcomes ≤ arrivals_max
 
 -- what a turn makes of a server and of sums: exchanges lead from one server to another, and without a fault they are counted
 pub record IsTurn (before : Server) (served : Served) (result : Result (Unit {0}) ServeFault) (after : Server) (served_after : Served) : Type 0 where
   pub history : List Entry
   pub run : IsHistory before history after
   pub sums : OnOk result (AddTurn (length history) served served_after)
+
+-- what turns without a fault made of a server: exchanges lead from one server to another, and the sums count them
+pub record HasServed (before : Server) (served : Served) (after : Server) : Type 0 where
+  pub history : List Entry
+  pub run : IsHistory before history after
+  pub exchanged : served.replies + served.busy ≡ length history

@@ -1,7 +1,7 @@
 //! What a turn received.
 ghost use Rattle.std.specs.Prelude.{◌≡◌, ◌≤◌, ◌<◌, All, IfErr, IfOk, length, vec_capacity, vec_len};
 ghost use Rattle.rad_shell.specs.Rounds.{AreMoments, arrivals_max};
-ghost use Rattle.rad_shell.specs.Serving.{IsReceived};
+ghost use Rattle.rad_shell.specs.Serving.{IsReceived, octet_count};
 
 use crate::outcome::Outcome;
 use crate::ports::{Got, PortFault, Ports, RECEIVED_MAX};
@@ -24,6 +24,7 @@ pub(crate) struct Received {
     ghost draws_fit: { 512 ≤ vec_capacity draws },
     ghost few: { vec_len got ≤ arrivals_max },
     ghost all: { All IsReceived got.items },
+    ghost sum: { octet_count got.items ≡ vec_len octets },
 }
 
 impl Received {
@@ -44,6 +45,7 @@ impl Received {
         self.got.len()
     }
 
+    #[tactic(auto, using(crate::proofs::ServingLemmas::octets_more))]
     /// Receives until no datagram waits or a round is full. What was there before is dropped. It takes no memory.
     pub fn receive<P: Ports>(&mut self, ports: &mut P) -> Result<(), PortFault>
         ensures counted { P.failures ports.old ≤ P.failures ports.new }
@@ -74,15 +76,17 @@ impl Received {
     }
 
     /// The datagrams as arrivals of a round.
+    #[tactic(auto, using(crate::proofs::ServingLemmas::octets_left))]
     pub fn arrivals(&self, alloc: Global) -> Result<Vec<Timed<'_>>, AllocError>
         ensures count { IfOk result (λ arrivals. length arrivals.items ≤ arrivals_max) }
         ensures moments { IfOk result (λ arrivals. AreMoments arrivals.items) }
     {
         let mut arrivals = Vec::with_capacity(alloc, self.got.len())?;
         let mut rest = self.octets.as_slice();
-        for (got, draw) in self.got.iter().zip(&self.draws) {
+        for i in 0..self.got.len() {
+            let got = self.got[i];
             let Some((octets, after)) = rest.split_at_checked(got.len) else {
-                return Ok(arrivals);
+                unreachable!();
             };
             let arrival = Arrival {
                 source: got.source,
@@ -93,11 +97,19 @@ impl Received {
             arrivals.push(Timed {
                 arrival,
                 moment: got.moment,
-                draw: *draw,
+                draw: self.draw_at(i),
             })?;
             rest = after;
         }
         Ok(arrivals)
+    }
+
+    // The draw of the datagram with this number, which has one.
+    fn draw_at(&self, number: usize) -> [u8; 16] {
+        match self.draws.get(number) {
+            Some(draw) => *draw,
+            None => [0; 16],
+        }
     }
 
     /// Sends the replies among the outcomes of the datagrams, in order, each to where its datagram came from.

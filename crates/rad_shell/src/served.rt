@@ -1,7 +1,7 @@
 //! What turns came to.
-ghost use Rattle.std.specs.Prelude.{◌≡◌, ◌+◌, ◌≤◌, ◌<◌, length};
+ghost use Rattle.std.specs.Prelude.{◌≡◌, ◌+◌, ◌≤◌, ◌<◌, ◌^◌, cond, length};
 ghost use Rattle.rad_shell.specs.Rounds.{arrivals_max};
-ghost use Rattle.rad_shell.specs.Serving.{AddTurn, AddUp, exchange_count, turns_max};
+ghost use Rattle.rad_shell.specs.Serving.{AddTurn, AddUp, exchange_count, is_exchanged, outcome_count, turns_max};
 
 use crate::outcome::Outcome;
 use std::fmt;
@@ -54,6 +54,7 @@ impl Served {
     }
 
     /// Adds a turn whose round has these outcomes.
+    #[tactic(auto, using(crate::proofs::ServingLemmas::one_more_outcome))]
     pub(crate) fn add_outcomes(&mut self, outcomes: &[Outcome])
         requires sums { AddUp self.old }
         requires turns { self.old.rounds < turns_max }
@@ -63,12 +64,24 @@ impl Served {
         self.rounds += 1;
         self.datagrams += outcomes.len() as u64;
         for i in 0..outcomes.len() {
-            match &outcomes[i] {
-                Outcome::Dropped(_) => self.drops += 1,
-                Outcome::Busy => self.busy += 1,
-                Outcome::NoMemory => self.nomemory += 1,
-                Outcome::Reply(_) => self.replies += 1,
-            }
+            self.add_outcome(&outcomes[i]);
+        }
+    }
+
+    fn add_outcome(&mut self, outcome: &Outcome)
+        requires { outcome_count self.old + 1 < 2 ^ 64 }
+        ensures rounds { self.new.rounds ≡ self.old.rounds }
+        ensures datagrams { self.new.datagrams ≡ self.old.datagrams }
+        ensures failed { self.new.failed ≡ self.old.failed }
+        ensures counted { outcome_count self.new ≡ outcome_count self.old + 1 }
+        ensures exchanged { self.new.replies + self.new.busy
+            ≡ self.old.replies + self.old.busy + cond (is_exchanged outcome.now) 1 0 }
+    {
+        match outcome {
+            Outcome::Dropped(_) => self.drops += 1,
+            Outcome::Busy => self.busy += 1,
+            Outcome::NoMemory => self.nomemory += 1,
+            Outcome::Reply(_) => self.replies += 1,
         }
     }
 }

@@ -14,6 +14,7 @@ use rand_core::Rng;
 use std::sync::Wait;
 use std::thread::Threads;
 
+#[tactic(auto, using(crate::proofs::ServingLemmas::nothing_served, crate::proofs::ServingLemmas::one_more_turn, crate::proofs::ServingLemmas::served_all, crate::proofs::ServingLemmas::served_until))]
 /// Answers the datagrams that come to ports, in so many turns, by at most so many workers, from 1 to `WORKERS_MAX`.
 ///
 /// A turn waits, receives until no datagram waits or there are `ARRIVALS_MAX`, takes 16 octets of `random` for each datagram, in order

@@ -1,7 +1,7 @@
 //! One turn: datagrams are received, answered in a round, and their replies sent.
-ghost use Rattle.std.specs.Prelude.{◌≡◌, ◌≤◌, ◌<◌, IfErr, IfOk, OnErr};
+ghost use Rattle.std.specs.Prelude.{◌≡◌, ◌≤◌, ◌<◌, IfErr, IfNone, IfOk, IfSome, OnErr};
 ghost use Rattle.rad_shell.specs.Rounds.{workers_max};
-ghost use Rattle.rad_shell.specs.Serving.{AddUp, IsCounted, IsMade, IsTurn, turns_max};
+ghost use Rattle.rad_shell.specs.Serving.{AddUp, IsCounted, IsRoundMade, IsTurn, turns_max};
 
 use crate::gate::Gate;
 use crate::mismatch::Mismatch;
@@ -16,6 +16,7 @@ use rand_core::Rng;
 use std::sync::Wait;
 use std::thread::Threads;
 
+#[tactic(auto, using(crate::proofs::ServingLemmas::lost_turn, crate::proofs::ServingLemmas::failed_turn, crate::proofs::ServingLemmas::made_turn, crate::proofs::ServingLemmas::unsent_turn))]
 /// Makes a turn, and adds it to the sums.
 ///
 /// The room for datagrams is made if it isn't there yet. If memory for it is refused, the turn receives nothing, and its round is lost.
@@ -63,6 +64,7 @@ pub(crate) fn make_turn<R: Threads + Wait + Sync, P: Ports, D: Rng, G: Gate + Sy
 }
 
 // The outcomes of what was received, in a round; none if the round is lost.
+#[tactic(auto, using(crate::proofs::ServingLemmas::round_made))]
 fn answer<R: Threads + Wait + Sync, G: Gate + Sync>(
     service: &mut Service,
     rt: &R,
@@ -71,6 +73,10 @@ fn answer<R: Threads + Wait + Sync, G: Gate + Sync>(
     workers: u64,
 ) -> Result<Option<Vec<Outcome>>, Mismatch>
     requires workers { (1 ≤ workers) × (workers ≤ workers_max) }
+    ensures made { IfOk result (λ made. IfSome made (λ outcomes.
+        IsRoundMade service.old outcomes.items service.new)) }
+    ensures lost { IfOk result (λ made. IfNone made (service.new ≡ service.old)) }
+    ensures unchanged { OnErr result (service.new ≡ service.old) }
 {
     let Ok(arrivals) = received.arrivals(service.alloc()) else {
         return Ok(None);

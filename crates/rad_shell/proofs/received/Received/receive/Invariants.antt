@@ -1,0 +1,17 @@
+use Rattle.std.proofs.Common.{◌≡◌, ◌≤◌, ◌*◌, All, vec_capacity, vec_len}
+use Rattle.rad_shell.specs.Serving.{IsReceived, octet_count}
+use Rattle.rad_shell.proofs.received.Received.receive.Given as goal
+
+-- each datagram so far took at most 4096 octets of the room
+abbrev pub invariant-loop : goal.invariant-loop
+invariant-loop g l =
+    record {
+      counted : g.P.Ports.failures l.fn.ports ≤ g.P.Ports.failures l.ports;
+      used : vec_len l.self.octets ≤ 4096 * l.counter;
+      taken : vec_len l.self.got ≡ l.counter;
+      octets_fit : 2097152 ≤ vec_capacity l.self.octets;
+      got_fit : 512 ≤ vec_capacity l.self.got;
+      draws_fit : 512 ≤ vec_capacity l.self.draws;
+      all : All IsReceived l.self.got.items;
+      sum : octet_count l.self.got.items ≡ vec_len l.self.octets;
+    }
