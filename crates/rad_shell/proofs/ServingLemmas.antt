@@ -1,6 +1,6 @@
 -- Serving: a round has an entry for each outcome of an exchange, and turns go on from one another.
 use Rattle.std.proofs.Common.{◌≡◌, ◌≢◌, ◌<◌, ◌≤◌, ℕ, zero, suc, ◌+◌, Bool, true, false, cond, List, [], ◌∷◌, ◌++◌, length, take, drop, get_or, All, Some, Result, Ok, Err, slice_get, arith, refl, sym, ap, subst, ◌∙◌}
-use Rattle.std.specs.Prelude.{IfOk, OnOk, filter, tt}
+use Rattle.std.specs.Prelude.{IfOk, OnOk, filter}
 use Rattle.std.proofs.lemmas.Option.{get_or_from_slice_get, none-some, slice_get-get_or, slice_get_within}
 use Rattle.std.proofs.lemmas.List.{take_all}
 use Rattle.std.proofs.lemmas.List.Filters.{length-filter_more}
@@ -157,7 +157,7 @@ entry_of clients history number timed (Reply frame) is exchanged = (is.0, is.1, 
 pub entries_of_round : (before : Server) (arrivals : List Timed) (outcomes : List Outcome) (history : List Entry) (after : Server)
     → Round before arrivals outcomes history after → length history ≡ exchange_count outcomes
 entries_of_round before arrivals outcomes history after round =
-    sym (tally_all history (length outcomes) within) ∙ up_to (length outcomes) (omega arith) ∙ ap exchange_count (take_all outcomes (length outcomes) (omega arith))
+    sym (tally_all history (length outcomes) within) ∙ up_to (length outcomes) (omega arith) ∙ ap exchange_count (take_all (length outcomes) outcomes (omega arith))
   where
     clients : List Client
     clients = before.configuration.clients
@@ -296,14 +296,14 @@ served_all turns before served after repeats laws valid lawful so_far sums round
 }
 
 -- turns until a fault
-pub served_until : (turns : ℕ) (before : Server) (served : Served) (middle : Server) (fault : ServeFault) (after : Server) (served_after : Served)
+pub served_until : (turns : ℕ) (before : Server) (served : Served) (middle : Server) (fault reported : ServeFault) (after : Server) (served_after : Served)
     → RunsRepeat → RunsAreLawful → IsConfiguration before.configuration → IsLawful before.configuration before.state
-    → HasServed before served middle → IsTurn middle served (Err fault) after served_after → IsServed turns before (Err fault) after
-served_until turns before served middle fault after served_after repeats laws valid lawful so_far turn =
+    → HasServed before served middle → IsTurn middle served (Err fault) after served_after → IsServed turns before (Err reported) after
+served_until turns before served middle fault reported after served_after repeats laws valid lawful so_far turn =
     let history = so_far.history ++ turn.history in record {
-  history = history;
-  run = history_append before so_far.history middle turn.history after so_far.run turn.run;
-  repeat = repeats before.configuration before.state history valid lawful;
-  lawful = laws before.configuration before.state history valid lawful;
-  sums = tt;
-}
+      history = history;
+      run = history_append before so_far.history middle turn.history after so_far.run turn.run;
+      repeat = repeats before.configuration before.state history valid lawful;
+      lawful = laws before.configuration before.state history valid lawful;
+      sums = tt;
+    }

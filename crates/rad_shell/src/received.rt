@@ -45,8 +45,8 @@ impl Received {
         self.got.len()
     }
 
-    #[tactic(auto, using(crate::proofs::ServingLemmas::octets_more))]
     /// Receives until no datagram waits or a round is full. What was there before is dropped. It takes no memory.
+    #[tactic(auto, using(crate::proofs::ServingLemmas::octets_more))]
     pub fn receive<P: Ports>(&mut self, ports: &mut P) -> Result<(), PortFault>
         ensures counted { P.failures ports.old ≤ P.failures ports.new }
         ensures fault { IfErr result (λ _. P.failures ports.old < P.failures ports.new) }

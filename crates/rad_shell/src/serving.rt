@@ -14,13 +14,13 @@ use rand_core::Rng;
 use std::sync::Wait;
 use std::thread::Threads;
 
-#[tactic(auto, using(crate::proofs::ServingLemmas::nothing_served, crate::proofs::ServingLemmas::one_more_turn, crate::proofs::ServingLemmas::served_all, crate::proofs::ServingLemmas::served_until))]
 /// Answers the datagrams that come to ports, in so many turns, by at most so many workers, from 1 to `WORKERS_MAX`.
 ///
 /// A turn waits, receives until no datagram waits or there are `ARRIVALS_MAX`, takes 16 octets of `random` for each datagram, in order
 /// of arrival, makes a round of them, and sends the replies in that order. If memory is refused for a round, its datagrams are lost, and
 /// the next turn goes on with the server as it was. A fault ends the turns: `ServeFault::Receive` or `ServeFault::Send` if a port failed,
 /// `ServeFault::Mismatch` if a round did. The call may wait.
+#[tactic(auto, using(crate::proofs::ServingLemmas::nothing_served, crate::proofs::ServingLemmas::one_more_turn, crate::proofs::ServingLemmas::served_all))]
 pub fn run_rounds<R: Threads + Wait + Sync, P: Ports, D: Rng, G: Gate + Sync>(
     service: &mut Service,
     rt: &R,

@@ -16,10 +16,10 @@ use rand_core::Rng;
 use std::sync::Wait;
 use std::thread::Threads;
 
-#[tactic(auto, using(crate::proofs::ServingLemmas::lost_turn, crate::proofs::ServingLemmas::failed_turn, crate::proofs::ServingLemmas::made_turn, crate::proofs::ServingLemmas::unsent_turn))]
 /// Makes a turn, and adds it to the sums.
 ///
 /// The room for datagrams is made if it isn't there yet. If memory for it is refused, the turn receives nothing, and its round is lost.
+#[tactic(auto, using(crate::proofs::ServingLemmas::lost_turn, crate::proofs::ServingLemmas::failed_turn, crate::proofs::ServingLemmas::made_turn, crate::proofs::ServingLemmas::unsent_turn))]
 pub(crate) fn make_turn<R: Threads + Wait + Sync, P: Ports, D: Rng, G: Gate + Sync>(
     service: &mut Service,
     rt: &R,

@@ -9,5 +9,5 @@ invariant-loop-i l =
     record {
       made : vec_len l.arrivals ≡ l.i;
       moments : AreMoments l.arrivals.items;
-      left : length l.rest ≡ octet_count (drop l.i l.self.now.got.items);
+      left : length l.rest ≡ octet_count (drop l.i l.self.got.items);
     }
