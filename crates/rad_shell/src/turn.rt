@@ -4,14 +4,14 @@ ghost use Rattle.rad_shell.specs.Rounds.{workers_max};
 ghost use Rattle.rad_shell.specs.Serving.{AddUp, IsCounted, IsRoundMade, IsTurn, turns_max};
 
 use crate::gate::Gate;
-use crate::mismatch::Mismatch;
-use crate::outcome::Outcome;
 use crate::ports::Ports;
 use crate::received::Received;
+use crate::round::Done;
 use crate::round_fault::RoundFault;
 use crate::serve_fault::ServeFault;
 use crate::served::Served;
 use crate::service::Service;
+use rad_desk::Mismatch;
 use rand_core::Rng;
 use std::sync::Wait;
 use std::thread::Threads;
@@ -49,21 +49,22 @@ pub(crate) fn make_turn<R: Threads + Wait + Sync, P: Ports, D: Rng, G: Gate + Sy
         return Err(ServeFault::Receive);
     }
     received.draw(random);
-    let Ok(outcomes) = answer(service, rt, received, gate, workers) else {
+    let Ok(done) = answer(service, rt, received, gate, workers) else {
         return Err(ServeFault::Mismatch);
     };
-    let Some(outcomes) = outcomes else {
+    let Some(done) = done else {
         served.add_lost(received.len());
         return Ok(());
     };
-    served.add_outcomes(&outcomes);
-    if received.reply(ports, &outcomes).is_err() {
+    served.add_outcomes(&done.outcomes);
+    if received.reply(ports, &done.outcomes).is_err() {
         return Err(ServeFault::Send);
     }
+    service.reuse(done);
     Ok(())
 }
 
-// The outcomes of what was received, in a round; none if the round is lost.
+// What a round of the received datagrams made; none if the round is lost.
 #[tactic(auto, using(crate::proofs::ServingLemmas::round_made))]
 fn answer<R: Threads + Wait + Sync, G: Gate + Sync>(
     service: &mut Service,
@@ -71,10 +72,10 @@ fn answer<R: Threads + Wait + Sync, G: Gate + Sync>(
     received: &Received,
     gate: &G,
     workers: u64,
-) -> Result<Option<Vec<Outcome>>, Mismatch>
+) -> Result<Option<Done>, Mismatch>
     requires workers { (1 ≤ workers) × (workers ≤ workers_max) }
-    ensures made { IfOk result (λ made. IfSome made (λ outcomes.
-        IsRoundMade service.old outcomes.items service.new)) }
+    ensures made { IfOk result (λ made. IfSome made (λ done.
+        IsRoundMade service.old done.outcomes.items service.new)) }
     ensures lost { IfOk result (λ made. IfNone made (service.new ≡ service.old)) }
     ensures unchanged { OnErr result (service.new ≡ service.old) }
 {
@@ -82,7 +83,7 @@ fn answer<R: Threads + Wait + Sync, G: Gate + Sync>(
         return Ok(None);
     };
     match service.round(rt, &arrivals, workers, gate) {
-        Ok(done) => Ok(Some(done.outcomes)),
+        Ok(done) => Ok(Some(done)),
         Err(RoundFault::Mismatch(mismatch)) => Err(mismatch),
         Err(RoundFault::NoMemory | RoundFault::NoThread) => Ok(None),
     }
