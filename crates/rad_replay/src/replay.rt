@@ -49,8 +49,8 @@ pub fn run_replay<R: Read, W: Write>(
     answer_lines(alloc, &config, datagrams, writer)
 }
 
-// Reads all that there is, one octet more than allowed at most.
-fn read_text<R: Read>(alloc: Global, reader: &mut R) -> Result<Vec<u8>, RunFault>
+/// Reads all that there is. It takes one octet more than the `TEXT_MAX` that are allowed, at most.
+pub fn read_text<R: Read>(alloc: Global, reader: &mut R) -> Result<Vec<u8>, RunFault>
     ensures read { IfOk result (λ text.
         Consumes (R.remaining reader.old) (R.remaining reader.new) text.items) }
     ensures end { OnOk result (IsAtEnd (R.remaining reader.new)) }

@@ -1,8 +1,10 @@
 //! The command line: what it may say, and what is then done.
 
+use crate::serve_command::{Serve, serve_command};
 use clap::error::ErrorKind;
 use clap::{Arg, ArgAction, ArgMatches, Command, value_parser};
 use rad_replay::{KINDS, Kind, Make, MakeFault, RunFault, run_replay};
+use rad_serve::{Options, ServeError};
 use std::alloc::{AllocError, Global};
 use std::convert::AsStr;
 use std::process::ExitCode;
@@ -21,8 +23,9 @@ const PROGRAM_EXAMPLES: &str = "\
 Examples:
   radpool make --kind account --secret xyzzy5461 --id 7
   radpool replay < examples/requests.txt
+  radpool serve --config radpool.toml --seed radpool.seed
 
-'radpool make --help' and 'radpool replay --help' say more.";
+'radpool COMMAND --help' says more of a command.";
 
 const REPLAY_EXAMPLE: &str = "\
 The transcript has a configuration, a line '---', and a line for each datagram:
@@ -41,6 +44,16 @@ Examples:
 enum Task<'a> {
     Replay,
     Make(Make<'a>),
+    Serve(Serve<'a>),
+}
+
+/// What comes after the reading of the command line, and after a command that is done at once.
+#[derive(Drop)]
+pub enum Next {
+    /// To end with this status.
+    End(ExitCode),
+    /// To serve.
+    Serve(Options),
 }
 
 /// Why a run ended without having done what was asked.
@@ -50,6 +63,8 @@ pub enum Fault {
     CommandLine(clap::Error),
     /// A command came to its fault, or memory was refused.
     Run(RunFault),
+    /// Serving came to its fault.
+    Serve(ServeError),
 }
 
 impl From<clap::Error> for Fault {
@@ -74,11 +89,11 @@ impl From<RunFault> for Fault {
     }
 }
 
-/// Does what the words after the program's name ask for, and returns the exit status.
-pub fn run<R: Env + Input + Print + Eprint + AllocGlobal>(rt: &R) -> ExitCode {
+/// Does what the words after the program's name ask for, except serving, which is left to the caller.
+pub fn run<R: Env + Input + Print + Eprint + AllocGlobal>(rt: &R) -> Next {
     match try_run(rt) {
-        Ok(()) => ExitCode::SUCCESS,
-        Err(fault) => report(rt, fault),
+        Ok(next) => next,
+        Err(fault) => Next::End(report(rt, fault)),
     }
 }
 
@@ -93,16 +108,21 @@ pub fn report<R: Eprint>(rt: &R, fault: Fault) -> ExitCode {
             let _ = eprintln!(rt; "radpool: {fault}");
             ExitCode::from(RUN_FAULT)
         }
+        Fault::Serve(fault) => {
+            let _ = eprintln!(rt; "radpool: {fault}");
+            ExitCode::from(RUN_FAULT)
+        }
     }
 }
 
-fn try_run<R: Env + Input + Print + AllocGlobal>(rt: &R) -> Result<(), Fault> {
+fn try_run<R: Env + Input + Print + AllocGlobal>(rt: &R) -> Result<Next, Fault> {
     let words = words(rt)?;
     match task_of(rt.alloc(), words.as_slice())? {
         Task::Replay => run_replay(rt.alloc(), &mut rt.reader(), &mut io::writer(rt))?,
         Task::Make(make) => print_request(rt, make)?,
+        Task::Serve(serve) => return Ok(Next::Serve(serve.options(rt.alloc())?)),
     }
-    Ok(())
+    Ok(Next::End(ExitCode::SUCCESS))
 }
 
 // The words of the command line, the program's name first.
@@ -156,6 +176,7 @@ fn task_in<'a>(matches: &ArgMatches<'a>) -> Option<Task<'a>> {
     match matches.subcommand()? {
         ("replay", _) => Some(Task::Replay),
         ("make", found) => Some(Task::Make(make_in(found)?)),
+        ("serve", found) => Some(Task::Serve(Serve::given(found)?)),
         _ => None,
     }
 }
@@ -178,14 +199,15 @@ fn make_in<'a>(found: &ArgMatches<'a>) -> Option<Make<'a>> {
 // The whole command line.
 fn program<'a>(alloc: Global) -> Result<Command<'a>, AllocError> {
     Command::new(alloc, "radpool")
-        .about("A RADIUS server, which for now answers transcripts of datagrams")
+        .about("A RADIUS server, which answers over UDP or from a transcript of datagrams")
         .version(VERSION)
         .after_help(PROGRAM_EXAMPLES)
         .subcommand_required(true)
         .arg_required_else_help(true)
         .disable_help_subcommand(true)
         .subcommand(replay_command(alloc))?
-        .subcommand(make_command(alloc)?)
+        .subcommand(make_command(alloc)?)?
+        .subcommand(serve_command(alloc)?)
 }
 
 fn replay_command<'a>(alloc: Global) -> Command<'a> {
@@ -264,7 +286,7 @@ fn attribute_options<'a>(alloc: Global, command: Command<'a>) -> Result<Command<
     )
 }
 
-// An option with a value.
-fn option<'a>(alloc: Global, name: &'a str, value: &'a str) -> Arg<'a> {
+/// An option with a value.
+pub fn option<'a>(alloc: Global, name: &'a str, value: &'a str) -> Arg<'a> {
     Arg::new(alloc, name).long(name).value_name(value)
 }

@@ -1,13 +1,18 @@
-//! `radpool`: a RADIUS server. Its commands are `replay`, which answers the datagrams of a transcript, and `make`, which makes
-//! such datagrams.
+//! `radpool`: a RADIUS server. Its commands are `serve`, which answers over UDP, `replay`, which answers the datagrams of a
+//! transcript, and `make`, which makes such datagrams.
 #![tactic(auto)]
 
 mod command;
+mod serve_command;
 #[cfg(test)]
 mod tests;
 
+use command::Next;
 use std::process::ExitCode;
 
 fn main(rt: HostRuntime) -> ExitCode {
-    command::run(&rt)
+    match command::run(&rt) {
+        Next::End(status) => status,
+        Next::Serve(options) => serve_command::run_server(&rt, &options),
+    }
 }

@@ -1,0 +1,50 @@
+//! The files of `serve`.
+
+use crate::serve_error::ServeError;
+use rad_config::Config;
+use rad_replay::{RunFault, read_configuration, read_text};
+use std::alloc::AllocGlobal;
+use std::fs;
+use std::io::Read;
+use std::rt::Files;
+
+/// The octets of a seed.
+const SEED_SIZE: usize = 32;
+
+/// The configuration that a file says. It has as many octets as a transcript may have, at most.
+pub(crate) fn open_configuration<R: Files + AllocGlobal>(
+    rt: &R,
+    path: &str,
+) -> Result<Config, ServeError> {
+    let mut file = match fs::open(rt, path) {
+        Ok(file) => file,
+        Err(_) => return Err(ServeError::ConfigUnreadable),
+    };
+    match read_text(rt.alloc(), &mut file) {
+        Ok(text) => Ok(read_configuration(rt.alloc(), &text)?),
+        Err(RunFault::NoMemory) => Err(ServeError::NoMemory),
+        Err(_) => Err(ServeError::ConfigUnreadable),
+    }
+}
+
+/// The seed that a file has.
+pub(crate) fn open_seed<R: Files>(rt: &R, path: &str) -> Result<[u8; SEED_SIZE], ServeError> {
+    let mut file = match fs::open(rt, path) {
+        Ok(file) => file,
+        Err(_) => return Err(ServeError::SeedUnreadable),
+    };
+    match read_seed(&mut file) {
+        Some(seed) => Ok(seed),
+        None => Err(ServeError::SeedUnreadable),
+    }
+}
+
+// The seed of a reader that has one, and nothing after it.
+fn read_seed<R: Read>(reader: &mut R) -> Option<[u8; SEED_SIZE]> {
+    let mut seed = [0; SEED_SIZE];
+    reader.read_exact(&mut seed).ok()?;
+    match reader.read(&mut [0]) {
+        Ok(0) => Some(seed),
+        _ => None,
+    }
+}

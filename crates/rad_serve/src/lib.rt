@@ -1,0 +1,21 @@
+//! Serving over UDP: the two sockets of a server, and the command that answers what comes to them.
+//!
+//! `UdpPorts` are the only sockets of this repository, and decide nothing: what is answered is `rad_shell`'s `run_rounds`. What a
+//! failed call on a socket means is one table, `failure_of`. `serve` reads its two files, binds the ports and runs the rounds.
+//!
+//! No contract can say what a socket, a clock or a file gives.
+#![tactic(auto)]
+
+mod failure;
+mod input;
+mod options;
+mod receive_buffer;
+mod serve_error;
+mod serving;
+mod udp_ports;
+
+pub use failure::{Failure, failure_of};
+pub use options::{Options, Workers};
+pub use serve_error::ServeError;
+pub use serving::serve;
+pub use udp_ports::{BindFault, UdpPorts};

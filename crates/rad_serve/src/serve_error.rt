@@ -1,0 +1,57 @@
+//! Why serving ended early, or never began.
+
+use crate::udp_ports::BindFault;
+use rad_config::ConfigFault;
+use rad_shell::ServeFault;
+use std::alloc::AllocError;
+use thiserror::Error;
+
+/// Why `serve` ended before its last round. The first five are reported in this order, before anything is served.
+#[derive(Clone, Copy, Debug, PartialEq, Eq, Error)]
+pub enum ServeError {
+    /// The configuration can't be read, or has more than 16,777,216 octets.
+    #[error("config unreadable")]
+    ConfigUnreadable,
+    /// The configuration has a fault.
+    #[error(transparent)]
+    Config(ConfigFault),
+    /// The seed can't be read, or doesn't have exactly 32 octets.
+    #[error("seed unreadable")]
+    SeedUnreadable,
+    /// Memory was refused before the first turn.
+    #[error("out of memory")]
+    NoMemory,
+    /// A port can't be bound.
+    #[error("bind failed")]
+    Bind,
+    /// The rounds ended with a fault.
+    #[error(transparent)]
+    Rounds(ServeFault),
+}
+
+impl From<ConfigFault> for ServeError {
+    fn from(fault: ConfigFault) -> ServeError {
+        ServeError::Config(fault)
+    }
+}
+
+impl From<AllocError> for ServeError {
+    fn from(_error: AllocError) -> ServeError {
+        ServeError::NoMemory
+    }
+}
+
+impl From<BindFault> for ServeError {
+    fn from(fault: BindFault) -> ServeError {
+        match fault {
+            BindFault::NoMemory => ServeError::NoMemory,
+            BindFault::Bind => ServeError::Bind,
+        }
+    }
+}
+
+impl From<ServeFault> for ServeError {
+    fn from(fault: ServeFault) -> ServeError {
+        ServeError::Rounds(fault)
+    }
+}

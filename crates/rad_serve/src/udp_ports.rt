@@ -1,0 +1,244 @@
+//! The authentication port and the accounting port as UDP sockets.
+ghost use Rattle.std.specs.Prelude.{◌≡◌, ◌≤◌, ◌<◌, IfErr, IfOk, IfSome, IsTrue};
+ghost use Rattle.rad_config.specs.Spans.{moment_max};
+ghost use Rattle.rad_shell.specs.Serving.{IsReceived};
+
+use crate::failure::{Failure, failure_of};
+use crate::receive_buffer::ask_for_room;
+use mio::net::UdpSocket;
+use mio::{Events, Interest, Poll, Token};
+use rad_auth::Door;
+use rad_config::MOMENT_MAX;
+use rad_shell::{Got, PortFault, Ports, RECEIVED_MAX};
+use std::alloc::{AllocError, AllocGlobal};
+use std::io;
+use std::net::{Ipv4Addr, Net, SocketAddr, SocketAddrV4};
+use std::sync::Wait;
+use std::time::{Clock, Duration};
+use thiserror::Error;
+
+/// The events of the two sockets.
+const AUTH: Token = Token(0);
+
+const ACCT: Token = Token(1);
+
+/// How long a turn waits at most.
+const WAIT_SECONDS: u64 = 1;
+
+/// Why there are no ports.
+#[derive(Clone, Copy, Debug, PartialEq, Eq, Error)]
+pub enum BindFault {
+    /// Memory was refused.
+    #[error("out of memory")]
+    NoMemory,
+    /// A socket can't be made or bound: the port is taken or not allowed, or the address isn't this machine's.
+    #[error("bind failed")]
+    Bind,
+}
+
+impl From<AllocError> for BindFault {
+    fn from(_error: AllocError) -> BindFault {
+        BindFault::NoMemory
+    }
+}
+
+impl From<io::Error> for BindFault {
+    fn from(_error: io::Error) -> BindFault {
+        BindFault::Bind
+    }
+}
+
+/// The two UDP sockets of a server, and the clock that tells when a datagram came.
+///
+/// The authentication socket is emptied before the accounting socket. Each failed call is counted, except one that only would have
+/// to wait; those that concern one datagram aren't reported as faults (`failure_of`).
+#[derive(Drop)]
+pub struct UdpPorts<'r, C> {
+    clock: &'r C,
+    poll: Poll,
+    events: Events,
+    auth: UdpSocket,
+    acct: UdpSocket,
+    // Whether a socket may have a datagram. The system tells of a datagram once, so only a call that would block clears the mark:
+    // with another rule a datagram that is left over would wait for the next one.
+    auth_may: bool,
+    acct_may: bool,
+    failures: u64,
+}
+
+impl<'r, C: Clock> UdpPorts<'r, C> {
+    /// Binds the two ports of an address, most significant octet first. Port 0 is any free one.
+    pub fn bind(rt: &'r C, address: u32, auth: u16, acct: u16) -> Result<UdpPorts<'r, C>, BindFault>
+    where
+        C: Net + AllocGlobal,
+    {
+        let events = Events::with_capacity(rt.alloc(), 2)?;
+        let poll = Poll::new(rt)?;
+        let auth = bind_socket(rt, &poll, AUTH, address, auth)?;
+        let acct = bind_socket(rt, &poll, ACCT, address, acct)?;
+        Ok(UdpPorts {
+            clock: rt,
+            poll,
+            events,
+            auth,
+            acct,
+            auth_may: true,
+            acct_may: true,
+            failures: 0,
+        })
+    }
+
+    fn socket(&self, door: Door) -> &UdpSocket {
+        match door {
+            Door::Auth => &self.auth,
+            Door::Acct => &self.acct,
+        }
+    }
+
+    fn set_may(&mut self, door: Door, may: bool)
+        ensures { self.new.failures ≡ self.old.failures }
+    {
+        match door {
+            Door::Auth => self.auth_may = may,
+            Door::Acct => self.acct_may = may,
+        }
+    }
+
+    // Counts a failure, up to the last count. Whether it was counted.
+    fn count(&mut self) -> bool
+        ensures counted { self.old.failures ≤ self.new.failures }
+        ensures risen { IsTrue result → self.old.failures < self.new.failures }
+    {
+        if self.failures == u64::MAX {
+            return false;
+        }
+        self.failures += 1;
+        true
+    }
+
+    // Counts a failed call, and reports it if the socket can't be used.
+    fn judge(&mut self, error: &io::Error) -> Result<(), PortFault>
+        ensures counted { self.old.failures ≤ self.new.failures }
+        ensures fault { IfErr result (λ _. self.old.failures < self.new.failures) }
+    {
+        match failure_of(error) {
+            Failure::WouldBlock => Ok(()),
+            Failure::Datagram => {
+                self.count();
+                Ok(())
+            }
+            Failure::Socket if self.count() => Err(PortFault),
+            Failure::Socket => Ok(()),
+        }
+    }
+
+    // The moment, in milliseconds since 1970.
+    fn moment(&self) -> u64
+        ensures { result ≤ moment_max }
+    {
+        match self.clock.since_1970() {
+            Ok(time) => u64::try_from(time.as_millis())
+                .unwrap_or(MOMENT_MAX)
+                .min(MOMENT_MAX),
+            Err(_) => 0,
+        }
+    }
+
+    // Receives from one socket, unless it has nothing.
+    fn receive_at(
+        &mut self,
+        door: Door,
+        room: &mut [u8; RECEIVED_MAX],
+    ) -> Result<Option<Got>, PortFault>
+        ensures received { IfOk result (λ got. IfSome got IsReceived) }
+        ensures counted { self.old.failures ≤ self.new.failures }
+        ensures fault { IfErr result (λ _. self.old.failures < self.new.failures) }
+    {
+        match self.socket(door).recv_from(room) {
+            Ok((len, SocketAddr::V4(source))) => Ok(Some(Got {
+                source: source.ip().to_bits(),
+                port: source.port(),
+                door,
+                len,
+                moment: self.moment(),
+            })),
+            Ok(_) => Ok(None),
+            Err(error) => {
+                if failure_of(&error) == Failure::WouldBlock {
+                    self.set_may(door, false);
+                }
+                self.judge(&error)?;
+                Ok(None)
+            }
+        }
+    }
+}
+
+impl<'r, C: Clock> Ports for UdpPorts<'r, C> {
+    ghost failures = { λ ports. ports.failures };
+
+    fn wait<R: Wait>(&mut self, _rt: &R) {
+        if self.auth_may || self.acct_may {
+            return;
+        }
+        let second = Duration::from_secs(WAIT_SECONDS);
+        if self.poll.poll(&mut self.events, Some(second)).is_err() {
+            self.count();
+            self.clock.sleep(second);
+            return;
+        }
+        for event in &self.events {
+            if event.token() == AUTH {
+                self.auth_may = true;
+            } else {
+                self.acct_may = true;
+            }
+        }
+    }
+
+    fn receive(&mut self, room: &mut [u8; RECEIVED_MAX]) -> Result<Option<Got>, PortFault> {
+        if self.auth_may {
+            if let Some(got) = self.receive_at(Door::Auth, room)? {
+                return Ok(Some(got));
+            }
+        }
+        if self.acct_may {
+            return self.receive_at(Door::Acct, room);
+        }
+        Ok(None)
+    }
+
+    fn send(
+        &mut self,
+        door: Door,
+        address: u32,
+        port: u16,
+        octets: &[u8],
+    ) -> Result<(), PortFault> {
+        let to = SocketAddrV4::new(Ipv4Addr::from_bits(address), port);
+        match self.socket(door).send_to(octets, SocketAddr::V4(to)) {
+            Ok(_) => Ok(()),
+            Err(error) => self.judge(&error),
+        }
+    }
+
+    fn faults(&self) -> u64 {
+        self.failures
+    }
+}
+
+// A bound socket, of whose datagrams the poll tells.
+fn bind_socket<R: Net>(
+    rt: &R,
+    poll: &Poll,
+    token: Token,
+    address: u32,
+    port: u16,
+) -> io::Result<UdpSocket> {
+    let address = SocketAddrV4::new(Ipv4Addr::from_bits(address), port);
+    let mut socket = UdpSocket::bind(rt, SocketAddr::V4(address))?;
+    poll.registry()
+        .register(&mut socket, token, Interest::READABLE)?;
+    ask_for_room(&socket);
+    Ok(socket)
+}
