@@ -21,6 +21,11 @@ Example:
   head -c 32 /dev/urandom > radpool.seed
   radpool serve --config radpool.toml --seed radpool.seed";
 
+const BAD_ADDRESS: &str =
+    "invalid value for '--bind <ADDRESS>': four numbers from 0 to 255, separated by points, would fit";
+
+const BAD_WORKERS: &str = "invalid value for '--workers <N>': 1 to 8 would fit";
+
 /// The options of `serve`, as they are given.
 #[derive(Clone, Copy)]
 pub struct Serve<'a> {
@@ -50,14 +55,11 @@ impl<'a> Serve<'a> {
     /// What is to be served.
     pub fn options(&self, alloc: Global) -> Result<Options, Fault> {
         let Some(address) = decimal::address(self.bind.as_bytes()) else {
-            return Err(unfit(
-                alloc,
-                "invalid value for '--bind <ADDRESS>': an IPv4 address would fit",
-            ));
+            return Err(unfit(alloc, BAD_ADDRESS));
         };
         // `clap` has checked the number already.
         let Some(workers) = Workers::new(self.workers) else {
-            return Err(unfit(alloc, "invalid value for '--workers <N>': 1 to 8 would fit"));
+            return Err(unfit(alloc, BAD_WORKERS));
         };
         Ok(Options {
             config: self.config.to_string(alloc)?,

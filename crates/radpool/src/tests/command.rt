@@ -3,6 +3,7 @@
 use crate::command::Fault;
 use crate::tests::fake::Fake;
 use rad_replay::RunFault;
+use rad_serve::ServeError;
 use std::alloc::Global;
 use std::process::Abort;
 
@@ -202,14 +203,50 @@ Examples:
   radpool make --kind access --secret xyzzy5461 --user nemo --password arctangent
 ";
 
+const SERVE_HELP: &str = "\
+Answers requests that come to two UDP ports
+
+Usage: radpool serve [OPTIONS] --config <PATH> --seed <PATH>
+
+Options:
+      --config <PATH>   The configuration
+      --seed <PATH>     A file of 32 random octets, from which the States of challenges are drawn
+      --bind <ADDRESS>  The IPv4 address to listen on [default: 127.0.0.1]
+      --auth <PORT>     The authentication port [default: 1812]
+      --acct <PORT>     The accounting port [default: 1813]
+      --workers <N>     The most threads that answer at a time, 1 to 8 [default: 2]
+      --rounds <N>      The turns to make, 1 to 4294967295, each of which waits a second at most [default: 4294967295]
+  -h, --help            Print help
+";
+
 /// Command lines that are no command, and how the text on standard error begins.
-const FAULTS: [(&str, &str); 18] = [
+const FAULTS: [(&str, &str); 23] = [
     ("radpool", "A RADIUS server, "),
     ("radpool --help", "A RADIUS server, "),
     ("radpool --version", "radpool 0.1.0\n"),
     ("radpool replay --help", "Reads a transcript "),
     ("radpool make --help", MAKE_HELP),
-    ("radpool serve", "error: unrecognized subcommand 'serve'\n"),
+    ("radpool serve --help", SERVE_HELP),
+    (
+        "radpool server",
+        "error: unrecognized subcommand 'server'\n",
+    ),
+    (
+        "radpool serve",
+        "error: the following required arguments were not provided:\n  --config <PATH>\n  --seed <PATH>\n",
+    ),
+    (
+        "radpool serve --config x",
+        "error: the following required arguments were not provided:\n  --seed <PATH>\n",
+    ),
+    (
+        "radpool serve --config x --seed y --seed z",
+        "error: the argument '--seed <PATH>' cannot be used multiple times\n",
+    ),
+    (
+        "radpool serve --config x --seed y z",
+        "error: unexpected argument 'z' found\n",
+    ),
     ("radpool replay x", "error: unexpected argument 'x' found\n"),
     (
         "radpool replay --mac",
@@ -339,6 +376,84 @@ fn unfit_values(rt: HostRuntime) {
     for (options, value, text) in UNFIT.iter() {
         is_unfit(&rt, rt.alloc(), options, value, text);
     }
+}
+
+/// Options of `serve` that don't fit, and the text.
+const UNFIT_TO_SERVE: [(&str, &str); 10] = [
+    ("--bind 127.0.0.01", BAD_ADDRESS),
+    ("--bind localhost", BAD_ADDRESS),
+    ("--bind=", BAD_ADDRESS),
+    (
+        "--auth 65536",
+        "'65536' for '--auth <PORT>': 65536 is not in 0..=65535\n",
+    ),
+    (
+        "--acct x",
+        "'x' for '--acct <PORT>': invalid digit found in string\n",
+    ),
+    (
+        "--workers 0",
+        "'0' for '--workers <N>': 0 is not in 1..=8\n",
+    ),
+    (
+        "--workers 9",
+        "'9' for '--workers <N>': 9 is not in 1..=8\n",
+    ),
+    (
+        "--rounds 0",
+        "'0' for '--rounds <N>': 0 is not in 1..=4294967295\n",
+    ),
+    (
+        "--rounds 4294967296",
+        "'4294967296' for '--rounds <N>': 4294967296 is not in 1..=4294967295\n",
+    ),
+    (
+        "--rounds=-1",
+        "'-1' for '--rounds <N>': invalid digit found in string\n",
+    ),
+];
+
+const BAD_ADDRESS: &str =
+    "for '--bind <ADDRESS>': four numbers from 0 to 255, separated by points, would fit\n";
+
+fn is_unfit_to_serve(rt: &impl Abort, alloc: Global, options: &str, text: &str) {
+    let line = ["radpool serve --config x --seed y ", options].concat(alloc);
+    let line = line.expect(rt, options);
+    let text = ["error: invalid value ", text].concat(alloc);
+    let text = text.expect(rt, options);
+    Fake::new(alloc, line.as_bytes()).ends(rt, 2, "", &text);
+}
+
+#[test]
+fn unfit_values_of_serve(rt: HostRuntime) {
+    for (options, text) in UNFIT_TO_SERVE.iter() {
+        is_unfit_to_serve(&rt, rt.alloc(), options, text);
+    }
+}
+
+/// Lines that serve, and the options: the paths, the address, the ports, the workers and the rounds.
+const SERVED: [(&str, &str); 2] = [
+    (
+        "radpool serve --seed y --config x",
+        "x y 7f000001 1812 1813 2 4294967295",
+    ),
+    (
+        "radpool serve --config x --seed y --bind 10.1.2.3 --auth 0 --acct 65535 --workers 8 --rounds 1",
+        "x y a010203 0 65535 8 1",
+    ),
+];
+
+#[test]
+fn serves(rt: HostRuntime) {
+    for (line, options) in SERVED.iter() {
+        Fake::new(rt.alloc(), line.as_bytes()).serves(&rt, options);
+    }
+}
+
+#[test]
+fn a_fault_of_serving(rt: HostRuntime) {
+    let fault = Fault::Serve(ServeError::Bind);
+    Fake::new(rt.alloc(), b"a report").reports(&rt, fault, 1, "radpool: bind failed\n");
 }
 
 /// Inputs of a replay, the output, the text on standard error, and the status.

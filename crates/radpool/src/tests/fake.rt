@@ -1,6 +1,7 @@
 //! A runtime over memory.
 
-use crate::command::{Fault, report, run};
+use crate::command::{Fault, Next, report, run};
+use rad_serve::Options;
 use std::alloc::{Allocator, Global};
 use std::cell::RefCell;
 use std::env::FillError;
@@ -137,8 +138,28 @@ impl<'a> Fake<'a> {
 
     /// Runs, and asserts the status, the whole output, and how the error's text begins.
     pub fn ends(self, rt: &impl Abort, status: u8, out: &str, err: &str) {
-        let ended = run(&self);
-        self.has_said(rt, ended == ExitCode::from(status), out, err);
+        let is_status = match run(&self) {
+            Next::End(ended) => ended == ExitCode::from(status),
+            Next::Serve(_) => false,
+        };
+        self.has_said(rt, is_status, out, err);
+    }
+
+    /// Runs, and asserts what is to be served.
+    pub fn serves(self, rt: &impl Abort, wanted: &str) {
+        let alloc = self.alloc;
+        let told = match run(&self) {
+            Next::End(_) => None,
+            Next::Serve(options) => told(alloc, &options),
+        };
+        let told = told.unwrap_or(String::new(alloc));
+        is_said(
+            rt,
+            told.as_str() == wanted,
+            "options",
+            wanted,
+            told.as_str(),
+        );
     }
 
     /// Reports a fault, and asserts the status and how the error's text begins.
@@ -157,6 +178,22 @@ impl<'a> Fake<'a> {
         is_said(rt, said.as_str() == out, "output", line, said.as_str());
         is_said(rt, is_error, "error", line, said_of_error.as_str());
     }
+}
+
+/// The options as words.
+fn told(alloc: Global, options: &Options) -> Option<String> {
+    let Options {
+        config,
+        seed,
+        address,
+        auth,
+        acct,
+        workers,
+        rounds,
+    } = options;
+    let workers = workers.count();
+    let told = format!(in alloc; "{config} {seed} {address:x} {auth} {acct} {workers} {rounds}");
+    told.ok()
 }
 
 /// Asserts that what a line says is right, or ends with what it was.
