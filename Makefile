@@ -1,4 +1,4 @@
-.PHONY: demo refused-memory test try
+.PHONY: demo port-0 refused-memory test try
 
 # Runs radpool on the shipped transcript without a proof, and prints what it answered.
 try:
@@ -17,6 +17,10 @@ demo:
 # needs cc.
 refused-memory:
 	trials/refused_memory/run
+
+# Sends requests from port 0 to the program that `make demo` leaves. It needs Python 3, and leave to open a raw socket.
+port-0:
+	trials/port_0/run
 
 # Proves everything from nothing, tries the must-fail edits, and runs the tests and the programs. The run of radpool is the
 # example, the list in docs/PROVED.md is the one that docs/definitions makes, and before all, a replay whose configuration is refused
