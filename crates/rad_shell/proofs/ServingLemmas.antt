@@ -1,10 +1,8 @@
 -- Serving: a round has an entry for each outcome of an exchange, and turns go on from one another.
-use Rattle.std.proofs.Common.{◌≡◌, ◌≢◌, ◌<◌, ◌≤◌, ℕ, zero, suc, ◌+◌, Bool, true, false, cond, List, [], ◌∷◌, ◌++◌, length, take, drop, get_or, All, Some, Result, Ok, Err, slice_get, arith, refl, sym, ap, subst, ◌∙◌}
-use Rattle.std.specs.Prelude.{IfOk, OnOk, filter}
+use Rattle.std.proofs.Common.{◌≡◌, ◌≢◌, ◌<◌, ◌≤◌, ℕ, zero, suc, ◌+◌, Bool, true, false, cond, List, [], ◌∷◌, ◌++◌, length, take, drop, get_or, Some, Ok, Err, slice_get, arith, refl, sym, ap, subst, ◌∙◌}
 use Rattle.std.proofs.lemmas.Option.{get_or_from_slice_get, none-some, slice_get-get_or, slice_get_within}
 use Rattle.std.proofs.lemmas.List.{take_all}
 use Rattle.std.proofs.lemmas.List.Filters.{length-filter_more}
-use Rattle.std.proofs.lemmas.List.Elements.{All-head, All-tail}
 use Rattle.std.proofs.lemmas.List.Sums.{sum_by-drop_more, sum_by_push}
 use Rattle.rad_auth.specs.Clients.{Client}
 use Rattle.rad_config.specs.Configurations.{Configuration}
@@ -15,8 +13,8 @@ use Rattle.rad_server.specs.Runs.{IsHistory, Run, RunsAreLawful}
 use Rattle.rad_server.specs.Servers.{Server}
 use Rattle.rad_server.specs.States.{State}
 use Rattle.rad_server.specs.declared.entry.Entry.{Entry}
-use Rattle.rad_shell.specs.Rounds.{AreOutcomes, HasArrival, HasEntry, HaveOwnTags, IsEntryOf, IsOutcome, IsSentAs, Round, arrivals_max}
-use Rattle.rad_shell.specs.Serving.{AddTurn, AddUp, AreSums, HasServed, IsRoundMade, IsServed, IsTurn, exchange_count, is_exchanged, octet_count, outcome_count}
+use Rattle.rad_shell.specs.Rounds.{HasArrival, HasEntry, HaveOwnTags, IsEntryOf, IsOutcome, Round, arrivals_max}
+use Rattle.rad_shell.specs.Serving.{AddTurn, AddUp, HasServed, IsRoundMade, IsServed, IsTurn, exchange_count, is_exchanged, octet_count}
 use Rattle.rad_shell.specs.declared.outcome.Outcome.{Outcome}
 use Rattle.rad_shell.specs.declared.outcome.Outcome.TheVariants.{Dropped, Busy, NoMemory, Reply}
 use Rattle.rad_shell.specs.declared.ports.Got.{Got}

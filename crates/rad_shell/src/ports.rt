@@ -33,7 +33,7 @@ pub struct PortFault;
 ///
 /// Who implements it counts the failures. A failure that concerns one datagram alone, such as a destination that can't be reached,
 /// may be counted without being reported: the datagram is lost, as on any network. When the count is 2^64 - 1 it stays, and nothing
-/// is reported any more. No call takes memory.
+/// is reported any more. A datagram is received into room that the caller lends, so that receiving needs no memory.
 pub trait Ports {
     /// The failures so far.
     ghost failures: { Self → ℕ };
