@@ -1,11 +1,7 @@
-//! A desk of two passes is opened over a server that remembers nothing yet. The octets of requests are those of RFC 2865 and
-//! RFC 5997.
-mod asking;
+//! Rounds of a service that remembers nothing yet.
 mod campus;
 mod datagrams;
-mod desks;
 mod gates;
-mod requests;
 mod rounds;
 mod serving;
 

@@ -8,6 +8,15 @@ use rad_packet::code::{ACCESS_REQUEST, ACCOUNTING_REQUEST};
 use rad_packet::{Body, Frame};
 use std::alloc::{AllocError, Global};
 
+/// The Access-Request of RFC 2865, section 7.1: nemo's.
+pub(crate) const NEMO: &[u8; 56] = b"\
+    \x01\x00\x00\x38\
+    \x0f\x40\x3f\x94\x73\x97\x80\x57\xbd\x83\xd5\xcb\x98\xf4\x22\x7a\
+    \x01\x06nemo\
+    \x02\x12\x0d\xbe\x70\x8d\x93\xd4\x13\xce\x31\x96\xe4\x3f\x78\x2a\x0a\xee\
+    \x04\x06\xc0\xa8\x01\x10\
+    \x05\x06\x00\x00\x00\x03";
+
 /// The Request Authenticator of each Access-Request: that of RFC 2865, section 7.1.
 const AUTHENTICATOR: &[u8; 16] =
     b"\x0f\x40\x3f\x94\x73\x97\x80\x57\xbd\x83\xd5\xcb\x98\xf4\x22\x7a";

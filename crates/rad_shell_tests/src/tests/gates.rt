@@ -1,13 +1,9 @@
-use super::campus::CAMPUS;
-use super::datagrams::Sent;
 use super::datagrams::Sent::Octets;
+use super::datagrams::{NEMO, Sent};
 use super::holds;
-use super::requests::NEMO;
-use super::serving::{has_len, round};
-use rad_config::Config;
-use rad_shell::{Gate, Service};
+use super::serving::{first_round, has_len};
+use rad_shell::Gate;
 use std::sync::atomic::{AtomicU64, Ordering};
-use std::test::Fail;
 use std::thread::yield_now;
 
 /// How often a batch looks whether the other one has come.
@@ -66,14 +62,11 @@ fn meets(own: &AtomicU64, other: &AtomicU64) -> bool {
 }
 
 #[test]
-fn two_workers_have_a_batch_each_at_once(rt: HostRuntime) -> Result<(), Fail> {
+fn two_workers_have_a_batch_each_at_once(rt: HostRuntime) {
     const V: Sent = Octets(NEMO);
     const SENT: &[Sent] = &[V, V, V, V, V, V, V, V, V];
-    let config = Config::read(rt.alloc(), CAMPUS)?;
-    let mut service = Service::open(rt.alloc(), &config)?;
     let meeting = Meeting::new();
-    let done = round(&rt, rt.alloc(), &mut service, 0, SENT, 2, &meeting);
+    let done = first_round(&rt, rt.alloc(), SENT, 2, &meeting, &[1]);
     holds(&rt, has_len(&done, 9, 9), "nine outcomes and entries");
     holds(&rt, meeting.was_held(), "each batch saw the other come");
-    Ok(())
 }

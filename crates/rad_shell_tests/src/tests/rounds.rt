@@ -1,19 +1,18 @@
 use super::campus::CAMPUS;
 use super::datagrams::Sent::{Access, Account, Octets, Strange};
-use super::datagrams::{START, STOP, Sent, starts};
+use super::datagrams::{NEMO, START, STOP, Sent, starts};
 use super::holds;
-use super::requests::NEMO;
 use super::serving::Wanted::{Accept, Busy, Dropped, Reject, Response};
 use super::serving::{
-    Wanted, are_in_turn, are_outcomes, are_same, are_sessions, are_tags, has_each, has_len, round,
+    Wanted, are_in_turn, are_outcomes, are_same, are_sessions, are_tags, first_round, has_each,
+    has_len, round,
 };
 use rad_auth::Discard::{Short, UnknownClient};
 use rad_config::Config;
-use rad_shell::{OpenGate, Service};
+use rad_shell::{Done, OpenGate, Service};
 use std::alloc::Global;
 use std::process::Abort;
 use std::sync::Wait;
-use std::test::Fail;
 use std::thread::Threads;
 
 /// nemo's Access-Request.
@@ -48,7 +47,7 @@ type Row = (
 );
 
 #[test]
-fn eight_of_nine_users_get_the_eight_addresses(rt: HostRuntime) -> Result<(), Fail> {
+fn eight_of_nine_users_get_the_eight_addresses(rt: HostRuntime) {
     const SENT: &[Sent] = &[
         Access(1, b"u1", b"p"),
         Access(2, b"u2", b"p"),
@@ -71,44 +70,27 @@ fn eight_of_nine_users_get_the_eight_addresses(rt: HostRuntime) -> Result<(), Fa
         Accept(&[10, 0, 1, 8]),
         Reject(b"no address left"),
     ];
-    let config = Config::read(rt.alloc(), CAMPUS)?;
-    let mut service = Service::open(rt.alloc(), &config)?;
-    let done = round(&rt, rt.alloc(), &mut service, 0, SENT, 2, &OpenGate);
+    const NUMBERS: &[u64] = &[1, 2, 3, 4, 5, 6, 7, 8];
+    let done = first_round(&rt, rt.alloc(), SENT, 2, &OpenGate, NUMBERS);
     // Which user is refused depends on the schedule: it is the one who was asked last.
     holds(&rt, are_in_turn(&done, IN_TURN), "by the history's order");
-    holds(
-        &rt,
-        are_sessions(&service, &[1, 2, 3, 4, 5, 6, 7, 8]),
-        "eight sessions",
-    );
-    Ok(())
 }
 
 #[test]
-fn a_request_sent_nine_times_has_one_session(rt: HostRuntime) -> Result<(), Fail> {
+fn a_request_sent_nine_times_has_one_session(rt: HostRuntime) {
     const SENT: &[Sent] = &[V, V, V, V, V, V, V, V, V];
-    let config = Config::read(rt.alloc(), CAMPUS)?;
-    let mut service = Service::open(rt.alloc(), &config)?;
-    let done = round(&rt, rt.alloc(), &mut service, 0, SENT, 2, &OpenGate);
+    let done = first_round(&rt, rt.alloc(), SENT, 2, &OpenGate, &[1]);
     holds(&rt, has_each(&done, 9, ACCEPTED), "nine equal replies");
-    holds(&rt, are_sessions(&service, &[1]), "one session");
-    Ok(())
 }
 
 #[test]
-fn a_round_may_be_full(rt: HostRuntime) -> Result<(), Fail> {
-    let config = Config::read(rt.alloc(), CAMPUS)?;
-    let mut service = Service::open(rt.alloc(), &config)?;
-    holds(
-        &rt,
-        answers_starts(&rt, rt.alloc(), &mut service, 0, 512),
-        "512 replies",
-    );
-    Ok(())
+fn a_round_may_be_full(rt: HostRuntime) {
+    let done = full_round(&rt, rt.alloc());
+    holds(&rt, has_each(&done, 512, Response), "512 replies");
 }
 
 #[test]
-fn rounds_follow_one_another(rt: HostRuntime) -> Result<(), Fail> {
+fn rounds_follow_one_another(rt: HostRuntime) {
     const ROWS: &[Row] = &[
         (0, &[], &[], &[], &[], "no datagram"),
         (
@@ -145,50 +127,40 @@ fn rounds_follow_one_another(rt: HostRuntime) -> Result<(), Fail> {
             "a Stop, and dory: the window has passed",
         ),
     ];
-    play(&rt, rt.alloc(), ROWS)
+    let played = play(&rt, rt.alloc(), ROWS);
+    holds(&rt, played.is_some(), "memory for a service");
 }
 
 #[test]
-fn a_full_table_of_replies_is_busy(rt: HostRuntime) -> Result<(), Fail> {
+fn a_full_table_of_replies_is_busy(rt: HostRuntime) {
     const SENT: &[Sent] = &[Account(16, 0, START), Account(0, 0, START)];
-    let config = Config::read(rt.alloc(), CAMPUS)?;
-    let mut service = Service::open(rt.alloc(), &config)?;
-    holds(
-        &rt,
-        fills(&rt, rt.alloc(), &mut service),
-        "4,096 replies are kept",
-    );
-    let done = round(&rt, rt.alloc(), &mut service, 0, SENT, 2, &OpenGate);
+    let done = round_of_full_table(&rt, rt.alloc(), SENT);
     holds(
         &rt,
         are_outcomes(&done, &[Busy, Response]),
         "no room for one more, and a repeat of the first",
     );
-    Ok(())
 }
 
 #[test]
-fn workers_do_not_change_outcomes(rt: HostRuntime) -> Result<(), Fail> {
-    let config = Config::read(rt.alloc(), CAMPUS)?;
-    let mut one = Service::open(rt.alloc(), &config)?;
-    let mut eight = Service::open(rt.alloc(), &config)?;
-    let sent = mixed(rt.alloc());
-    holds(
-        &rt,
-        agree(&rt, rt.alloc(), &mut one, &mut eight, &sent),
-        "one worker and eight",
-    );
-    Ok(())
+fn workers_do_not_change_outcomes(rt: HostRuntime) {
+    holds(&rt, agree(&rt, rt.alloc()), "one worker and eight");
+}
+
+// A round of 512 Starts.
+fn full_round<R: Abort + Threads + Wait + Sync>(rt: &R, alloc: Global) -> Option<Done> {
+    let sent = starts(alloc, 0, 512)?;
+    first_round(rt, alloc, &sent, 8, &OpenGate, &[])
 }
 
 // Plays rounds of two workers, and asserts of each that it is as it must be.
-fn play<R: Abort + Threads + Wait + Sync>(rt: &R, alloc: Global, rows: &[Row]) -> Result<(), Fail> {
-    let config = Config::read(alloc, CAMPUS)?;
-    let mut service = Service::open(alloc, &config)?;
+fn play<R: Abort + Threads + Wait + Sync>(rt: &R, alloc: Global, rows: &[Row]) -> Option<()> {
+    let config = Config::read(alloc, CAMPUS).ok()?;
+    let mut service = Service::open(alloc, &config).ok()?;
     for row in rows.iter() {
         holds(rt, plays(rt, alloc, &mut service, row), row.5);
     }
-    Ok(())
+    Some(())
 }
 
 // Whether a round is as it must be.
@@ -203,30 +175,41 @@ fn plays<R: Threads + Wait + Sync>(
     are_outcomes(&done, outcomes) && are_tags(&done, tags) && are_sessions(service, sessions)
 }
 
-// Whether a round of these Starts, from one number on and before another, has a reply and an entry for each.
+// A round of two workers, once 4,096 replies are kept.
+fn round_of_full_table<R: Threads + Wait + Sync>(
+    rt: &R,
+    alloc: Global,
+    sent: &[Sent],
+) -> Option<Done> {
+    let config = Config::read(alloc, CAMPUS).ok()?;
+    let mut service = Service::open(alloc, &config).ok()?;
+    fill(rt, alloc, &mut service)?;
+    round(rt, alloc, &mut service, 0, sent, 2, &OpenGate)
+}
+
+// Rounds of 512 Starts, until 4,096 of them are answered; none if one isn't.
+fn fill<R: Threads + Wait + Sync>(rt: &R, alloc: Global, service: &mut Service) -> Option<()> {
+    const FIRSTS: &[u16] = &[0, 512, 1_024, 1_536, 2_048, 2_560, 3_072, 3_584];
+    for first in FIRSTS.iter() {
+        if !answers_starts(rt, alloc, service, *first) {
+            return None;
+        }
+    }
+    Some(())
+}
+
+// Whether a round of 512 Starts, from this number on, has a reply and an entry for each.
 fn answers_starts<R: Threads + Wait + Sync>(
     rt: &R,
     alloc: Global,
     service: &mut Service,
     first: u16,
-    end: u16,
 ) -> bool {
-    let Some(sent) = starts(alloc, first, end) else {
+    let Some(sent) = starts(alloc, first, first.saturating_add(512)) else {
         return false;
     };
     let done = round(rt, alloc, service, 0, &sent, 8, &OpenGate);
-    has_each(&done, sent.len(), Response)
-}
-
-// Whether 4,096 Starts, in rounds of 512, are all answered.
-fn fills<R: Threads + Wait + Sync>(rt: &R, alloc: Global, service: &mut Service) -> bool {
-    const FIRSTS: &[u16] = &[0, 512, 1_024, 1_536, 2_048, 2_560, 3_072, 3_584];
-    for first in FIRSTS.iter() {
-        if !answers_starts(rt, alloc, service, *first, first.saturating_add(512)) {
-            return false;
-        }
-    }
-    true
+    has_each(&done, 512, Response)
 }
 
 // Datagrams whose outcomes are the same in each order: 64 Starts, and then eight others.
@@ -249,17 +232,11 @@ fn mixed(alloc: Global) -> Option<Vec<Sent>> {
 }
 
 // Whether a round with one worker and one with eight have the same outcomes, where none was refused memory.
-fn agree<R: Threads + Wait + Sync>(
-    rt: &R,
-    alloc: Global,
-    one: &mut Service,
-    eight: &mut Service,
-    sent: &Option<Vec<Sent>>,
-) -> bool {
-    let Some(sent) = sent else {
+fn agree<R: Abort + Threads + Wait + Sync>(rt: &R, alloc: Global) -> bool {
+    let Some(sent) = mixed(alloc) else {
         return false;
     };
-    let done = round(rt, alloc, one, 0, sent, 1, &OpenGate);
-    let other = round(rt, alloc, eight, 0, sent, 8, &OpenGate);
+    let done = first_round(rt, alloc, &sent, 1, &OpenGate, &[1]);
+    let other = first_round(rt, alloc, &sent, 8, &OpenGate, &[1]);
     has_len(&done, 72, 70) && are_same(&done, &other)
 }

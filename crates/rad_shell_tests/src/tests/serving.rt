@@ -2,13 +2,17 @@
 ghost use Rattle.std.specs.Prelude.{◌≤◌, IfSome};
 ghost use Rattle.rad_shell.specs.Rounds.{AreMoments, workers_max};
 
+use super::campus::CAMPUS;
 use super::datagrams::{Datagram, Sent, datagrams};
+use super::holds;
 use rad_auth::Discard;
+use rad_config::Config;
 use rad_packet::attribute::{FRAMED_IP_ADDRESS, REPLY_MESSAGE};
 use rad_packet::code::{ACCESS_ACCEPT, ACCESS_REJECT, ACCOUNTING_RESPONSE};
 use rad_packet::{Frame, Packet};
 use rad_shell::{Done, Gate, Outcome, Service, Timed};
 use std::alloc::Global;
+use std::process::Abort;
 use std::sync::Wait;
 use std::thread::Threads;
 
@@ -51,6 +55,24 @@ pub(crate) fn round<R: Threads + Wait + Sync, G: Gate + Sync>(
         return None;
     }
     service.round(rt, &arrivals, workers, gate).ok()
+}
+
+/// What a round of a new service makes, at the moment 0. Asserts that these are then the numbers of the sessions.
+pub(crate) fn first_round<R: Abort + Threads + Wait + Sync, G: Gate + Sync>(
+    rt: &R,
+    alloc: Global,
+    all: &[Sent],
+    workers: u64,
+    gate: &G,
+    sessions: &[u64],
+) -> Option<Done>
+    requires { (1 ≤ workers) × (workers ≤ workers_max) }
+{
+    let config = Config::read(alloc, CAMPUS).ok()?;
+    let mut service = Service::open(alloc, &config).ok()?;
+    let done = round(rt, alloc, &mut service, 0, all, workers, gate);
+    holds(rt, are_sessions(&service, sessions), "the sessions");
+    done
 }
 
 // The datagrams, as they arrive at a moment.

@@ -1,4 +1,4 @@
-use Rattle.rad_shell_tests.proofs.tests.asking.one_thread.Given as goal
+use Rattle.rad_desk_tests.proofs.tests.asking.in_turn.Given as goal
 
 abbrev pub ghosts-asked_in_turn-L-Ledger : goal.ghosts-asked_in_turn-L-Ledger
 ghosts-asked_in_turn-L-Ledger g a = record { name = a.blank.name; parts = a.blank.parts }

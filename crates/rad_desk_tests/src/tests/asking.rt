@@ -1,10 +1,12 @@
 //! Desks of two passes, what is asked at them, and how they end.
 ghost use Rattle.std.specs.Prelude.{◌≡◌};
-ghost use Rattle.rad_shell.specs.Desks.{IsBlankOf};
+ghost use Rattle.rad_desk.specs.Desks.{IsBlankOf};
 
+use super::campus::CAMPUS;
 use super::requests::{STATUS, admit};
+use rad_config::Config;
+use rad_desk::{Closed, Desk, Mismatch, Opened, Pass, Receipt, settle};
 use rad_server::{Book, Entry, Server};
-use rad_shell::{Closed, Desk, Mismatch, Opened, Pass, Receipt, settle};
 use std::alloc::Global;
 use std::marker::Brand;
 use std::sync::Wait;
@@ -33,6 +35,8 @@ pub(crate) enum Ending {
     CloseWithOne,
     /// Its passes settle a book of what is asked here.
     Settle(&'static [Asked]),
+    /// No pass settles such a book.
+    SettleWithNone(&'static [Asked]),
 }
 
 /// What is left of a closed desk.
@@ -47,6 +51,29 @@ pub(crate) struct Ended {
 pub(crate) fn one_thread<R: Wait>(
     rt: &R,
     alloc: Global,
+    asks: &[Asked],
+    ending: Ending,
+) -> Option<Ended> {
+    let config = Config::read(alloc, CAMPUS).ok()?;
+    let server = Server::open(alloc, &config).ok()?;
+    in_turn(rt, alloc, &server, asks, ending)
+}
+
+/// The same where two threads ask at once, each with a pass, and the desk is closed.
+pub(crate) fn two_threads<R: Threads + Wait + Sync>(
+    rt: &R,
+    alloc: Global,
+    first: &[Asked],
+    second: &[Asked],
+) -> Option<Ended> {
+    let config = Config::read(alloc, CAMPUS).ok()?;
+    let server = Server::open(alloc, &config).ok()?;
+    at_once(rt, alloc, &server, first, second)
+}
+
+fn in_turn<R: Wait>(
+    rt: &R,
+    alloc: Global,
     server: &Server,
     asks: &[Asked],
     ending: Ending,
@@ -54,8 +81,7 @@ pub(crate) fn one_thread<R: Wait>(
     asked_in_turn::<Brand, R>(rt, alloc, Blank::new(2), server, asks, ending)
 }
 
-/// The same where two threads ask at once, each with a pass, and the desk is closed.
-pub(crate) fn two_threads<R: Threads + Wait + Sync>(
+fn at_once<R: Threads + Wait + Sync>(
     rt: &R,
     alloc: Global,
     server: &Server,
@@ -77,10 +103,10 @@ fn asked_in_turn<'c, L: Opened, R: Wait>(
     requires opening { server.now ≡ L.opening }
 {
     let (desk, mut passes) = Desk::<L>::open(alloc, blank, server, 2).ok()?;
-    for asked in asks.iter() {
-        ask(rt, &desk, server, passes.get_mut(asked.pass)?, asked)?;
-    }
-    end_of(alloc, desk, server, passes, ending)
+    let mut second = passes.pop()?;
+    let mut first = passes.pop()?;
+    ask_in_turn(rt, &desk, server, &mut first, &mut second, asks)?;
+    end_of(alloc, desk, server, passes, first, second, ending)
 }
 
 fn asked_at_once<'c, L: Opened + Send + Sync, R: Threads + Wait + Sync>(
@@ -106,9 +132,7 @@ fn asked_at_once<'c, L: Opened + Send + Sync, R: Threads + Wait + Sync>(
             requires { server.now ≡ L.opening }
         { ask_all(rt, &desk, server, last, second) },
     );
-    passes.push(other?).ok()?;
-    passes.push(last?).ok()?;
-    end_of(alloc, desk, server, passes, Ending::Close)
+    end_of(alloc, desk, server, passes, other?, last?, Ending::Close)
 }
 
 // The pass, once all this was asked with it.
@@ -125,6 +149,40 @@ fn ask_all<L: Opened, R: Wait>(
         ask(rt, desk, server, &mut pass, asked)?;
     }
     Some(pass)
+}
+
+// Asks all this, each time with the pass that is meant.
+fn ask_in_turn<L: Opened, R: Wait>(
+    rt: &R,
+    desk: &Desk<L>,
+    server: &Server,
+    first: &mut Pass<L>,
+    second: &mut Pass<L>,
+    asks: &[Asked],
+) -> Option<()>
+    requires { server.now ≡ L.opening }
+{
+    for asked in asks.iter() {
+        ask_with(rt, desk, server, first, second, asked)?;
+    }
+    Some(())
+}
+
+// Asks with the pass that is meant.
+fn ask_with<L: Opened, R: Wait>(
+    rt: &R,
+    desk: &Desk<L>,
+    server: &Server,
+    first: &mut Pass<L>,
+    second: &mut Pass<L>,
+    asked: &Asked,
+) -> Option<()>
+    requires { server.now ≡ L.opening }
+{
+    match asked.pass {
+        0 => ask(rt, desk, server, first, asked),
+        _ => ask(rt, desk, server, second, asked),
+    }
 }
 
 fn ask<L: Opened, R: Wait>(
@@ -145,9 +203,13 @@ fn end_of<'c, L: Opened>(
     desk: Desk<'c, L>,
     server: &Server<'c>,
     mut passes: Vec<Pass<L>>,
+    first: Pass<L>,
+    second: Pass<L>,
     ending: Ending,
 ) -> Option<Ended> {
-    let receipts = copies_of(alloc, &passes)?;
+    let receipts = copies_of(alloc, &first, &second)?;
+    passes.push(first).ok()?;
+    passes.push(second).ok()?;
     let closed = match ending {
         Ending::Close => desk.close(server, passes),
         Ending::CloseLater => desk.close(&later(server)?, passes),
@@ -156,6 +218,10 @@ fn end_of<'c, L: Opened>(
             desk.close(server, passes)
         }
         Ending::Settle(asks) => settle(book_of(alloc, server, asks)?, server, passes),
+        Ending::SettleWithNone(asks) => {
+            passes.clear();
+            settle(book_of(alloc, server, asks)?, server, passes)
+        }
     };
     let history = history_of(closed);
     Some(Ended { receipts, history })
@@ -167,11 +233,14 @@ fn history_of(closed: Result<Closed, Mismatch>) -> Result<Vec<Entry>, Mismatch> 
 }
 
 // Copies of all receipts.
-fn copies_of<L: Opened>(alloc: Global, passes: &[Pass<L>]) -> Option<Vec<Receipt>> {
-    let mut all = Vec::new(alloc);
-    for pass in passes.iter() {
-        append(&mut all, pass.receipts())?;
-    }
+fn copies_of<L: Opened>(alloc: Global, first: &Pass<L>, second: &Pass<L>) -> Option<Vec<Receipt>> {
+    let all = with_copies(Vec::new(alloc), first.receipts())?;
+    with_copies(all, second.receipts())
+}
+
+// These receipts, and copies of those.
+fn with_copies(mut all: Vec<Receipt>, receipts: &[Receipt]) -> Option<Vec<Receipt>> {
+    append(&mut all, receipts)?;
     Some(all)
 }
 
@@ -192,8 +261,8 @@ fn later<'c>(server: &Server<'c>) -> Option<Server<'c>> {
     Some(later)
 }
 
-/// A book that began as a server, of which this was asked in turn.
-pub(crate) fn book_of<'c>(alloc: Global, server: &Server<'c>, asks: &[Asked]) -> Option<Book<'c>> {
+// A book that began as a server, of which this was asked in turn.
+fn book_of<'c>(alloc: Global, server: &Server<'c>, asks: &[Asked]) -> Option<Book<'c>> {
     let mut book = Book::open(alloc, server).ok()?;
     for asked in asks.iter() {
         exchange(&mut book, asked)?;

@@ -1,16 +1,12 @@
-use super::asking::Ending::{Close, CloseLater, CloseWithOne, Settle};
-use super::asking::{Asked, Ended, Ending, book_of, one_thread, two_threads};
-use super::campus::CAMPUS;
+use super::asking::Ending::{Close, CloseLater, CloseWithOne, Settle, SettleWithNone};
+use super::asking::{Asked, Ended, Ending, one_thread, two_threads};
 use super::holds;
 use super::requests::{DORY, NEMO};
-use rad_config::Config;
+use rad_desk::{Mismatch, Receipt};
 use rad_packet::code::{ACCESS_ACCEPT, ACCESS_REJECT};
-use rad_server::{Answer, Entry, Server};
-use rad_shell::{Mismatch, Receipt, settle};
+use rad_server::{Answer, Entry};
 use std::alloc::Global;
-use std::marker::Brand;
 use std::sync::Wait;
-use std::test::Fail;
 
 const NEMO_7: Asked = Asked {
     pass: 0,
@@ -28,10 +24,8 @@ const DORY_8: Asked = Asked {
 const BOTH: &[Asked] = &[NEMO_7, DORY_8];
 
 #[test]
-fn a_desk_closes_with_its_history(rt: HostRuntime) -> Result<(), Fail> {
-    let config = Config::read(rt.alloc(), CAMPUS)?;
-    let server = Server::open(rt.alloc(), &config)?;
-    let ended = one_thread(&rt, rt.alloc(), &server, BOTH, Close);
+fn a_desk_closes_with_its_history(rt: HostRuntime) {
+    let ended = one_thread(&rt, rt.alloc(), BOTH, Close);
     let wanted = &[(7, ACCESS_ACCEPT), (8, ACCESS_REJECT)];
     holds(
         &rt,
@@ -39,84 +33,68 @@ fn a_desk_closes_with_its_history(rt: HostRuntime) -> Result<(), Fail> {
         "an Accept and a Reject, in turn",
     );
     holds(&rt, all_stand(&ended), "each receipt stands in the history");
-    Ok(())
+}
+
+/// How a desk ends at which both asked, why it doesn't close, and what that shows.
+type Row = (Ending, Mismatch, &'static str);
+
+#[test]
+fn what_does_not_agree_does_not_close(rt: HostRuntime) {
+    const ROWS: &[Row] = &[
+        (CloseLater, Mismatch::Opening, "a later clock"),
+        (
+            CloseWithOne,
+            Mismatch::Count,
+            "a missing pass with a receipt",
+        ),
+        (
+            Settle(&[DORY_8, NEMO_7]),
+            Mismatch::At { pass: 0, place: 0 },
+            "another order",
+        ),
+        (SettleWithNone(BOTH), Mismatch::Count, "no pass"),
+    ];
+    for row in ROWS.iter() {
+        holds(&rt, mismatches(&rt, rt.alloc(), *row), row.2);
+    }
 }
 
 #[test]
-fn what_does_not_agree_does_not_close(rt: HostRuntime) -> Result<(), Fail> {
-    let config = Config::read(rt.alloc(), CAMPUS)?;
-    let server = Server::open(rt.alloc(), &config)?;
-    holds(
-        &rt,
-        mismatches(&rt, rt.alloc(), &server, CloseLater, Mismatch::Opening),
-        "a later clock",
-    );
-    holds(
-        &rt,
-        mismatches(&rt, rt.alloc(), &server, CloseWithOne, Mismatch::Count),
-        "a missing pass with a receipt",
-    );
-    let swapped = Settle(&[DORY_8, NEMO_7]);
-    let at = Mismatch::At { pass: 0, place: 0 };
-    holds(
-        &rt,
-        mismatches(&rt, rt.alloc(), &server, swapped, at),
-        "another order",
-    );
-    holds(&rt, counts(rt.alloc(), &server), "no pass");
-    Ok(())
-}
-
-#[test]
-fn a_pass_without_receipts_may_be_missing(rt: HostRuntime) -> Result<(), Fail> {
-    let config = Config::read(rt.alloc(), CAMPUS)?;
-    let server = Server::open(rt.alloc(), &config)?;
-    let ended = one_thread(&rt, rt.alloc(), &server, &[NEMO_7], CloseWithOne);
+fn a_pass_without_receipts_may_be_missing(rt: HostRuntime) {
+    let ended = one_thread(&rt, rt.alloc(), &[NEMO_7], CloseWithOne);
     holds(&rt, has_history(&ended, &[(7, ACCESS_ACCEPT)]), "an Accept");
-    Ok(())
 }
 
 #[test]
-fn two_equal_asks_are_two_entries(rt: HostRuntime) -> Result<(), Fail> {
-    let config = Config::read(rt.alloc(), CAMPUS)?;
-    let server = Server::open(rt.alloc(), &config)?;
-    let ended = one_thread(&rt, rt.alloc(), &server, &[NEMO_7, NEMO_7], Close);
+fn two_equal_asks_are_two_entries(rt: HostRuntime) {
+    let ended = one_thread(&rt, rt.alloc(), &[NEMO_7, NEMO_7], Close);
     let wanted = &[(7, ACCESS_ACCEPT), (7, ACCESS_ACCEPT)];
     holds(&rt, has_history(&ended, wanted), "two entries");
     holds(&rt, are_equal(&ended), "the entries are the same");
     holds(&rt, places_rise(&ended), "the places rise");
-    Ok(())
 }
 
 #[test]
-fn two_threads_share_a_desk(rt: HostRuntime) -> Result<(), Fail> {
+fn two_threads_share_a_desk(rt: HostRuntime) {
     const FIRST: &[Asked] = &[
         NEMO_7, NEMO_7, NEMO_7, NEMO_7, NEMO_7, NEMO_7, NEMO_7, NEMO_7,
     ];
     const SECOND: &[Asked] = &[
         DORY_8, DORY_8, DORY_8, DORY_8, DORY_8, DORY_8, DORY_8, DORY_8,
     ];
-    let config = Config::read(rt.alloc(), CAMPUS)?;
-    let server = Server::open(rt.alloc(), &config)?;
-    let ended = two_threads(&rt, rt.alloc(), &server, FIRST, SECOND);
+    let ended = two_threads(&rt, rt.alloc(), FIRST, SECOND);
     holds(
         &rt,
         has_len(&ended, 16),
         "as many entries and receipts as asks",
     );
     holds(&rt, all_stand(&ended), "each receipt stands in the history");
-    Ok(())
 }
 
-// Whether a desk at which both asked ends with this mismatch.
-fn mismatches(
-    rt: &impl Wait,
-    alloc: Global,
-    server: &Server,
-    ending: Ending,
-    wanted: Mismatch,
-) -> bool {
-    match one_thread(rt, alloc, server, BOTH, ending) {
+// Whether a desk ends as its row says.
+fn mismatches(rt: &impl Wait, alloc: Global, row: Row) -> bool {
+    let (ending, wanted, _) = row;
+    match one_thread(rt, alloc, BOTH, ending) {
         Some(
             Ended {
                 history: Err(mismatch),
@@ -124,17 +102,6 @@ fn mismatches(
             },
         ) => mismatch == wanted,
         _ => false,
-    }
-}
-
-// Whether a book of which both asked has too few receipts where there is no pass.
-fn counts(alloc: Global, server: &Server) -> bool {
-    let Some(book) = book_of(alloc, server, BOTH) else {
-        return false;
-    };
-    match settle::<Brand>(book, server, Vec::new(alloc)) {
-        Ok(_) => false,
-        Err(mismatch) => mismatch == Mismatch::Count,
     }
 }
 

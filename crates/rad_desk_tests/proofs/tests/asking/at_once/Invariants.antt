@@ -1,4 +1,4 @@
-use Rattle.rad_shell_tests.proofs.tests.asking.two_threads.Given as goal
+use Rattle.rad_desk_tests.proofs.tests.asking.at_once.Given as goal
 
 abbrev pub ghosts-asked_at_once-L-Ledger : goal.ghosts-asked_at_once-L-Ledger
 ghosts-asked_at_once-L-Ledger g a = record { name = a.blank.name; parts = a.blank.parts }
