@@ -45,15 +45,15 @@ pub(crate) fn print_table<R: Threads + Wait + Sync + Clock + Print>(
 ) -> Option<()> {
     let config = Config::read(alloc, CONFIGURATION).ok()?;
     println!(rt;
-        "| requests | sessions | datagrams | one thread µs | workers | round µs | times one thread |"
+        "| requests | sessions | datagrams | one thread µs | one worker µs | times one thread | two workers µs | four workers µs |"
     ).ok()?;
-    println!(rt; "|---|---|---|---|---|---|---|").ok()?;
+    println!(rt; "|---|---|---|---|---|---|---|---|").ok()?;
     for size in [FEW, MANY] {
         for timing in [Timing::Apart, Timing::Together, Timing::Again] {
             for count in [1, 8, 64, 512] {
                 let lot = Lot { timing, count };
                 let best = measure(rt, alloc, &config, size, lot)?;
-                print_lines(rt, size, lot, best)?;
+                print_line(rt, size, lot, best)?;
             }
         }
     }
@@ -97,27 +97,17 @@ fn better<R: Threads + Wait + Sync + Clock>(
     })
 }
 
-fn print_lines<R: Print>(rt: &R, size: Size, lot: Lot, best: Best) -> Option<()> {
-    let alone = microseconds(best.alone, lot);
-    print_line(rt, size, lot, alone, 1, microseconds(best.one, lot))?;
-    print_line(rt, size, lot, alone, 2, microseconds(best.two, lot))?;
-    print_line(rt, size, lot, alone, 4, microseconds(best.four, lot))
-}
-
-fn print_line<R: Print>(
-    rt: &R,
-    size: Size,
-    lot: Lot,
-    alone: f64,
-    workers: u32,
-    round: f64,
-) -> Option<()> {
+fn print_line<R: Print>(rt: &R, size: Size, lot: Lot, best: Best) -> Option<()> {
     let name = lot.timing.name();
     let Lot { count, .. } = lot;
     let Size { sessions, .. } = size;
-    let times = round / alone;
+    let alone = microseconds(best.alone, lot);
+    let one = microseconds(best.one, lot);
+    let times = one / alone;
+    let two = microseconds(best.two, lot);
+    let four = microseconds(best.four, lot);
     println!(rt;
-        "| {name} | {sessions} | {count} | {alone:.2} | {workers} | {round:.2} | {times:.2} |"
+        "| {name} | {sessions} | {count} | {alone:.2} | {one:.2} | {times:.2} | {two:.2} | {four:.2} |"
     ).ok()
 }
 
