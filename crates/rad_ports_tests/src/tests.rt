@@ -1,6 +1,7 @@
 //! Turns over ports in memory. Requests are those of the first client; kay is challenged.
 mod campus;
 mod coming;
+mod texts;
 mod turns;
 
 use std::process::Abort;
