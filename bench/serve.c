@@ -1,0 +1,363 @@
+// What `radpool serve` answers over UDP on 127.0.0.1, beside a responder that makes the digests and the system calls alone.
+#define OPENSSL_SUPPRESS_DEPRECATED
+#define _GNU_SOURCE
+#include "bench.h"
+#include <arpa/inet.h>
+#include <errno.h>
+#include <openssl/hmac.h>
+#include <openssl/md5.h>
+#include <poll.h>
+#include <signal.h>
+#include <stdbool.h>
+#include <stdint.h>
+#include <string.h>
+#include <sys/prctl.h>
+#include <sys/socket.h>
+#include <sys/wait.h>
+#include <unistd.h>
+
+enum {
+    AUTH = 18130,
+    ACCT = 18131,
+    SOCKETS = 8,
+    SLOTS = 128,    // the most requests that wait for a reply
+    BLOCK = 16,
+    HEADER = 20,
+    STATUS = 38,    // the length of a Status-Server
+    FRAME = 4096,
+    ROUND = 512,    // the most datagrams that are received before replies are sent
+    WARM = 1000,
+    MOST = 200000,
+};
+
+#define SECRET "xyzzy5461"
+static const size_t secret_len = sizeof SECRET - 1;
+
+// A request that is sent again and again, and its reply.
+struct slot {
+    int socket;
+    uint8_t request[STATUS], reply[HEADER];
+    size_t len;
+    double sent;
+};
+
+static struct slot slots[SLOTS];
+static int sockets[SOCKETS];
+static double times[MOST];
+
+static void digest(const uint8_t *octets, size_t len, uint8_t *out) {
+    MD5_CTX context;
+    MD5_Init(&context);
+    MD5_Update(&context, octets, len);
+    MD5_Update(&context, SECRET, secret_len);
+    MD5_Final(out, &context);
+}
+
+static void authenticate(const uint8_t *octets, size_t len, uint8_t *out) {
+    unsigned out_len;
+    HMAC(EVP_md5(), SECRET, (int)secret_len, octets, len, out, &out_len);
+}
+
+// ---- requests
+
+// The Accounting-Response to a request (RFC 2866, section 3; RFC 5997, section 4.1).
+static void respond_to(const uint8_t *request, uint8_t *reply) {
+    memcpy(reply, (uint8_t[]){5, request[1], 0, HEADER}, 4);
+    memcpy(reply + 4, request + 4, BLOCK);
+    digest(reply, HEADER, reply + 4);
+}
+
+static size_t status_server(uint8_t id, uint8_t *octets) {
+    memcpy(octets, (uint8_t[]){12, id, 0, STATUS}, 4);
+    memset(octets + 4, id, BLOCK);
+    memcpy(octets + HEADER, (uint8_t[]){80, 18}, 2);
+    memset(octets + HEADER + 2, 0, BLOCK);
+    uint8_t code[BLOCK];
+    authenticate(octets, STATUS, code);
+    memcpy(octets + HEADER + 2, code, BLOCK);
+    return STATUS;
+}
+
+// A Start of a session that the server doesn't know.
+static size_t accounting_request(uint8_t id, uint8_t *octets) {
+    memcpy(octets, (uint8_t[]){4, id, 0, 26}, 4);
+    memset(octets + 4, 0, BLOCK);
+    memcpy(octets + HEADER, (uint8_t[]){40, 6, 0, 0, 0, 1}, 6);
+    digest(octets, 26, octets + 4);
+    return 26;
+}
+
+// nemo's Access-Request with an authenticator of this number.
+static size_t access_request(uint8_t id, uint32_t number, uint8_t *octets) {
+    memcpy(octets, (uint8_t[]){1, id, 0, 44}, 4);
+    memset(octets + 4, 7, BLOCK);
+    memcpy(octets + 4, &number, sizeof number);
+    memcpy(octets + HEADER, "\1\6nemo\2\22arctangent\0\0\0\0\0\0", 24);
+    uint8_t keyed[64], pad[BLOCK];
+    memcpy(keyed, SECRET, secret_len);
+    memcpy(keyed + secret_len, octets + 4, BLOCK);
+    MD5(keyed, secret_len + BLOCK, pad);
+    for (size_t at = 0; at < BLOCK; at++) {
+        octets[28 + at] ^= pad[at];
+    }
+    return 44;
+}
+
+// ---- the responder
+
+static int bound(uint16_t port) {
+    int made = socket(AF_INET, SOCK_DGRAM, 0);
+    struct sockaddr_in here = {.sin_family = AF_INET, .sin_port = htons(port), .sin_addr.s_addr = htonl(INADDR_LOOPBACK)};
+    if (made < 0 || bind(made, (struct sockaddr *)&here, sizeof here) != 0) {
+        end("a port can't be bound");
+    }
+    return made;
+}
+
+static bool is_right(uint8_t *octets, ssize_t len) {
+    uint8_t given[BLOCK], made[BLOCK];
+    uint8_t *field = octets[0] == 4 ? octets + 4 : octets + HEADER + 2;
+    memcpy(given, field, BLOCK);
+    memset(field, 0, BLOCK);
+    if (octets[0] == 4) {
+        digest(octets, (size_t)len, made);
+    } else {
+        authenticate(octets, (size_t)len, made);
+    }
+    memcpy(field, given, BLOCK);
+    return memcmp(given, made, BLOCK) == 0;
+}
+
+static void run_responder(void) {
+    static uint8_t octets[ROUND][FRAME];
+    static struct sockaddr_in from[ROUND];
+    static ssize_t len[ROUND];
+    struct pollfd port = {.fd = bound(ACCT), .events = POLLIN};
+    for (;;) {
+        poll(&port, 1, 1000);
+        int count = 0;
+        for (; count < ROUND; count++) {
+            socklen_t from_len = sizeof from[count];
+            len[count] = recvfrom(port.fd, octets[count], FRAME, MSG_DONTWAIT, (struct sockaddr *)&from[count], &from_len);
+            if (len[count] < 0) {
+                break;
+            }
+        }
+        for (int at = 0; at < count; at++) {
+            uint8_t reply[HEADER];
+            if (len[at] >= 26 && is_right(octets[at], len[at])) {
+                respond_to(octets[at], reply);
+                sendto(port.fd, reply, sizeof reply, 0, (struct sockaddr *)&from[at], sizeof from[at]);
+            }
+        }
+    }
+}
+
+// ---- the load
+
+static int connected(uint16_t port) {
+    int made = socket(AF_INET, SOCK_DGRAM, 0);
+    struct sockaddr_in there = {.sin_family = AF_INET, .sin_port = htons(port), .sin_addr.s_addr = htonl(INADDR_LOOPBACK)};
+    if (made < 0 || connect(made, (struct sockaddr *)&there, sizeof there) != 0) {
+        end("no socket");
+    }
+    return made;
+}
+
+// Half of the slots of a socket have a Status-Server, the others an Accounting-Request.
+static void fill_slots(void) {
+    for (int at = 0; at < SOCKETS; at++) {
+        sockets[at] = connected(ACCT);
+    }
+    for (int at = 0; at < SLOTS; at++) {
+        struct slot *slot = &slots[at];
+        uint8_t id = (uint8_t)(at / SOCKETS);
+        slot->socket = at % SOCKETS;
+        slot->len = id % 2 ? accounting_request(id, slot->request) : status_server(id, slot->request);
+        respond_to(slot->request, slot->reply);
+    }
+}
+
+static void send_slot(struct slot *slot) {
+    slot->sent = now();
+    if (send(sockets[slot->socket], slot->request, slot->len, 0) != (ssize_t)slot->len) {
+        end("a request can't be sent");
+    }
+}
+
+// The slot whose reply waits at a socket, if one does.
+static struct slot *receive_slot(int at) {
+    uint8_t reply[FRAME];
+    ssize_t len = recv(sockets[at], reply, sizeof reply, MSG_DONTWAIT);
+    if (len < 0) {
+        return NULL;
+    }
+    struct slot *slot = &slots[(reply[1] * SOCKETS + at) % SLOTS];
+    if (len != HEADER || memcmp(reply, slot->reply, HEADER) != 0) {
+        end("a wrong reply");
+    }
+    return slot;
+}
+
+// Sends so many requests, of which so many wait for a reply at a time: one, or all slots. Keeps their times. Returns the nanoseconds.
+static double load(int count, int waiting) {
+    struct pollfd ports[SOCKETS];
+    for (int at = 0; at < SOCKETS; at++) {
+        ports[at] = (struct pollfd){.fd = sockets[at], .events = POLLIN};
+    }
+    int sent = 0, answered = 0;
+    double start = now();
+    for (; sent < waiting; sent++) {
+        send_slot(&slots[sent]);
+    }
+    while (answered < count) {
+        if (poll(ports, SOCKETS, 2000) <= 0) {
+            end("a reply is missing");
+        }
+        for (int at = 0; at < SOCKETS; at++) {
+            struct slot *slot;
+            while (ports[at].revents && (slot = receive_slot(at))) {
+                times[answered++] = now() - slot->sent;
+                if (sent < count) {
+                    send_slot(waiting == 1 ? &slots[sent % SLOTS] : slot);
+                    sent++;
+                }
+            }
+        }
+    }
+    return now() - start;
+}
+
+static int compare(const void *one, const void *other) {
+    double a = *(const double *)one, b = *(const double *)other;
+    return (a > b) - (a < b);
+}
+
+// Microseconds within which so many of a thousand were answered.
+static double within(int count, int per_mille) {
+    qsort(times, (size_t)count, sizeof times[0], compare);
+    return times[(size_t)count * (size_t)per_mille / 1000] / 1e3;
+}
+
+// ---- servers
+
+static const char *folder;
+
+static const char *in_folder(const char *name) {
+    static char path[2][200];
+    static int turn;
+    turn = !turn;
+    snprintf(path[turn], sizeof path[turn], "%s/%s", folder, name);
+    return path[turn];
+}
+
+static void write_file(const char *name, const char *octets, size_t len) {
+    FILE *file = fopen(in_folder(name), "w");
+    if (!file || fwrite(octets, 1, len, file) != len || fclose(file) != 0) {
+        end("a file can't be written");
+    }
+}
+
+// A server with so many workers; with none, the responder.
+static pid_t begin_server(const char *radpool, const char *workers) {
+    pid_t child = fork();
+    if (child != 0) {
+        return child;
+    }
+    prctl(PR_SET_PDEATHSIG, SIGKILL);
+    alarm(120);
+    if (!workers) {
+        run_responder();
+    }
+    if (!freopen("/dev/null", "w", stdout)) {
+        _exit(1);
+    }
+    execl(radpool, radpool, "serve", "--config", in_folder("toml"), "--seed", in_folder("seed"), "--auth", "18130", "--acct", "18131",
+          "--workers", workers, (char *)NULL);
+    _exit(1);
+}
+
+static void wait_for_server(void) {
+    for (int try = 0; try < 50; try++) {
+        struct pollfd port = {.fd = sockets[0], .events = POLLIN};
+        send(sockets[0], slots[0].request, slots[0].len, 0);
+        if (poll(&port, 1, 100) > 0 && receive_slot(0)) {
+            return;
+        }
+        usleep(100000);
+    }
+    end("no server");
+}
+
+// Grants so many sessions.
+static void grant(uint32_t sessions) {
+    int port = connected(AUTH);
+    for (uint32_t number = 0; number < sessions; number++) {
+        uint8_t octets[FRAME];
+        size_t len = access_request((uint8_t)number, number, octets);
+        struct pollfd waiting = {.fd = port, .events = POLLIN};
+        if (send(port, octets, len, 0) < 0 || poll(&waiting, 1, 2000) != 1 || recv(port, octets, FRAME, 0) < HEADER || octets[0] != 2) {
+            end("a session isn't granted");
+        }
+    }
+    close(port);
+}
+
+struct figures {
+    double one_p50, one_p99, a_second, p50, p99, processor;
+};
+
+static struct figures measure(const char *radpool, const char *workers, uint32_t sessions, int count) {
+    struct figures found;
+    pid_t server = begin_server(radpool, workers);
+    wait_for_server();
+    grant(sessions);
+    load(WARM, SLOTS);
+    load(count / 4, 1);
+    found.one_p50 = within(count / 4, 500);
+    found.one_p99 = within(count / 4, 990);
+    clockid_t clock;
+    if (clock_getcpuclockid(server, &clock) != 0) {
+        end("no clock");
+    }
+    double processor = nanoseconds(clock);
+    found.a_second = count / load(count, SLOTS) * 1e9;
+    found.processor = (nanoseconds(clock) - processor) / count / 1e3;
+    found.p50 = within(count, 500);
+    found.p99 = within(count, 990);
+    kill(server, SIGTERM);
+    waitpid(server, NULL, 0);
+    return found;
+}
+
+static void print_row(const char *name, uint32_t sessions, struct figures f, struct figures null) {
+    printf("| %s | %u | %.1f | %.1f | %.0f | %.0f | %.0f | %.2f | %.2f | %.2f |\n", name, sessions, f.one_p50, f.one_p99, f.a_second, f.p50,
+           f.p99, f.processor, f.one_p50 / null.one_p50, f.a_second / null.a_second);
+    fflush(stdout);
+}
+
+static void print_rows(const char *radpool, uint32_t sessions, int count) {
+    struct figures null = measure(radpool, NULL, 0, MOST);
+    print_row("responder", 0, null, null);
+    print_row("radpool, 1 worker", sessions, measure(radpool, "1", sessions, count), null);
+    print_row("radpool, 2 workers", sessions, measure(radpool, "2", sessions, count), null);
+    print_row("radpool, 4 workers", sessions, measure(radpool, "4", sessions, count), null);
+}
+
+int main(int argc, char **argv) {
+    static const char configuration[] = "window = 1\nhold = 86400\n[[client]]\naddress = \"127.0.0.1\"\nsecret = \"" SECRET "\"\n"
+                                        "[[user]]\nname = \"nemo\"\npassword = \"arctangent\"\nsessions = 4096\n";
+    if (argc != 3) {
+        end("usage: serve RADPOOL FOLDER");
+    }
+    alarm(300);
+    folder = argv[2];
+    write_file("toml", configuration, sizeof configuration - 1);
+    write_file("seed", configuration, 32);
+    fill_slots();
+    puts("| server | sessions | one at a time: p50 µs | p99 µs | 128 at a time: requests/s | p50 µs | p99 µs | CPU µs a request "
+         "| p50 to the responder's | requests/s to the responder's |");
+    puts("|---|---|---|---|---|---|---|---|---|---|");
+    print_rows(argv[1], 16, MOST);
+    print_rows(argv[1], 4096, MOST / 20);
+}
