@@ -5,7 +5,7 @@ use rad_serve::UdpPorts;
 use rad_shell::{OpenGate, Ports, Served, Service, run_rounds};
 use rand_chacha::ChaCha20Rng;
 use rand_core::SeedableRng;
-use std::alloc::Global;
+use std::alloc::{AllocGlobal, Global};
 use std::net::UdpSocket;
 use std::process::Abort;
 use std::sync::Wait;
@@ -54,20 +54,31 @@ fn get_two(rt: &impl Abort, client: &UdpSocket) {
     );
 }
 
+fn answers_three<R: Threads + Wait + Sync + AllocGlobal + Abort, P: Ports>(
+    rt: &R,
+    service: &mut Service,
+    ports: &mut P,
+    client: &UdpSocket,
+) {
+    const LINE: &str = "rounds 1 datagrams 3 replies 2 drops 1 busy 0 nomemory 0 failed 0";
+    send_three(rt, client);
+    says(rt, rt.alloc(), one_round(rt, service, ports), LINE);
+    get_two(rt, client);
+    holds(rt, ports.faults() == 0, "no call failed");
+}
+
 #[test]
 fn three_datagrams(rt: HostRuntime) -> Result<(), Fail> {
-    const LINE: &str = "rounds 1 datagrams 3 replies 2 drops 1 busy 0 nomemory 0 failed 0";
+    let client = client(&rt)?;
+    let mut ports = UdpPorts::bind(&rt, LOOPBACK, AUTH, ACCT)?;
     let config = Config::read(rt.alloc(), CONFIGURATION)?;
     let mut service = Service::open(rt.alloc(), &config)?;
-    let mut ports = UdpPorts::bind(&rt, LOOPBACK, AUTH, ACCT)?;
-    let client = client(&rt)?;
-    send_three(&rt, &client);
-    let served = one_round(&rt, &mut service, &mut ports);
-    says(&rt, rt.alloc(), served, LINE);
-    get_two(&rt, &client);
-    holds(&rt, ports.faults() == 0, "no call failed");
+    answers_three(&rt, &mut service, &mut ports, &client);
     Ok(())
 }
+
+/// More than half of a round. The smallest receive buffer that the system gives to a socket that asks for a large one holds as many.
+const HALF: u16 = 270;
 
 fn send_many(rt: &impl Abort, client: &UdpSocket, port: u16) {
     for _ in 0..HALF {
@@ -75,23 +86,27 @@ fn send_many(rt: &impl Abort, client: &UdpSocket, port: u16) {
     }
 }
 
-/// More than half of a round. The smallest receive buffer that the system gives to a socket that asks for a large one holds as many.
-const HALF: u16 = 270;
+fn leaves_some<R: Threads + Wait + Sync + AllocGlobal + Abort, P: Ports>(
+    rt: &R,
+    service: &mut Service,
+    ports: &mut P,
+    client: &UdpSocket,
+) {
+    const FULL: &str = "rounds 1 datagrams 512 replies 0 drops 512 busy 0 nomemory 0 failed 0";
+    const REST: &str = "rounds 1 datagrams 28 replies 0 drops 28 busy 0 nomemory 0 failed 0";
+    send_many(rt, client, 18122);
+    send_many(rt, client, 18123);
+    says(rt, rt.alloc(), one_round(rt, service, ports), FULL);
+    says(rt, rt.alloc(), one_round(rt, service, ports), REST);
+}
 
 // What is left over is received in the next turn, without another event.
 #[test]
 fn a_turn_ends_at_512(rt: HostRuntime) -> Result<(), Fail> {
-    const FULL: &str = "rounds 1 datagrams 512 replies 0 drops 512 busy 0 nomemory 0 failed 0";
-    const REST: &str = "rounds 1 datagrams 28 replies 0 drops 28 busy 0 nomemory 0 failed 0";
+    let client = client(&rt)?;
+    let mut ports = UdpPorts::bind(&rt, LOOPBACK, 18122, 18123)?;
     let config = Config::read(rt.alloc(), CONFIGURATION)?;
     let mut service = Service::open(rt.alloc(), &config)?;
-    let mut ports = UdpPorts::bind(&rt, LOOPBACK, 18122, 18123)?;
-    let client = client(&rt)?;
-    send_many(&rt, &client, 18122);
-    send_many(&rt, &client, 18123);
-    let served = one_round(&rt, &mut service, &mut ports);
-    says(&rt, rt.alloc(), served, FULL);
-    let served = one_round(&rt, &mut service, &mut ports);
-    says(&rt, rt.alloc(), served, REST);
+    leaves_some(&rt, &mut service, &mut ports, &client);
     Ok(())
 }

@@ -3,8 +3,7 @@ use super::{LOOPBACK, holds};
 use rad_config::ConfigFault;
 use rad_serve::{Options, ServeError, UdpPorts, Workers, serve};
 use rad_shell::ServeFault;
-use std::alloc::{AllocError, AllocGlobal, Global};
-use std::fs;
+use std::alloc::{AllocGlobal, Global};
 use std::net::Net;
 use std::process::Abort;
 use std::rt::Files;
@@ -12,6 +11,7 @@ use std::sync::Wait;
 use std::test::Fail;
 use std::thread::Threads;
 use std::time::Clock;
+use std::{fs, io};
 
 const AUTH: u16 = 18136;
 
@@ -70,19 +70,40 @@ const ROWS: &[(&str, &str, ServeError)] = &[
     (CONFIG, SEED, ServeError::Bind),
 ];
 
+fn write_files<R: Files>(rt: &R) -> io::Result<()> {
+    fs::write(rt, CONFIG, CONFIGURATION)?;
+    fs::write(rt, SEED, &[1u8; 32])?;
+    fs::write(rt, SHORT_SEED, &[1u8; 31])?;
+    fs::write(rt, LONG_SEED, &[1u8; 33])
+}
+
+fn remove_files<R: Files>(rt: &R) -> io::Result<()> {
+    fs::remove_file(rt, CONFIG)?;
+    fs::remove_file(rt, SEED)?;
+    fs::remove_file(rt, SHORT_SEED)?;
+    fs::remove_file(rt, LONG_SEED)
+}
+
+fn ends_so<R: Files + Net + Clock + Print + Threads + Wait + Sync + AllocGlobal>(
+    rt: &R,
+    config: &str,
+    seed: &str,
+    fault: ServeError,
+) -> bool {
+    match served(rt, config, seed) {
+        Some(Err(ended)) => ended == fault,
+        _ => false,
+    }
+}
+
 #[test]
 fn faults_in_their_order(rt: HostRuntime) -> Result<(), Fail> {
-    fs::write(&rt, CONFIG, CONFIGURATION)?;
-    fs::write(&rt, SEED, &[1u8; 32])?;
-    fs::write(&rt, SHORT_SEED, &[1u8; 31])?;
-    fs::write(&rt, LONG_SEED, &[1u8; 33])?;
+    write_files(&rt)?;
     let _taken = UdpPorts::bind(&rt, LOOPBACK, AUTH, ACCT)?;
     for (config, seed, fault) in ROWS.iter() {
-        let ended = served(&rt, config, seed);
-        holds(&rt, ended == Some(Err(*fault)), seed);
+        holds(&rt, ends_so(&rt, config, seed, *fault), seed);
     }
-    fs::remove_file(&rt, SHORT_SEED)?;
-    fs::remove_file(&rt, LONG_SEED)?;
+    remove_files(&rt)?;
     Ok(())
 }
 
