@@ -66,6 +66,8 @@ impl<L: Opened> Pass<L> {
     }
 
     /// One exchange under the lock, of which the pass keeps a receipt.
+    ///
+    /// As `Desk::ask`, by the desk's lock.
     pub fn ask<'c, R: Wait>(
         &mut self,
         rt: &R,
