@@ -82,6 +82,24 @@ impl<L: Opened> Pass<L> {
         ensures asked { OnOk result (AddsReceipt tag request.now moment draw.now self.old self.new) }
         ensures unchanged { OnErr result (self.new ≡ self.old) }
     {
+        self.exchange(&mut lock.lock(rt), tag, request, moment, draw)
+    }
+
+    /// The same on what is under the lock, for a caller that has taken it: so it makes several exchanges before another takes it.
+    #[doc(hidden)]
+    pub fn exchange<'c>(
+        &mut self,
+        locked: &mut Locked<'c, L>,
+        tag: u64,
+        request: &Request,
+        moment: u64,
+        draw: &[u8; 16],
+    ) -> Result<(), AllocError>
+        requires moment { moment ≤ moment_max }
+        requires admitted { IsAdmitted L.opening.configuration.clients request.now }
+        ensures asked { OnOk result (AddsReceipt tag request.now moment draw.now self.old self.new) }
+        ensures unchanged { OnErr result (self.new ≡ self.old) }
+    {
         let Pass {
             alloc,
             receipts,
@@ -89,9 +107,7 @@ impl<L: Opened> Pass<L> {
         } = self;
         let octets = Octets::of(*alloc, request.packet.octets())?;
         receipts.reserve(1)?;
-        let receipt = lock
-            .lock(rt)
-            .exchange(share, tag, request, octets, moment, draw)?;
+        let receipt = locked.exchange(share, tag, request, octets, moment, draw)?;
         receipts.push_reserved(receipt);
         Ok(())
     }

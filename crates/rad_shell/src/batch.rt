@@ -50,7 +50,7 @@ fn arrival_at<'a>(arrivals: &[Timed<'a>], number: usize) -> Option<Arrival<'a>>
     Some(timed.arrival)
 }
 
-/// Asks the requests of a batch, one after another. Returns the index of each one's receipt in the pass.
+/// Asks the requests of a batch, one after another, with one taking of the lock. Returns the index of each one's receipt in the pass.
 pub(crate) fn ask_batch<'c, L: Opened, R: Wait>(
     rt: &R,
     lock: &Mutex<Locked<'c, L>>,
@@ -65,17 +65,17 @@ pub(crate) fn ask_batch<'c, L: Opened, R: Wait>(
     ensures kept { AreKept pass.old.receipts pass.new.receipts }
     ensures asked { AreAsked arrivals.now pass.new.receipts first verdicts.now result }
 {
+    let mut locked = lock.lock(rt);
     let mut asked = [None; BATCH];
     for lane in 0..BATCH {
-        asked[lane] = ask(rt, lock, arrivals, pass, first + lane, &verdicts[lane]);
+        asked[lane] = ask(&mut locked, arrivals, pass, first + lane, &verdicts[lane]);
     }
     asked
 }
 
 // Asks the request of an arrival, if it is one. Returns the index of its receipt.
-fn ask<'c, L: Opened, R: Wait>(
-    rt: &R,
-    lock: &Mutex<Locked<'c, L>>,
+fn ask<'c, L: Opened>(
+    locked: &mut Locked<'c, L>,
     arrivals: &[Timed],
     pass: &mut Pass<L>,
     number: usize,
@@ -91,7 +91,8 @@ fn ask<'c, L: Opened, R: Wait>(
     };
     let timed = arrivals.get(number)?;
     let index = pass.receipts().len();
-    pass.ask(rt, lock, number as u64, request, timed.moment, &timed.draw)
+    let tag = number as u64;
+    pass.exchange(locked, tag, request, timed.moment, &timed.draw)
         .ok()?;
     Some(index)
 }
