@@ -162,7 +162,7 @@ pub(crate) fn start(rows: &mut Vec<Session>, number: u64)
     ensures capacity { vec_capacity rows.new ≡ vec_capacity rows.old }
 {
     for row in rows.iter_mut() {
-        *row = started(*row, number);
+        start_session(row, number);
     }
 }
 
@@ -173,33 +173,23 @@ pub(crate) fn stop(rows: &mut Vec<Session>, number: u64)
     ensures capacity { vec_capacity rows.new ≡ vec_capacity rows.old }
 {
     for row in rows.iter_mut() {
-        *row = stopped(*row, number);
+        stop_session(row, number);
     }
 }
 
-fn started(session: Session, number: u64) -> Session
-    ensures { result ≡ with_phase after_start number session }
+fn start_session(session: &mut Session, number: u64)
+    ensures { session.new ≡ with_phase after_start number session.old }
 {
     if session.number == number && session.phase == Phase::Pending {
-        Session {
-            phase: Phase::Active,
-            ..session
-        }
-    } else {
-        session
+        session.phase = Phase::Active;
     }
 }
 
-fn stopped(session: Session, number: u64) -> Session
-    ensures { result ≡ with_phase after_stop number session }
+fn stop_session(session: &mut Session, number: u64)
+    ensures { session.new ≡ with_phase after_stop number session.old }
 {
     if session.number == number {
-        Session {
-            phase: Phase::Ended,
-            ..session
-        }
-    } else {
-        session
+        session.phase = Phase::Ended;
     }
 }
 
