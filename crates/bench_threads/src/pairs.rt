@@ -1,4 +1,4 @@
-//! Pairs: a service, and an equal server that one thread has to itself, which answer the same datagrams.
+//! Pairs: services, and an equal server that one thread has to itself, which answer the same datagrams.
 ghost use Rattle.std.specs.Prelude.{◌≤◌, length};
 ghost use Rattle.rad_shell.specs.Rounds.{AreMoments, arrivals_max};
 
@@ -83,7 +83,10 @@ pub(crate) enum Way {
 #[derive(Drop)]
 pub(crate) struct Pair<'c> {
     alloc: Global,
-    service: Service<'c>,
+    // Its rounds have one worker, so it has no second server.
+    single: Service<'c>,
+    // Its rounds have several workers.
+    shared: Service<'c>,
     server: Server<'c>,
     frames: [Frame; FRAMES],
 }
@@ -96,23 +99,14 @@ impl<'c> Pair<'c> {
         config: &'c Config,
         sessions: u16,
     ) -> Option<Pair<'c>> {
-        let mut service = Service::open(alloc, config).ok()?;
-        for _ in 0..sessions.div_ceil(ROUND_MAX) {
-            let moment = service.server().clock().saturating_add(WINDOW);
-            let requests = datagrams(alloc, Kind::Grant, sessions, moment, WINDOW)?;
-            time_round(
-                rt,
-                &mut service,
-                requests.as_slice(),
-                1,
-                code::ACCESS_ACCEPT,
-            )?;
-        }
-        let server = service.server().copy().ok()?;
+        let single = granted(rt, alloc, config, sessions)?;
+        let shared = granted(rt, alloc, config, sessions)?;
+        let server = single.server().copy().ok()?;
         let frames = try_from_fn(|_| Frame::new(alloc)).ok()?;
         Some(Pair {
             alloc,
-            service,
+            single,
+            shared,
             server,
             frames,
         })
@@ -145,15 +139,20 @@ impl<'c> Pair<'c> {
     ) -> Option<u64> {
         let clock = match way {
             Way::Alone => self.server.clock(),
-            Way::Workers(_) => self.service.server().clock(),
+            Way::Workers(1) => self.single.server().clock(),
+            Way::Workers(_) => self.shared.server().clock(),
         };
         let moment = clock.saturating_add(lot.timing.pause());
         let requests = datagrams(self.alloc, Kind::Start, lot.count, moment, lot.timing.gap())?;
         match way {
             Way::Alone => self.time_alone(rt, requests.as_slice()),
             Way::Workers(workers) => {
+                let service = match workers {
+                    1 => &mut self.single,
+                    _ => &mut self.shared,
+                };
                 let wanted = code::ACCOUNTING_RESPONSE;
-                time_round(rt, &mut self.service, requests.as_slice(), workers, wanted)
+                time_round(rt, service, requests.as_slice(), workers, wanted)
             }
         }
     }
@@ -168,6 +167,28 @@ impl<'c> Pair<'c> {
             None
         }
     }
+}
+
+// A service with so many sessions: at most `ROUND_MAX`, or a multiple of it.
+fn granted<'c, R: Threads + Wait + Sync + Clock>(
+    rt: &R,
+    alloc: Global,
+    config: &'c Config,
+    sessions: u16,
+) -> Option<Service<'c>> {
+    let mut service = Service::open(alloc, config).ok()?;
+    for _ in 0..sessions.div_ceil(ROUND_MAX) {
+        let moment = service.server().clock().saturating_add(WINDOW);
+        let requests = datagrams(alloc, Kind::Grant, sessions, moment, WINDOW)?;
+        time_round(
+            rt,
+            &mut service,
+            requests.as_slice(),
+            1,
+            code::ACCESS_ACCEPT,
+        )?;
+    }
+    Some(service)
 }
 
 // Nanoseconds of a round, with the look at its replies and the reuse of its frames; none if it fails, or if a reply is missing or has

@@ -1,3 +1,4 @@
 pub mod WorkLemmas
 pub mod TableLemmas
+pub mod AloneLemmas
 pub mod ServingLemmas

@@ -81,7 +81,7 @@ pub of_some_push : (passes : List Pass) (pass : Pass) (place : Option ℕ) (entr
     → HasReceiptOfSome (passes ++ pass ∷ []) place entry
 of_some_push passes pass place entry has = (has.0, has.1, get_append passes (pass ∷ []) has.0 has.1 has.2, has.3)
 
-last_at : {A : Type 0} (xs : List A) (x : A) → slice_get (xs ++ x ∷ []) (length xs) ≡ Some x
+pub last_at : {A : Type 0} (xs : List A) (x : A) → slice_get (xs ++ x ∷ []) (length xs) ≡ Some x
 last_at [] x = refl
 last_at (a ∷ xs) x = last_at xs x
 
@@ -218,7 +218,7 @@ abbrev pub AreTaggedBelow : List Entry → List (Option (Option ℕ)) → ℕ �
 AreTaggedBelow history places below = (place : ℕ) (entry : Entry) → place < below → slice_get history place ≡ Some entry
     → slice_get places entry.tag ≡ Some (Some (Some place))
 
-less_or_not : (a b : ℕ) → (a < b) ⊎ (b ≤ a)
+pub less_or_not : (a b : ℕ) → (a < b) ⊎ (b ≤ a)
 less_or_not a zero = inr (omega arith)
 less_or_not zero (suc b) = inl (omega arith)
 less_or_not (suc a) (suc b) = next (less_or_not a b)

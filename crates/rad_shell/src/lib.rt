@@ -1,12 +1,13 @@
-//! The round: datagrams that several workers answer over one desk.
+//! The round: datagrams that one worker answers, or several over one desk.
 //!
-//! `Service::round` answers datagrams over a desk of `rad_desk`, by several workers. Nothing is decided here: answers are
-//! `rad_server`'s. The desk's names are passed on.
+//! `Service::round` answers datagrams by one worker, which has the server to itself, or by several over a desk of `rad_desk`. Nothing
+//! is decided here: answers are `rad_server`'s. The desk's names are passed on.
 //!
 //! Other crates rest on this: when `Service::round` returns `Ok`, the history leads from the server before to the one after, and each
 //! datagram has its outcome by that history (`specs/Rounds.antt`).
 #![tactic(auto)]
 
+mod alone;
 mod batch;
 mod gate;
 mod memory_ports;

@@ -3,7 +3,7 @@ use crate::batch::BATCH;
 use crate::outcome::Outcome;
 use crate::worker::Numbered;
 use rad_packet::Frame;
-use std::alloc::Global;
+use std::alloc::{AllocError, Global};
 
 /// The most frames that a worker keeps: as many as a round has replies.
 const FRAMES_MAX: usize = 512;
@@ -58,5 +58,39 @@ fn give(rooms: &mut [Room], worker: Option<usize>, frame: Frame) {
     if worker < rooms.len() {
         let place = rooms.len() - 1 - worker;
         rooms[place].keep(frame);
+    }
+}
+
+/// Keeps a frame for the next batch, if there is memory to keep it.
+pub(crate) fn put_back(frames: &mut Vec<Frame>, frame: Option<Frame>) {
+    let Some(frame) = frame else {
+        return;
+    };
+    if frames.reserve(1).is_ok() {
+        frames.push_reserved(frame);
+    }
+}
+
+/// Eight frames: first those that are left.
+pub(crate) fn eight_frames(
+    alloc: Global,
+    left: &mut Vec<Frame>,
+) -> Result<[Frame; BATCH], AllocError> {
+    Ok([
+        frame(alloc, left)?,
+        frame(alloc, left)?,
+        frame(alloc, left)?,
+        frame(alloc, left)?,
+        frame(alloc, left)?,
+        frame(alloc, left)?,
+        frame(alloc, left)?,
+        frame(alloc, left)?,
+    ])
+}
+
+fn frame(alloc: Global, left: &mut Vec<Frame>) -> Result<Frame, AllocError> {
+    match left.pop() {
+        Some(frame) => Ok(frame),
+        None => Frame::new(alloc),
     }
 }

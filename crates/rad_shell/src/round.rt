@@ -1,4 +1,4 @@
-//! A round: its workers, each on a thread, over one lock.
+//! A round with several workers, each on a thread, over one lock.
 ghost use Rattle.std.specs.Prelude.{◌≡◌, ◌<◌, ◌≤◌, length, vec_len, IfErr, IfOk};
 ghost use Rattle.rad_desk.specs.Desks.{IsBlankOf};
 ghost use Rattle.rad_shell.specs.Rounds.{AreMoments, Round, arrivals_max, workers_max};

@@ -1,15 +1,17 @@
 //! The service: a server that answers rounds of datagrams.
-ghost use Rattle.std.specs.Prelude.{◌≡◌, ◌≢◌, ◌≤◌, length, Err, IfOk, IfSome, OnErr};
+ghost use Rattle.std.specs.Prelude.{◌≡◌, ◌≢◌, ◌≤◌, length, Err, IfErr, IfOk, IfSome, OnErr};
 ghost use Rattle.rad_desk.specs.declared.mismatch.Mismatch.{Mismatch};
 ghost use Rattle.rad_server.specs.Repeats.{Repeat};
 ghost use Rattle.rad_server.specs.Runs.{IsHistory, IsLawfulThroughout};
 ghost use Rattle.rad_server.specs.States.{opening};
 ghost use Rattle.rad_shell.specs.Rounds.{AreMoments, Round, arrivals_max, workers_max};
+ghost use Rattle.rad_shell.specs.Works.{IsOwnFault};
 ghost use Rattle.rad_shell.specs.declared.round_fault.RoundFault.{RoundFault};
 
+use crate::alone::round_alone;
 use crate::batch::BATCH;
 use crate::gate::Gate;
-use crate::room::{Room, give_back};
+use crate::room::{Room, give_back, leave};
 use crate::round::{Done, run_round};
 use crate::round_fault::RoundFault;
 use crate::timed::Timed;
@@ -32,7 +34,7 @@ pub const WORKERS_MAX: u64 = 8;
 pub struct Service<'c> {
     alloc: Global,
     current: Server<'c>,
-    // An equal server, if there is one. While a round has the current server, it stands in for it.
+    // An equal server, if there is one. While several workers have the current server, it stands in for it.
     spare: Option<Server<'c>>,
     // What the workers of a round leave to those of the next.
     rooms: Vec<Room>,
@@ -104,12 +106,79 @@ impl<'c> Service<'c> {
         self.current.state_is_lawful();
         runs_repeat();
         runs_are_lawful();
+        self.answer(rt, arrivals, workers, gate)
+    }
+
+    // Answers the datagrams, by no more workers than there are batches.
+    fn answer<R: Threads + Wait + Sync, G: Gate + Sync>(
+        &mut self,
+        rt: &R,
+        arrivals: &[Timed],
+        workers: u64,
+        gate: &G,
+    ) -> Result<Done, RoundFault>
+        requires workers { (1 ≤ workers) × (workers ≤ workers_max) }
+        requires count { length arrivals.now ≤ arrivals_max }
+        requires moments { AreMoments arrivals.now }
+        ensures round { IfOk result (λ done.
+            Round self.old arrivals.now done.outcomes.items done.history.items self.new) }
+        ensures unchanged { OnErr result (self.new ≡ self.old) }
+        ensures fault { IfErr result IsOwnFault }
+    {
+        let workers = workers.min(batch_count(arrivals));
+        if workers == 1 {
+            self.answer_alone(arrivals, gate)
+        } else {
+            self.answer_together(rt, arrivals, workers, gate)
+        }
+    }
+
+    // A round with one worker, on the current server.
+    fn answer_alone<G: Gate>(&mut self, arrivals: &[Timed], gate: &G) -> Result<Done, RoundFault>
+        requires count { length arrivals.now ≤ arrivals_max }
+        requires moments { AreMoments arrivals.now }
+        ensures round { IfOk result (λ done.
+            Round self.old arrivals.now done.outcomes.items done.history.items self.new) }
+        ensures unchanged { OnErr result (self.new ≡ self.old) }
+        ensures fault { IfErr result IsOwnFault }
+    {
+        let mut room = self.rooms.pop().unwrap_or(Room::new(self.alloc));
+        let made = round_alone(
+            self.alloc,
+            &mut self.current,
+            arrivals,
+            gate,
+            &mut room.frames,
+        );
+        leave(&mut self.rooms, room);
+        let done = made?;
+        if let Some(spare) = self.spare.take() {
+            self.spare = brought_up(spare, done.history.as_slice(), &self.current);
+        }
+        Ok(done)
+    }
+
+    // A round with several workers. They have the current server under a lock.
+    fn answer_together<R: Threads + Wait + Sync, G: Gate + Sync>(
+        &mut self,
+        rt: &R,
+        arrivals: &[Timed],
+        workers: u64,
+        gate: &G,
+    ) -> Result<Done, RoundFault>
+        requires workers { (1 ≤ workers) × (workers ≤ workers_max) }
+        requires count { length arrivals.now ≤ arrivals_max }
+        requires moments { AreMoments arrivals.now }
+        ensures round { IfOk result (λ done.
+            Round self.old arrivals.now done.outcomes.items done.history.items self.new) }
+        ensures unchanged { OnErr result (self.new ≡ self.old) }
+        ensures fault { IfErr result IsOwnFault }
+    {
         let spare = match self.spare.take() {
             Some(spare) => spare,
             None => self.current.copy()?,
         };
         let server = mem::replace(&mut self.current, spare);
-        let workers = workers.min(batch_count(arrivals));
         let (after, done) = run_round(
             rt,
             self.alloc,

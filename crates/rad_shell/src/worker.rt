@@ -1,4 +1,4 @@
-//! Workers of a round.
+//! Workers of a round that has several.
 ghost use Rattle.std.specs.Prelude.{◌≡◌, [], ◌+◌, ◌*◌, ◌<◌, ◌≤◌, ◌^◌, length, IfSome, Some};
 ghost use Rattle.rad_shell.specs.Rounds.{AreMoments, arrivals_max};
 ghost use Rattle.rad_shell.specs.Works.{AreAsked, AreSealed, AreVerdicts, HasAnswered, HasReceipt, IsAskedIn, IsFoundBy, IsReceiptAt, IsSealed, IsSealedIn, IsVerdict};
@@ -6,13 +6,13 @@ ghost use Rattle.rad_shell.specs.Works.{AreAsked, AreSealed, AreVerdicts, HasAns
 use crate::batch::{BATCH, Verdict, ask_batch, check_batch, seal_batch};
 use crate::gate::Gate;
 use crate::outcome::Outcome;
-use crate::room::Room;
+use crate::room::{Room, eight_frames, put_back};
 use crate::timed::Timed;
 use rad_auth::Clients;
 use rad_desk::{Locked, Opened, Pass, Receipt};
 use rad_packet::Frame;
 use rad_server::Answer;
-use std::alloc::{AllocError, Global};
+use std::alloc::Global;
 use std::marker::Model;
 use std::sync::{Mutex, Wait};
 
@@ -269,33 +269,7 @@ impl<L: Opened> Worker<L> {
     fn put_back(&mut self, frame: Option<Frame>)
         ensures { self.new ≡ self.old }
     {
-        let Some(frame) = frame else {
-            return;
-        };
-        if self.frames.reserve(1).is_ok() {
-            self.frames.push_reserved(frame);
-        }
-    }
-}
-
-// Eight frames: first those that are left.
-fn eight_frames(alloc: Global, left: &mut Vec<Frame>) -> Result<[Frame; BATCH], AllocError> {
-    Ok([
-        frame(alloc, left)?,
-        frame(alloc, left)?,
-        frame(alloc, left)?,
-        frame(alloc, left)?,
-        frame(alloc, left)?,
-        frame(alloc, left)?,
-        frame(alloc, left)?,
-        frame(alloc, left)?,
-    ])
-}
-
-fn frame(alloc: Global, left: &mut Vec<Frame>) -> Result<Frame, AllocError> {
-    match left.pop() {
-        Some(frame) => Ok(frame),
-        None => Frame::new(alloc),
+        put_back(&mut self.frames, frame)
     }
 }
 
