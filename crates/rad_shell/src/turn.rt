@@ -16,6 +16,9 @@ use rand_core::Rng;
 use std::sync::Wait;
 use std::thread::Threads;
 
+/// The least datagrams of a turn for each of its workers. One thread answers so many in about the time that another takes to start.
+const DATAGRAMS_EACH: usize = 128;
+
 /// Makes a turn, and adds it to the sums.
 ///
 /// The room for datagrams is made if it isn't there yet. If memory for it is refused, the turn receives nothing, and its round is lost.
@@ -82,9 +85,19 @@ fn answer<R: Threads + Wait + Sync, G: Gate + Sync>(
     let Ok(arrivals) = received.arrivals(service.alloc()) else {
         return Ok(None);
     };
+    let workers = worthwhile(arrivals.len(), workers);
     match service.round(rt, &arrivals, workers, gate) {
         Ok(done) => Ok(Some(done)),
         Err(RoundFault::Mismatch(mismatch)) => Err(mismatch),
         Err(RoundFault::NoMemory | RoundFault::NoThread) => Ok(None),
     }
+}
+
+// How many workers a round of so many datagrams is worth.
+fn worthwhile(count: usize, workers: u64) -> u64
+    requires { 1 ≤ workers }
+    ensures { (1 ≤ result) × (result ≤ workers) }
+{
+    let most = (count / DATAGRAMS_EACH).max(1) as u64;
+    workers.min(most)
 }
