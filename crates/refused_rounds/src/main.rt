@@ -1,7 +1,7 @@
-//! What rounds do where memory is refused. For each of three calls a line is printed: `right`, or `wrong` and why.
+//! What rounds do where memory is refused. For each of five calls a line is printed: `right`, or `wrong` and why.
 //!
-//! The first opens a service, the second is its first round, and the third is a round of the same datagrams again. Whichever
-//! allocation is refused, the lines and the status stay the same.
+//! The first opens a service, and the others are its rounds, of the same datagrams: one by one worker, two by two workers, and one by
+//! one worker again, which the second server follows. Whichever allocation is refused, the lines and the status stay the same.
 #![tactic(auto)]
 
 use rad_auth::{Arrival, Door};
@@ -49,6 +49,9 @@ const TIMED: Timed = Timed {
 /// The request once more than a batch has lanes: two workers have something to do.
 const COUNT: usize = 9;
 
+/// The workers of each round.
+const WORKERS: [u64; 4] = [1, 2, 2, 1];
+
 // Only one allocation is refused, so what is refused memory is done when it is called again.
 fn configuration(alloc: Global) -> Option<Config> {
     match Config::read(alloc, CONFIGURATION) {
@@ -72,17 +75,25 @@ fn copied<'c>(server: &Server<'c>) -> Option<Server<'c>> {
     }
 }
 
-fn round<R: Threads + Wait + Sync>(rt: &R, service: &mut Service) -> Result<Done, RoundFault> {
+fn round<R: Threads + Wait + Sync>(
+    rt: &R,
+    service: &mut Service,
+    workers: u64,
+) -> Result<Done, RoundFault> {
     const REQUESTS: &[Timed] = &[TIMED; COUNT];
-    service.round(rt, REQUESTS, 2, &OpenGate)
+    service.round(rt, REQUESTS, workers.clamp(1, 2), &OpenGate)
 }
 
 /// Either each request has its reply; or the server is as far as its history, and a second call answers them all.
-fn judge_round<R: Threads + Wait + Sync>(rt: &R, service: &mut Service) -> &'static str {
+fn judge_round<R: Threads + Wait + Sync>(
+    rt: &R,
+    service: &mut Service,
+    workers: u64,
+) -> &'static str {
     let Some(before) = copied(service.server()) else {
         return "wrong: no copy of the server";
     };
-    match round(rt, service) {
+    match round(rt, service, workers) {
         Ok(done) if is_answered(&done) => "right",
         Ok(done) if !is_refused_in_part(&done) => "wrong: another outcome",
         Ok(done) if done.history.is_empty() && !service.server().same(&before) => {
@@ -90,13 +101,17 @@ fn judge_round<R: Threads + Wait + Sync>(rt: &R, service: &mut Service) -> &'sta
         }
         Err(RoundFault::NoMemory) if !service.server().same(&before) =>
             "wrong: a change by a fault",
-        Ok(_) | Err(RoundFault::NoMemory) => judge_again(rt, service),
+        Ok(_) | Err(RoundFault::NoMemory) => judge_again(rt, service, workers),
         Err(_) => "wrong: another fault",
     }
 }
 
-fn judge_again<R: Threads + Wait + Sync>(rt: &R, service: &mut Service) -> &'static str {
-    match round(rt, service) {
+fn judge_again<R: Threads + Wait + Sync>(
+    rt: &R,
+    service: &mut Service,
+    workers: u64,
+) -> &'static str {
+    match round(rt, service, workers) {
         Ok(done) if is_answered(&done) => "right",
         _ => "wrong: no answer to the second call",
     }
@@ -142,6 +157,8 @@ fn main(rt: HostRuntime) -> io::Result<()> {
         return println!(rt; "wrong: no service");
     };
     println!(rt; "right")?;
-    println!(rt; "{}", judge_round(&rt, &mut service))?;
-    println!(rt; "{}", judge_round(&rt, &mut service))
+    for workers in WORKERS.iter() {
+        println!(rt; "{}", judge_round(&rt, &mut service, *workers))?;
+    }
+    Ok(())
 }
