@@ -61,10 +61,51 @@ fn meets(own: &AtomicU64, other: &AtomicU64) -> bool {
     false
 }
 
+/// A gate that counts the batches, each of which should come in its turn.
+#[derive(Drop)]
+struct InTurn {
+    passed: AtomicU64,
+    /// How often another batch came than the next one.
+    faults: AtomicU64,
+}
+
+impl InTurn {
+    fn new() -> InTurn {
+        InTurn {
+            passed: AtomicU64::new(0),
+            faults: AtomicU64::new(0),
+        }
+    }
+
+    // Whether so many batches came, each in its turn.
+    fn has_passed(&self, count: u64) -> bool {
+        self.passed.load(Ordering::SeqCst) == count && self.faults.load(Ordering::SeqCst) == 0
+    }
+}
+
+impl Gate for InTurn {
+    fn pass(&self, batch: u64) {
+        if self.passed.fetch_add(1, Ordering::SeqCst) != batch {
+            self.faults.fetch_add(1, Ordering::SeqCst);
+        }
+    }
+}
+
+/// One more than a batch has lanes.
+const SENT: &[Sent] = &[V, V, V, V, V, V, V, V, V];
+
+const V: Sent = Octets(NEMO);
+
+#[test]
+fn one_worker_has_each_batch_in_its_turn(rt: HostRuntime) {
+    let in_turn = InTurn::new();
+    let done = first_round(&rt, rt.alloc(), SENT, 1, &in_turn, &[1]);
+    holds(&rt, has_len(&done, 9, 9), "nine outcomes and entries");
+    holds(&rt, in_turn.has_passed(2), "each batch came in its turn");
+}
+
 #[test]
 fn two_workers_have_a_batch_each_at_once(rt: HostRuntime) {
-    const V: Sent = Octets(NEMO);
-    const SENT: &[Sent] = &[V, V, V, V, V, V, V, V, V];
     let meeting = Meeting::new();
     let done = first_round(&rt, rt.alloc(), SENT, 2, &meeting, &[1]);
     holds(&rt, has_len(&done, 9, 9), "nine outcomes and entries");
