@@ -4,6 +4,7 @@ mod asking;
 mod campus;
 mod desks;
 mod requests;
+mod texts;
 
 use std::process::Abort;
 

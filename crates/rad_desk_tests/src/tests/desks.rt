@@ -35,6 +35,14 @@ fn a_desk_closes_with_its_history(rt: HostRuntime) {
     holds(&rt, all_stand(&ended), "each receipt stands in the history");
 }
 
+#[test]
+fn a_book_of_the_same_settles(rt: HostRuntime) {
+    let ended = one_thread(&rt, rt.alloc(), BOTH, Settle(BOTH));
+    let wanted = &[(7, ACCESS_ACCEPT), (8, ACCESS_REJECT)];
+    holds(&rt, has_history(&ended, wanted), "the book's history");
+    holds(&rt, all_stand(&ended), "each receipt stands in it");
+}
+
 /// How a desk ends at which both asked, why it doesn't close, and what that shows.
 type Row = (Ending, Mismatch, &'static str);
 
