@@ -4,6 +4,7 @@ mod datagrams;
 mod gates;
 mod rounds;
 mod serving;
+mod texts;
 
 use std::process::Abort;
 
