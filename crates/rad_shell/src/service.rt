@@ -133,7 +133,7 @@ impl<'c> Service<'c> {
         }
     }
 
-    // A round with one worker, on the current server.
+    // A round with one worker, on the current server. An equal server isn't kept: it would have to make each exchange again.
     fn answer_alone<G: Gate>(&mut self, arrivals: &[Timed], gate: &G) -> Result<Done, RoundFault>
         requires count { length arrivals.now ≤ arrivals_max }
         requires moments { AreMoments arrivals.now }
@@ -152,9 +152,7 @@ impl<'c> Service<'c> {
         );
         leave(&mut self.rooms, room);
         let done = made?;
-        if let Some(spare) = self.spare.take() {
-            self.spare = brought_up(spare, done.history.as_slice(), &self.current);
-        }
+        self.spare = None;
         Ok(done)
     }
 
