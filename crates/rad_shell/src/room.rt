@@ -39,9 +39,8 @@ pub(crate) fn leave(rooms: &mut Vec<Room>, room: Room) {
     }
 }
 
-/// Gives the frames of a round's replies back to the workers that made them. The last room is that of the first worker.
-pub(crate) fn give_back(rooms: &mut [Room], mut outcomes: Vec<Outcome>) {
-    let workers = rooms.len().min(outcomes.len().div_ceil(BATCH));
+/// Gives the frames of a round's replies back to its workers, of which there were so many. The last room is that of the first one.
+pub(crate) fn give_back(rooms: &mut [Room], mut outcomes: Vec<Outcome>, workers: usize) {
     while let Some(outcome) = outcomes.pop() {
         let batch = outcomes.len() / BATCH;
         if let Outcome::Reply(frame) = outcome {

@@ -38,6 +38,8 @@ pub struct Service<'c> {
     spare: Option<Server<'c>>,
     // What the workers of a round leave to those of the next.
     rooms: Vec<Room>,
+    // How many workers the last round had.
+    workers: u64,
 }
 
 impl<'c> Model for Service<'c> {
@@ -62,6 +64,7 @@ impl<'c> Service<'c> {
             current: Server::open(alloc, config)?,
             spare: None,
             rooms: Vec::new(alloc),
+            workers: 1,
         })
     }
 
@@ -126,6 +129,7 @@ impl<'c> Service<'c> {
         ensures fault { IfErr result IsOwnFault }
     {
         let workers = workers.min(batch_count(arrivals));
+        self.workers = workers;
         if workers == 1 {
             self.answer_alone(arrivals, gate)
         } else {
@@ -196,7 +200,7 @@ impl<'c> Service<'c> {
         ensures { self.new ≡ self.old }
     {
         let Done { outcomes, .. } = done;
-        give_back(&mut self.rooms, outcomes);
+        give_back(&mut self.rooms, outcomes, self.workers as usize);
     }
 }
 
