@@ -1,9 +1,10 @@
 -- Serving: a round has an entry for each outcome of an exchange, and turns go on from one another.
-use Rattle.std.proofs.Common.{◌≡◌, ◌≢◌, ◌<◌, ◌≤◌, ℕ, zero, suc, ◌+◌, Bool, true, false, cond, List, [], ◌∷◌, ◌++◌, length, take, drop, get_or, Some, Ok, Err, slice_get, arith, refl, sym, ap, subst, ◌∙◌}
+use Rattle.std.proofs.Common.{◌≡◌, ◌≢◌, ◌<◌, ◌≤◌, ℕ, zero, suc, ◌+◌, Bool, true, false, cond, List, [], ◌∷◌, ◌++◌, length, take, drop, filter, get_or, Some, Ok, Err, slice_get, arith, refl, sym, ap, subst, ◌∙◌}
+use lib.ListN.{length-append}
 use Rattle.std.proofs.lemmas.Option.{get_or_from_slice_get, none-some, slice_get-get_or, slice_get_within}
 use Rattle.std.proofs.lemmas.List.{take_all}
 use Rattle.std.proofs.lemmas.List.Filters.{length-filter_more}
-use Rattle.std.proofs.lemmas.List.Sums.{sum_by-drop_more, sum_by_push}
+use Rattle.std.proofs.lemmas.List.Sums.{length-filter, sum_by-cons, sum_by-drop_more, sum_by_push}
 use Rattle.rad_auth.specs.Clients.{Client}
 use Rattle.rad_config.specs.Configurations.{Configuration}
 use Rattle.rad_config.specs.Ranges.{IsConfiguration}
@@ -14,7 +15,7 @@ use Rattle.rad_server.specs.Servers.{Server}
 use Rattle.rad_server.specs.States.{State}
 use Rattle.rad_server.specs.declared.entry.Entry.{Entry}
 use Rattle.rad_shell.specs.Rounds.{HasArrival, HasEntry, HaveOwnTags, IsEntryOf, IsOutcome, Round, arrivals_max}
-use Rattle.rad_shell.specs.Serving.{AddTurn, AddUp, HasServed, IsRoundMade, IsServed, IsTurn, exchange_count, is_exchanged, octet_count}
+use Rattle.rad_shell.specs.Serving.{AddTurn, AddUp, HasServed, IsRoundMade, IsServed, IsTurn, exchange_count, is_exchanged, is_replied, is_reply, octet_count, replied_count, reply_count}
 use Rattle.rad_shell.specs.declared.outcome.Outcome.{Outcome}
 use Rattle.rad_shell.specs.declared.outcome.Outcome.TheVariants.{Dropped, Busy, NoMemory, Reply}
 use Rattle.rad_shell.specs.declared.ports.Got.{Got}
@@ -33,6 +34,28 @@ octets_left got i d lt = sum_by-drop_more (λ g. g.len) got i d lt
 pub one_more_outcome : (outcomes : List Outcome) (i : ℕ) (d : Outcome) → i < length outcomes
     → exchange_count (take (i + 1) outcomes) ≡ exchange_count (take i outcomes) + cond (is_exchanged (get_or outcomes i d)) 1 0
 one_more_outcome outcomes i d lt = length-filter_more is_exchanged outcomes i d lt
+
+pub one_more_reply : (outcomes : List Outcome) (i : ℕ) (d : Outcome) → i < length outcomes
+    → replied_count (take (i + 1) outcomes) ≡ replied_count (take i outcomes) + cond (is_replied (get_or outcomes i d)) 1 0
+one_more_reply outcomes i d lt = length-filter_more is_replied outcomes i d lt
+
+-- ---- entries, counted
+
+-- the first of a list, counted
+count_cons : {A : Type 0} (p : A → Bool) (x : A) (rest : List A) → length (filter p (x ∷ rest)) ≡ cond (p x) 1 0 + length (filter p rest)
+count_cons p x rest = length-filter p (x ∷ rest) ∙ sum_by-cons (λ y. cond (p y) 1 0) x rest ∙ ap (λ n. cond (p x) 1 0 + n) (sym (length-filter p rest))
+
+count_append : {A : Type 0} (p : A → Bool) (first rest : List A)
+    → length (filter p (first ++ rest)) ≡ length (filter p first) + length (filter p rest)
+count_append p [] rest = omega arith
+count_append p (x ∷ more) rest = omega (arith, count_cons p x (more ++ rest), count_cons p x more, count_append p more rest)
+
+abbrev every : Entry → Bool
+every entry = true
+
+count_every : (history : List Entry) → length (filter every history) ≡ length history
+count_every [] = refl
+count_every (entry ∷ rest) = omega (arith, count_cons every entry rest, count_every rest)
 
 -- ---- tags, counted
 
@@ -70,49 +93,76 @@ same_no zero (suc end) other = refl
 same_no (suc tag) zero other = refl
 same_no (suc tag) (suc end) other = same_no tag end (λ is. other (ap suc is))
 
--- the sum of a number for each tag
-abbrev tally : (ℕ → ℕ) → List Entry → ℕ
-tally f [] = 0
-tally f (entry ∷ rest) = f entry.tag + tally f rest
+differ : false ≡ true → ⊥
+differ is = absurd cc
 
-tally_more : (history : List Entry) (end : ℕ) → tally (λ tag. below tag (suc end)) history ≡ tally (λ tag. below tag end) history + tally (λ tag. same tag end) history
-tally_more [] end = omega arith
-tally_more (entry ∷ rest) end = omega (arith, below_more entry.tag end, tally_more rest end)
+-- a number that counts if something is so
+zero_if : (counts : Bool) (n : ℕ) → (counts ≡ true → n ≡ 0) → cond counts n 0 ≡ 0
+zero_if true n is = is refl
+zero_if false n is = refl
 
-tally_none : (history : List Entry) → tally (λ tag. below tag 0) history ≡ 0
-tally_none [] = refl
-tally_none (entry ∷ rest) = omega (arith, tally_none rest)
+one_if : (counts : Bool) (n : ℕ) → counts ≡ true → n ≡ 1 → cond counts n 0 ≡ 1
+one_if true n so is = is
+one_if false n so is = absurd (differ so)
 
-tally_all : (history : List Entry) (end : ℕ) → ((place : ℕ) (entry : Entry) → slice_get history place ≡ Some entry → entry.tag < end)
-    → tally (λ tag. below tag end) history ≡ length history
-tally_all [] end all = refl
-tally_all (entry ∷ rest) end all =
-    let one = below_yes entry.tag end (all 0 entry refl) in
-    let more = tally_all rest end (λ place other at. all (suc place) other at) in
+same_if : (counts : Bool) (n m : ℕ) → n ≡ m → cond counts n 0 ≡ cond counts m 0
+same_if counts n m is = ap (λ k. cond counts k 0) is
+
+sum_if : (counts : Bool) (n k m : ℕ) → n ≡ k + m → cond counts n 0 ≡ cond counts k 0 + cond counts m 0
+sum_if true n k m is = is
+sum_if false n k m is = omega arith
+
+-- the sum of a number for the tag of each entry that counts
+abbrev tally : (Entry → Bool) → (ℕ → ℕ) → List Entry → ℕ
+tally counts f [] = 0
+tally counts f (entry ∷ rest) = cond (counts entry) (f entry.tag) 0 + tally counts f rest
+
+tally_more : (counts : Entry → Bool) (history : List Entry) (end : ℕ)
+    → tally counts (λ tag. below tag (suc end)) history ≡ tally counts (λ tag. below tag end) history + tally counts (λ tag. same tag end) history
+tally_more counts [] end = omega arith
+tally_more counts (entry ∷ rest) end =
+    let one = sum_if (counts entry) (below entry.tag (suc end)) (below entry.tag end) (same entry.tag end) (below_more entry.tag end) in
+    omega (arith, one, tally_more counts rest end)
+
+tally_none : (counts : Entry → Bool) (history : List Entry) → tally counts (λ tag. below tag 0) history ≡ 0
+tally_none counts [] = refl
+tally_none counts (entry ∷ rest) =
+    let one = zero_if (counts entry) 0 (λ so. refl) in
+    omega (arith, one, tally_none counts rest)
+
+tally_all : (counts : Entry → Bool) (history : List Entry) (end : ℕ)
+    → ((place : ℕ) (entry : Entry) → slice_get history place ≡ Some entry → entry.tag < end)
+    → tally counts (λ tag. below tag end) history ≡ length (filter counts history)
+tally_all counts [] end all = refl
+tally_all counts (entry ∷ rest) end all =
+    let one = same_if (counts entry) (below entry.tag end) 1 (below_yes entry.tag end (all 0 entry refl)) in
+    let more = tally_all counts rest end (λ place other at. all (suc place) other at) in
+    omega (arith, one, more, count_cons counts entry rest)
+
+absent : (counts : Entry → Bool) (history : List Entry) (tag : ℕ)
+    → ((place : ℕ) (entry : Entry) → slice_get history place ≡ Some entry → counts entry ≡ true → entry.tag ≢ tag)
+    → tally counts (λ t. same t tag) history ≡ 0
+absent counts [] tag none = refl
+absent counts (entry ∷ rest) tag none =
+    let one = zero_if (counts entry) (same entry.tag tag) (λ so. same_no entry.tag tag (none 0 entry refl so)) in
+    let more = absent counts rest tag (λ place other at. none (suc place) other at) in
     omega (arith, one, more)
 
-absent : (history : List Entry) (tag : ℕ) → ((place : ℕ) (entry : Entry) → slice_get history place ≡ Some entry → entry.tag ≢ tag)
-    → tally (λ t. same t tag) history ≡ 0
-absent [] tag none = refl
-absent (entry ∷ rest) tag none =
-    let one = same_no entry.tag tag (none 0 entry refl) in
-    let more = absent rest tag (λ place other at. none (suc place) other at) in
-    omega (arith, one, more)
-
-once : (history : List Entry) (tag place : ℕ) (entry : Entry) → HaveOwnTags history → slice_get history place ≡ Some entry → entry.tag ≡ tag
-    → tally (λ t. same t tag) history ≡ 1
-once [] tag place entry own at is = absurd (none-some entry at)
-once (first ∷ rest) tag zero entry own at is =
-    let tagged : first.tag ≡ tag = ap (λ e. e.tag) (get_or_from_slice_get (first ∷ rest) 0 entry first at) ∙ is in
-    let one = subst (λ t. same first.tag t ≡ 1) tagged (same_yes first.tag) in
-    let none = absent rest tag (λ place other there equal. absurd (apart (own 0 (suc place) first other refl there (tagged ∙ sym equal)))) in
+once : (counts : Entry → Bool) (history : List Entry) (tag place : ℕ) (entry : Entry) → HaveOwnTags history
+    → slice_get history place ≡ Some entry → entry.tag ≡ tag → counts entry ≡ true → tally counts (λ t. same t tag) history ≡ 1
+once counts [] tag place entry own at is so = absurd (none-some entry at)
+once counts (first ∷ rest) tag zero entry own at is so =
+    let found : first ≡ entry = get_or_from_slice_get (first ∷ rest) 0 entry first at in
+    let tagged : first.tag ≡ tag = ap (λ e. e.tag) found ∙ is in
+    let one = one_if (counts first) (same first.tag tag) (ap counts found ∙ so) (subst (λ t. same first.tag t ≡ 1) tagged (same_yes first.tag)) in
+    let none = absent counts rest tag (λ place other there so equal. absurd (apart (own 0 (suc place) first other refl there (tagged ∙ sym equal)))) in
     omega (arith, one, none)
   where
     apart : {place : ℕ} → 0 ≡ suc place → ⊥
     apart is = absurd (omega arith)
-once (first ∷ rest) tag (suc place) entry own at is =
-    let one = same_no first.tag tag (λ equal. absurd (apart (own 0 (suc place) first entry refl at (equal ∙ sym is)))) in
-    let more = once rest tag place entry (λ p q e f there also equal. less (own (suc p) (suc q) e f there also equal)) at is in
+once counts (first ∷ rest) tag (suc place) entry own at is so =
+    let one = zero_if (counts first) (same first.tag tag) (λ counted. same_no first.tag tag (λ equal. absurd (apart (own 0 (suc place) first entry refl at (equal ∙ sym is))))) in
+    let more = once counts rest tag place entry (λ p q e f there also equal. less (own (suc p) (suc q) e f there also equal)) at is so in
     omega (arith, one, more)
   where
     apart : {place : ℕ} → 0 ≡ suc place → ⊥
@@ -126,36 +176,59 @@ once (first ∷ rest) tag (suc place) entry own at is =
 same_some : {A : Type 0} (x y : A) → Some x ≡ Some y → x ≡ y
 same_some x y is = grind (arith, is)
 
-differ : false ≡ true → ⊥
-differ is = absurd cc
-
 element : {A : Type 0} (list : List A) (place : ℕ) → place < length list → (x : A) × (slice_get list place ≡ Some x)
 element [] place lt = absurd (omega arith)
 element (x ∷ rest) zero lt = (x, refl)
 element (x ∷ rest) (suc place) lt = element rest place (omega arith)
 
--- the outcome of an entry is that of an exchange
-sent_exchanged : (clients : List Client) (number : ℕ) (timed : Timed) (outcome : Outcome) (entry : Entry)
-    → IsEntryOf clients number timed outcome entry → is_exchanged outcome ≡ true
-sent_exchanged clients number timed (Dropped discard) entry of = absurd of.sent
-sent_exchanged clients number timed Busy entry of = refl
-sent_exchanged clients number timed NoMemory entry of = absurd of.sent
-sent_exchanged clients number timed (Reply frame) entry of = refl
+-- an outcome that counts has an entry, and both count or neither does
+record AreCounted (is_counted : Outcome → Bool) (counts : Entry → Bool) : Type 0 where
+  has : (outcome : Outcome) → is_counted outcome ≡ true → is_exchanged outcome ≡ true
+  agree : (clients : List Client) (number : ℕ) (timed : Timed) (outcome : Outcome) (entry : Entry)
+      → IsEntryOf clients number timed outcome entry → is_counted outcome ≡ counts entry
+
+exchanges_counted : AreCounted is_exchanged every
+exchanges_counted = record { has = λ outcome so. so; agree = agree }
+  where
+    agree : (clients : List Client) (number : ℕ) (timed : Timed) (outcome : Outcome) (entry : Entry)
+        → IsEntryOf clients number timed outcome entry → is_exchanged outcome ≡ every entry
+    agree clients number timed (Dropped discard) entry of = absurd of.sent
+    agree clients number timed Busy entry of = refl
+    agree clients number timed NoMemory entry of = absurd of.sent
+    agree clients number timed (Reply frame) entry of = refl
+
+replies_counted : AreCounted is_replied (λ entry. is_reply entry.answer)
+replies_counted = record { has = has; agree = agree }
+  where
+    has : (outcome : Outcome) → is_replied outcome ≡ true → is_exchanged outcome ≡ true
+    has (Dropped discard) so = absurd (differ so)
+    has Busy so = refl
+    has NoMemory so = absurd (differ so)
+    has (Reply frame) so = refl
+
+    agree : (clients : List Client) (number : ℕ) (timed : Timed) (outcome : Outcome) (entry : Entry)
+        → IsEntryOf clients number timed outcome entry → is_replied outcome ≡ is_reply entry.answer
+    agree clients number timed (Dropped discard) entry of = absurd of.sent
+    agree clients number timed Busy entry of = sym (ap is_reply of.sent)
+    agree clients number timed NoMemory entry of = absurd of.sent
+    agree clients number timed (Reply frame) entry of = sym (ap is_reply of.sent.1)
 
 -- the entry of an outcome that is that of an exchange
 entry_of : (clients : List Client) (history : List Entry) (number : ℕ) (timed : Timed) (outcome : Outcome)
     → IsOutcome clients (HasEntry history) number timed outcome → is_exchanged outcome ≡ true
-    → (entry : Entry) × HasEntry history entry × (entry.tag ≡ number)
-entry_of clients history number timed (Dropped discard) is exchanged = absurd cc
-entry_of clients history number timed Busy is exchanged = (is.0, is.1, is.2.asked.has_tag)
-entry_of clients history number timed NoMemory is exchanged = absurd cc
-entry_of clients history number timed (Reply frame) is exchanged = (is.0, is.1, is.2.asked.has_tag)
+    → (entry : Entry) × HasEntry history entry × IsEntryOf clients number timed outcome entry
+entry_of clients history number timed (Dropped discard) is exchanged = absurd (differ exchanged)
+entry_of clients history number timed Busy is exchanged = is
+entry_of clients history number timed NoMemory is exchanged = absurd (differ exchanged)
+entry_of clients history number timed (Reply frame) is exchanged = is
 
--- a round has an entry for each outcome of an exchange
-pub entries_of_round : (before : Server) (arrivals : List Timed) (outcomes : List Outcome) (history : List Entry) (after : Server)
-    → Round before arrivals outcomes history after → length history ≡ exchange_count outcomes
-entries_of_round before arrivals outcomes history after round =
-    sym (tally_all history (length outcomes) within) ∙ up_to (length outcomes) (omega arith) ∙ ap exchange_count (take_all (length outcomes) outcomes (omega arith))
+-- a round has an entry that counts for each outcome that does
+counted_in_round : (is_counted : Outcome → Bool) (counts : Entry → Bool) → AreCounted is_counted counts
+    → (before : Server) (arrivals : List Timed) (outcomes : List Outcome) (history : List Entry) (after : Server)
+    → Round before arrivals outcomes history after → length (filter counts history) ≡ length (filter is_counted outcomes)
+counted_in_round is_counted counts counted before arrivals outcomes history after round =
+    sym (tally_all counts history (length outcomes) within) ∙ up_to (length outcomes) (omega arith)
+    ∙ ap (λ list. length (filter is_counted list)) (take_all (length outcomes) outcomes (omega arith))
   where
     clients : List Client
     clients = before.configuration.clients
@@ -167,31 +240,34 @@ entries_of_round before arrivals outcomes history after round =
     within : (place : ℕ) (entry : Entry) → slice_get history place ≡ Some entry → entry.tag < length outcomes
     within place entry at = let found = entry_at place entry at in slice_get_within outcomes entry.tag found.outcome found.outcome_is
 
-    -- the entries with the tag of an outcome
-    tagged : (number : ℕ) (outcome : Outcome) → slice_get outcomes number ≡ Some outcome → (exchanged : Bool) → is_exchanged outcome ≡ exchanged
-        → tally (λ tag. same tag number) history ≡ cond exchanged 1 0
+    -- the entries that count, with the tag of an outcome
+    tagged : (number : ℕ) (outcome : Outcome) → slice_get outcomes number ≡ Some outcome → (so : Bool) → is_counted outcome ≡ so
+        → tally counts (λ tag. same tag number) history ≡ cond so 1 0
     tagged number outcome at true is =
         let short = slice_get_within outcomes number outcome at in
         let found = element arrivals number (subst (λ n. number < n) round.count short) in
         let timed = found.0 in
         let answered = round.answered number timed found.1 in
         let equal : answered.0 ≡ outcome = same_some answered.0 outcome (sym answered.1 ∙ at) in
-        let entry = entry_of clients history number timed outcome (subst (IsOutcome clients (HasEntry history) number timed) equal answered.2) is in
-        once history number entry.1.0 entry.0 round.tags entry.1.1 entry.2
-    tagged number outcome at false is = absent history number (λ place entry there equal.
+        let entry = entry_of clients history number timed outcome (subst (IsOutcome clients (HasEntry history) number timed) equal answered.2)
+        (counted.has outcome is) in
+        once counts history number entry.1.0 entry.0 round.tags entry.1.1 entry.2.asked.has_tag
+        (sym (counted.agree clients number timed outcome entry.0 entry.2) ∙ is)
+    tagged number outcome at false is = absent counts history number (λ place entry there so equal.
         let found = entry_at place entry there in
-        let of = found.entry_of in
         let one : outcome ≡ found.outcome = same_some outcome found.outcome (sym at ∙ ap (slice_get outcomes) (sym equal) ∙ found.outcome_is) in
-        absurd (differ (sym is ∙ ap is_exchanged one ∙ sent_exchanged clients entry.tag found.timed found.outcome entry of)))
+        absurd (differ (sym is ∙ ap is_counted one ∙ counted.agree clients entry.tag found.timed found.outcome entry found.entry_of ∙ so)))
 
-    up_to : (end : ℕ) → end ≤ length outcomes → tally (λ tag. below tag end) history ≡ exchange_count (take end outcomes)
-    up_to zero le = tally_none history
+    up_to : (end : ℕ) → end ≤ length outcomes
+        → tally counts (λ tag. below tag end) history ≡ length (filter is_counted (take end outcomes))
+    up_to zero le = tally_none counts history
     up_to (suc end) le =
         let outcome = get_or outcomes end NoMemory in
-        let one = tagged end outcome (slice_get-get_or outcomes end NoMemory (omega arith)) (is_exchanged outcome) refl in
+        let one = tagged end outcome (slice_get-get_or outcomes end NoMemory (omega arith)) (is_counted outcome) refl in
         let next : suc end ≡ end + 1 = omega arith in
-        let taken = ap (λ n. exchange_count (take n outcomes)) next in
-        omega (arith, tally_more history end, up_to end (omega arith), one_more_outcome outcomes end NoMemory (omega arith), one, taken)
+        let taken = ap (λ n. length (filter is_counted (take n outcomes))) next in
+        let last = length-filter_more is_counted outcomes end NoMemory (omega arith) in
+        omega (arith, tally_more counts history end, up_to end (omega arith), last, one, taken)
 
 -- ---- turns
 
@@ -213,24 +289,20 @@ history_append before first middle rest after one two = record {
       (subst (λ configuration. Run configuration middle.state rest after.state) one.configuration two.run);
 }
 
--- the entries of two histories, counted
-length_append : (first rest : List Entry) → length (first ++ rest) ≡ length first + length rest
-length_append [] rest = omega arith
-length_append (entry ∷ more) rest = omega (arith, length_append more rest)
-
 -- a round was made
 pub round_made : (before : Server) (arrivals : List Timed) (outcomes : List Outcome) (history : List Entry) (after : Server)
     → length arrivals ≤ arrivals_max → Round before arrivals outcomes history after → IsRoundMade before outcomes after
 round_made before arrivals outcomes history after few round = record {
   history = history;
   run = round.run;
-  exchanged = entries_of_round before arrivals outcomes history after round;
+  exchanged = sym (count_every history) ∙ counted_in_round is_exchanged every exchanges_counted before arrivals outcomes history after round;
+  replied = counted_in_round is_replied (λ entry. is_reply entry.answer) replies_counted before arrivals outcomes history after round;
   few = subst (λ n. n ≤ arrivals_max) (sym round.count) few;
 }
 
 -- a turn whose round is lost
 pub lost_turn : (before : Server) (served : Served) (after : Server) (served_after : Served)
-    → after ≡ before → AddTurn 0 served served_after → IsTurn before served (Ok tt) after served_after
+    → after ≡ before → AddTurn 0 0 served served_after → IsTurn before served (Ok tt) after served_after
 lost_turn before served after served_after is sums = record {
   history = [];
   run = subst (IsHistory before []) (sym is) (no_exchange before);
@@ -248,11 +320,12 @@ failed_turn before served fault after served_after is = record {
 
 -- a turn whose round is made
 pub made_turn : (before : Server) (served : Served) (outcomes : List Outcome) (after : Server) (served_after : Served)
-    → IsRoundMade before outcomes after → AddTurn (exchange_count outcomes) served served_after → IsTurn before served (Ok tt) after served_after
+    → IsRoundMade before outcomes after → AddTurn (exchange_count outcomes) (replied_count outcomes) served served_after → IsTurn before served (Ok tt) after served_after
 made_turn before served outcomes after served_after made sums = record {
   history = made.history;
   run = made.run;
-  sums = subst (λ n. AddTurn n served served_after) (sym made.exchanged) sums;
+  sums = subst (λ n. AddTurn n (reply_count made.history) served served_after) (sym made.exchanged)
+      (subst (λ n. AddTurn (exchange_count outcomes) n served served_after) (sym made.replied) sums);
 }
 
 -- a turn whose round is made, but whose replies aren't all sent
@@ -269,6 +342,7 @@ pub nothing_served : (server : Server) (served : Served) → served.replies + se
 nothing_served server served none = record {
   history = [];
   run = no_exchange server;
+  replied = omega (arith, none);
   exchanged = none;
 }
 
@@ -278,7 +352,8 @@ pub one_more_turn : (before : Server) (served : Served) (middle : Server) (after
 one_more_turn before served middle after served_after so_far turn = record {
   history = so_far.history ++ turn.history;
   run = history_append before so_far.history middle turn.history after so_far.run turn.run;
-  exchanged = omega (arith, turn.sums.exchanged, so_far.exchanged, length_append so_far.history turn.history);
+  replied = omega (arith, turn.sums.replied, so_far.replied, count_append (λ entry. is_reply entry.answer) so_far.history turn.history);
+  exchanged = omega (arith, turn.sums.exchanged, so_far.exchanged, length-append so_far.history turn.history);
 }
 
 -- all turns
@@ -290,7 +365,7 @@ served_all turns before served after repeats laws valid lawful so_far sums round
   run = so_far.run;
   repeat = repeats before.configuration before.state so_far.history valid lawful;
   lawful = laws before.configuration before.state so_far.history valid lawful;
-  sums = record { rounds = rounds; exchanged = so_far.exchanged; datagrams = sums.each };
+  sums = record { rounds = rounds; replies = so_far.replied; exchanged = so_far.exchanged; datagrams = sums.each };
 }
 
 -- turns until a fault

@@ -9,6 +9,8 @@ use Rattle.rad_packet.specs.Packets.{length_max}
 use Rattle.rad_server.specs.Repeats.{Repeat}
 use Rattle.rad_server.specs.Runs.{IsHistory, IsLawfulThroughout}
 use Rattle.rad_server.specs.Servers.{Server}
+use Rattle.rad_server.specs.declared.answer.Answer.{Answer}
+use Rattle.rad_server.specs.declared.answer.Answer.TheVariants as answers
 use Rattle.rad_server.specs.declared.entry.Entry.{Entry}
 use Rattle.rad_shell.specs.Rounds.{arrivals_max}
 use Rattle.rad_shell.specs.declared.outcome.Outcome.{Outcome}
@@ -31,10 +33,10 @@ serve_fault_number faults.Send = 2
 serve_fault_number faults.Mismatch = 3
 
 -- the fault of a port is reported only if failures were counted: they were so many before, and so many after
-abbrev pub IsCounted : ℕ → ℕ → ServeFault → Type 0
-IsCounted before after faults.Receive = before < after
-IsCounted before after faults.Send = before < after
-IsCounted before after faults.Mismatch = Unit {0}
+abbrev pub HasCause : ℕ → ℕ → ServeFault → Type 0
+HasCause before after faults.Receive = before < after
+HasCause before after faults.Send = before < after
+HasCause before after faults.Mismatch = Unit {0}
 
 -- ---- sums
 
@@ -42,11 +44,21 @@ IsCounted before after faults.Mismatch = Unit {0}
 abbrev pub outcome_count : Served → ℕ
 outcome_count served = served.replies + served.drops + served.busy + served.nomemory
 
--- The sums of so many turns, with so many exchanges: each exchange got a reply or was busy, and if no round was lost, each datagram
--- has an outcome.
-pub record AreSums (turns exchanges : ℕ) (served : Served) : Type 0 where
+-- whether an answer is a reply
+abbrev pub is_reply : Answer → Bool
+is_reply (answers.Send body) = true
+is_reply answers.Busy = false
+
+-- the entries whose answer is a reply
+abbrev pub reply_count : List Entry → ℕ
+reply_count history = length (filter (λ entry. is_reply entry.answer) history)
+
+-- The sums of so many turns that made these exchanges: there are as many replies as entries whose answer is one, and as many busy ones
+-- as other entries; and if no round was lost, each datagram has an outcome.
+pub record AreSums (turns : ℕ) (history : List Entry) (served : Served) : Type 0 where
   pub rounds : served.rounds ≡ turns
-  pub exchanged : served.replies + served.busy ≡ exchanges
+  pub replies : served.replies ≡ reply_count history
+  pub exchanged : served.replies + served.busy ≡ length history
   pub datagrams : served.failed ≡ 0 → served.datagrams ≡ outcome_count served
 
 -- What so many turns make of a server, however they end: exchanges lead from the server before to the one after, each repeat is
@@ -56,7 +68,7 @@ pub record IsServed (turns : ℕ) (before : Server) (result : Result Served Serv
   pub run : IsHistory before history after
   pub repeat : Repeat before.configuration before.state history
   pub lawful : IsLawfulThroughout before.configuration before.state history
-  pub sums : IfOk result (AreSums turns (length history))
+  pub sums : IfOk result (AreSums turns history)
 
 -- ---- one turn (private)
 
@@ -75,6 +87,17 @@ is_exchanged (Reply frame) = true
 abbrev pub exchange_count : List Outcome → ℕ
 exchange_count outcomes = length (filter is_exchanged outcomes)
 
+-- whether an outcome is a reply
+abbrev pub is_replied : Outcome → Bool
+is_replied (Dropped discard) = false
+is_replied Busy = false
+is_replied NoMemory = false
+is_replied (Reply frame) = true
+
+-- the outcomes that are replies
+abbrev pub replied_count : List Outcome → ℕ
+replied_count outcomes = length (filter is_replied outcomes)
+
 -- the most turns of one call
 abbrev pub turns_max : ℕ
 turns_max = 2 ^ 32
@@ -87,27 +110,32 @@ pub record AddUp (served : Served) : Type 0 where
   pub lost : served.failed ≤ served.rounds
   pub each : served.failed ≡ 0 → served.datagrams ≡ outcome_count served
 
--- the sums of one turn more, with so many exchanges more
-pub record AddTurn (exchanges : ℕ) (before after : Served) : Type 0 where
+-- the sums of one turn more, with so many exchanges and so many replies more
+pub record AddTurn (exchanges replies : ℕ) (before after : Served) : Type 0 where
   pub add_up : AddUp after
   pub rounds : after.rounds ≡ before.rounds + 1
+  pub replied : after.replies ≡ before.replies + replies
   pub exchanged : after.replies + after.busy ≡ before.replies + before.busy + exchanges
 
--- a round was made: exchanges lead from one server to another, one for each outcome of an exchange
+-- a round was made: exchanges lead from one server to another, one for each outcome of an exchange, and as many are answered by a reply
+-- as there are replies
 pub record IsRoundMade (before : Server) (outcomes : List Outcome) (after : Server) : Type 0 where
   pub history : List Entry
   pub run : IsHistory before history after
   pub exchanged : length history ≡ exchange_count outcomes
+  pub replied : reply_count history ≡ replied_count outcomes
   pub few : length outcomes ≤ arrivals_max
 
 -- what a turn makes of a server and of sums: exchanges lead from one server to another, and without a fault they are counted
-pub record IsTurn (before : Server) (served : Served) (result : Result (Unit {0}) ServeFault) (after : Server) (served_after : Served) : Type 0 where
+pub record IsTurn (before : Server) (served : Served) (result : Result (Unit {0}) ServeFault) (after : Server) (served_after : Served)
+    : Type 0 where
   pub history : List Entry
   pub run : IsHistory before history after
-  pub sums : OnOk result (AddTurn (length history) served served_after)
+  pub sums : OnOk result (AddTurn (length history) (reply_count history) served served_after)
 
 -- what turns without a fault made of a server: exchanges lead from one server to another, and the sums count them
 pub record HasServed (before : Server) (served : Served) (after : Server) : Type 0 where
   pub history : List Entry
   pub run : IsHistory before history after
+  pub replied : served.replies ≡ reply_count history
   pub exchanged : served.replies + served.busy ≡ length history

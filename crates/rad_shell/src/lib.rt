@@ -1,10 +1,11 @@
-//! The round: datagrams that one worker answers, or several over one desk.
+//! The round: datagrams that one worker answers, or several over one desk. And turns, which make rounds of what comes to ports.
 //!
 //! `Service::round` answers datagrams by one worker, which has the server to itself, or by several over a desk of `rad_desk`. Nothing
 //! is decided here: answers are `rad_server`'s. The desk's names are passed on.
 //!
 //! Other crates rest on this: when `Service::round` returns `Ok`, the history leads from the server before to the one after, and each
-//! datagram has its outcome by that history (`specs/Rounds.antt`).
+//! datagram has its outcome by that history (`specs/Rounds.antt`). However `run_rounds` ends, a history leads from the server before to
+//! the one after, and without a fault its sums count the entries (`specs/Serving.antt`).
 #![tactic(auto)]
 
 mod alone;

@@ -1,7 +1,7 @@
 //! What turns came to.
 ghost use Rattle.std.specs.Prelude.{◌≡◌, ◌+◌, ◌≤◌, ◌<◌, ◌^◌, cond, length};
 ghost use Rattle.rad_shell.specs.Rounds.{arrivals_max};
-ghost use Rattle.rad_shell.specs.Serving.{AddTurn, AddUp, exchange_count, is_exchanged, outcome_count, turns_max};
+ghost use Rattle.rad_shell.specs.Serving.{AddTurn, AddUp, exchange_count, is_exchanged, is_replied, outcome_count, replied_count, turns_max};
 
 use crate::outcome::Outcome;
 use std::fmt;
@@ -46,7 +46,7 @@ impl Served {
         requires sums { AddUp self.old }
         requires turns { self.old.rounds < turns_max }
         requires count { datagrams ≤ arrivals_max }
-        ensures { AddTurn 0 self.old self.new }
+        ensures { AddTurn 0 0 self.old self.new }
     {
         self.rounds += 1;
         self.datagrams += datagrams as u64;
@@ -54,12 +54,13 @@ impl Served {
     }
 
     /// Adds a turn whose round has these outcomes.
-    #[tactic(auto, using(crate::proofs::ServingLemmas::one_more_outcome))]
+    #[tactic(auto, using(crate::proofs::ServingLemmas::one_more_outcome, crate::proofs::ServingLemmas::one_more_reply))]
     pub(crate) fn add_outcomes(&mut self, outcomes: &[Outcome])
         requires sums { AddUp self.old }
         requires turns { self.old.rounds < turns_max }
         requires count { length outcomes.now ≤ arrivals_max }
-        ensures { AddTurn (exchange_count outcomes.now) self.old self.new }
+        ensures { AddTurn (exchange_count outcomes.now) (replied_count outcomes.now)
+            self.old self.new }
     {
         self.rounds += 1;
         self.datagrams += outcomes.len() as u64;
@@ -74,6 +75,7 @@ impl Served {
         ensures datagrams { self.new.datagrams ≡ self.old.datagrams }
         ensures failed { self.new.failed ≡ self.old.failed }
         ensures counted { outcome_count self.new ≡ outcome_count self.old + 1 }
+        ensures replied { self.new.replies ≡ self.old.replies + cond (is_replied outcome.now) 1 0 }
         ensures exchanged { self.new.replies + self.new.busy
             ≡ self.old.replies + self.old.busy + cond (is_exchanged outcome.now) 1 0 }
     {

@@ -1,7 +1,7 @@
 //! The loop over ports.
 ghost use Rattle.std.specs.Prelude.{◌≤◌, IfErr};
 ghost use Rattle.rad_shell.specs.Rounds.{workers_max};
-ghost use Rattle.rad_shell.specs.Serving.{IsCounted, IsServed};
+ghost use Rattle.rad_shell.specs.Serving.{HasCause, IsServed};
 
 use crate::gate::Gate;
 use crate::ports::Ports;
@@ -32,7 +32,7 @@ pub fn run_rounds<R: Threads + Wait + Sync, P: Ports, D: Rng, G: Gate + Sync>(
 ) -> Result<Served, ServeFault>
     requires workers { (1 ≤ workers) × (workers ≤ workers_max) }
     ensures served { IsServed rounds service.old result service.new }
-    ensures fault { IfErr result (IsCounted (P.failures ports.old) (P.failures ports.new)) }
+    ensures fault { IfErr result (HasCause (P.failures ports.old) (P.failures ports.new)) }
     ensures counted { P.failures ports.old ≤ P.failures ports.new }
 {
     service.server().state_is_lawful();

@@ -1,7 +1,7 @@
 //! One turn: datagrams are received, answered in a round, and their replies sent.
 ghost use Rattle.std.specs.Prelude.{◌≡◌, ◌≤◌, ◌<◌, IfErr, IfNone, IfOk, IfSome, OnErr};
 ghost use Rattle.rad_shell.specs.Rounds.{workers_max};
-ghost use Rattle.rad_shell.specs.Serving.{AddUp, IsCounted, IsRoundMade, IsTurn, turns_max};
+ghost use Rattle.rad_shell.specs.Serving.{AddUp, HasCause, IsRoundMade, IsTurn, turns_max};
 
 use crate::gate::Gate;
 use crate::ports::Ports;
@@ -38,7 +38,7 @@ pub(crate) fn make_turn<R: Threads + Wait + Sync, P: Ports, D: Rng, G: Gate + Sy
     requires turns { served.old.rounds < turns_max }
     ensures turn { IsTurn service.old served.old result service.new served.new }
     ensures counted { P.failures ports.old ≤ P.failures ports.new }
-    ensures fault { IfErr result (IsCounted (P.failures ports.old) (P.failures ports.new)) }
+    ensures fault { IfErr result (HasCause (P.failures ports.old) (P.failures ports.new)) }
 {
     ports.wait(rt);
     if room.is_none() {
