@@ -15,7 +15,8 @@ use Rattle.rad_shell.specs.declared.timed.Timed.{Timed}
 -- ---- outcomes
 
 -- the arrivals below a number have their outcomes, and the entries with tags below it have their arrivals
-pub record AreAnswered (clients : List Client) (arrivals : List Timed) (outcomes : List Outcome) (history : List Entry) (below : ℕ) : Type 0 where
+pub record AreAnswered (clients : List Client) (arrivals : List Timed) (outcomes : List Outcome) (history : List Entry) (below : ℕ)
+    : Type 0 where
   pub some : below ≤ length arrivals → length outcomes ≡ below
   pub every : length arrivals ≤ below → length outcomes ≡ length arrivals
   pub outcome : (number : ℕ) (timed : Timed) → number < below → slice_get arrivals number ≡ Some timed

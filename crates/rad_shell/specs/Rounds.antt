@@ -53,7 +53,8 @@ IsSentAs clients request answer Busy = answer ≡ answers.Answer.Busy
 IsSentAs clients request answer NoMemory = ⊥
 IsSentAs clients request answer (Dropped discard) = ⊥
 
--- an entry is that of an arrival: it holds the arrival's request, which its own octets up to Length give too, with its number, moment and draw, and its answer is sent as the outcome
+-- an entry is that of an arrival: it holds the arrival's request, which its own octets up to Length give too, with its number, moment
+-- and draw, and its answer is sent as the outcome
 pub record IsEntryOf (clients : List Client) (number : ℕ) (timed : Timed) (outcome : Outcome) (entry : Entry) : Type 0 where
   pub request : Request
   pub admitted : IsAdmittedAs clients timed request

@@ -41,7 +41,8 @@ HasReceipt receipts (Some place) entry = (index : ℕ) × (slice_get receipts in
 
 -- the same of the receipts of some pass
 abbrev pub HasReceiptOfSome : List Pass → Option ℕ → Entry → Type 0
-HasReceiptOfSome passes place entry = (number : ℕ) × (pass : Pass) × (slice_get passes number ≡ Some pass) × HasReceipt pass.receipts place entry
+HasReceiptOfSome passes place entry =
+    (number : ℕ) × (pass : Pass) × (slice_get passes number ≡ Some pass) × HasReceipt pass.receipts place entry
 
 -- an entry is at this place of a history
 abbrev pub IsEntryAt : List Entry → Option ℕ → Entry → Type 0
@@ -130,7 +131,8 @@ IsPlaced Busy place = Unit {0}
 IsPlaced (Reply frame) place = Unit {0}
 
 -- an outcome is that of the arrival of this number, where `Has` says which entry is at which place
-pub record IsFound (clients : List Client) (arrivals : List Timed) (Has : Option ℕ → Entry → Type 0) (number : ℕ) (place : Option ℕ) (outcome : Outcome) : Type 0 where
+pub record IsFound (clients : List Client) (arrivals : List Timed) (Has : Option ℕ → Entry → Type 0) (number : ℕ) (place : Option ℕ)
+    (outcome : Outcome) : Type 0 where
   pub timed : Timed
   pub arrival : slice_get arrivals number ≡ Some timed
   pub outcome_of : IsOutcome clients (Has place) number timed outcome

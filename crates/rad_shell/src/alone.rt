@@ -211,7 +211,8 @@ fn answer(
     requires place { first + 8 < 2 ^ 64 }
     requires verdicts { AreVerdicts clients.now arrivals.now first verdicts.now }
     requires room { length arrivals.now ≤ vec_capacity made.old.outcomes }
-    requires asked { AreAskedBelow clients.now arrivals.now first verdicts.now asked.now 8 made.old }
+    requires asked { AreAskedBelow clients.now arrivals.now first
+        verdicts.now asked.now 8 made.old }
     ensures history { made.new.history ≡ made.old.history }
     ensures room { length arrivals.now ≤ vec_capacity made.new.outcomes }
     ensures after { AreMade clients.now arrivals.now made.new (first + 8) }
@@ -251,7 +252,8 @@ fn put_all(
     requires room { length arrivals.now ≤ vec_capacity outcomes.old }
     requires before { AreAnswered clients.now arrivals.now outcomes.old.items history.now first }
     ensures room { vec_capacity outcomes.new ≡ vec_capacity outcomes.old }
-    ensures after { AreAnswered clients.now arrivals.now outcomes.new.items history.now (first + 8) }
+    ensures after { AreAnswered clients.now arrivals.now
+        outcomes.new.items history.now (first + 8) }
 {
     let mut lanes = lanes.into_iter();
     for lane in 0..BATCH {
@@ -364,7 +366,8 @@ fn put(
     requires room { length arrivals.now ≤ vec_capacity outcomes.old }
     requires before { AreAnswered clients.now arrivals.now outcomes.old.items history.now number }
     ensures room { vec_capacity outcomes.new ≡ vec_capacity outcomes.old }
-    ensures after { AreAnswered clients.now arrivals.now outcomes.new.items history.now (number + 1) }
+    ensures after { AreAnswered clients.now arrivals.now
+        outcomes.new.items history.now (number + 1) }
 {
     let _ = clients;
     let _ = arrivals;

@@ -61,7 +61,8 @@ pub(crate) fn ask_batch<'c, L: Opened, R: Wait>(
 ) -> [Option<usize>; BATCH]
     requires place { first + 8 < 2 ^ 64 }
     requires moments { AreMoments arrivals.now }
-    requires verdicts { AreVerdicts L.opening.configuration.clients arrivals.now first verdicts.now }
+    requires verdicts { AreVerdicts L.opening.configuration.clients arrivals.now
+        first verdicts.now }
     ensures kept { AreKept pass.old.receipts pass.new.receipts }
     ensures asked { AreAsked arrivals.now pass.new.receipts first verdicts.now result }
 {

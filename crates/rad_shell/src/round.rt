@@ -124,7 +124,8 @@ fn work_all<'c, L: Opened + Send + Sync, R: Threads + Wait + Sync, G: Gate + Syn
         workers,
         count,
         &|number: usize, worker: &mut Worker<L>|
-            requires { (0 < count) × (length arrivals.now ≤ arrivals_max) × AreMoments arrivals.now × (clients.now ≡ L.opening.configuration.clients) × IsIdle worker.now }
+            requires { (0 < count) × (length arrivals.now ≤ arrivals_max) × AreMoments arrivals.now
+                × (clients.now ≡ L.opening.configuration.clients) × IsIdle worker.now }
             ensures { HasAnswered clients.entry.now arrivals.entry.now worker.exit.now }
         { worker.work(rt, lock, clients, arrivals, gate, number, count) },
     );

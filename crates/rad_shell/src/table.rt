@@ -28,7 +28,8 @@ impl Model for Table {
 
     ghost Value = { Table };
 
-    ghost view = { λ table. record { outcomes = table.outcomes.items; places = table.places.items } };
+    ghost view = { λ table.
+        record { outcomes = table.outcomes.items; places = table.places.items } };
 }
 
 impl Table {
@@ -123,7 +124,8 @@ fn take_in<L: Opened>(
     worker: Worker<L>,
 ) -> Result<(), AllocError>
     requires worker { HasAnswered clients.now arrivals.now worker }
-    requires table { AreFound clients.now arrivals.now (HasReceiptOfSome passes.old.items) table.old }
+    requires table { AreFound clients.now arrivals.now
+        (HasReceiptOfSome passes.old.items) table.old }
     ensures count { OnOk result (vec_len passes.new ≡ vec_len passes.old + 1) }
     ensures found { OnOk result
         (AreFound clients.now arrivals.now (HasReceiptOfSome passes.new.items) table.new) }
@@ -144,7 +146,8 @@ fn put_all<L: Opened>(
     mut outcomes: Vec<Numbered>,
     table: &mut Table,
 ) -> Vec<Numbered>
-    requires outcomes { All (IsFoundBy clients.now arrivals.now (HasReceiptOfSome passes.now)) outcomes.items }
+    requires outcomes { All
+        (IsFoundBy clients.now arrivals.now (HasReceiptOfSome passes.now)) outcomes.items }
     requires table { AreFound clients.now arrivals.now (HasReceiptOfSome passes.now) table.old }
     ensures { AreFound clients.now arrivals.now (HasReceiptOfSome passes.now) table.new }
 {

@@ -198,7 +198,8 @@ impl<L: Opened> Worker<L> {
         requires place { first + 8 < 2 ^ 64 }
         requires verdicts { AreVerdicts clients.now arrivals.now first verdicts.now }
         requires asked { AreAsked arrivals.now self.old.pass.receipts first verdicts.now asked.now }
-        requires sealed { AreSealed clients.now self.old.pass.receipts verdicts.now asked.now frames }
+        requires sealed { AreSealed clients.now self.old.pass.receipts
+            verdicts.now asked.now frames }
         requires before { HasAnswered clients.now arrivals.now self.old }
         ensures { HasAnswered clients.now arrivals.now self.new }
     {
@@ -223,7 +224,8 @@ impl<L: Opened> Worker<L> {
         requires lane { (lane < 8) × (first + 8 < 2 ^ 64) }
         requires verdicts { AreVerdicts clients.now arrivals.now first verdicts.now }
         requires asked { AreAsked arrivals.now self.old.pass.receipts first verdicts.now asked.now }
-        requires sealed { IfSome frame (IsSealedIn clients.now self.old.pass.receipts verdicts.now asked.now lane) }
+        requires sealed { IfSome frame
+            (IsSealedIn clients.now self.old.pass.receipts verdicts.now asked.now lane) }
         requires before { HasAnswered clients.now arrivals.now self.old }
         ensures pass { self.new.pass ≡ self.old.pass }
         ensures after { HasAnswered clients.now arrivals.now self.new }
@@ -249,7 +251,8 @@ impl<L: Opened> Worker<L> {
     // Keeps an outcome.
     #[tactic(auto, using(crate::proofs::WorkLemmas::answered_push))]
     fn put(&mut self, found: Option<Numbered>, clients: &Clients, arrivals: &[Timed])
-        requires found { IfSome found (IsFoundBy clients.now arrivals.now (HasReceipt self.old.pass.receipts)) }
+        requires found { IfSome found
+            (IsFoundBy clients.now arrivals.now (HasReceipt self.old.pass.receipts)) }
         requires before { HasAnswered clients.now arrivals.now self.old }
         ensures pass { self.new.pass ≡ self.old.pass }
         ensures after { HasAnswered clients.now arrivals.now self.new }
