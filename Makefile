@@ -1,4 +1,4 @@
-.PHONY: demo port-0 refused-memory test try
+.PHONY: demo refused-memory test try udp
 
 # Runs radpool on the shipped transcript without a proof, and prints what it answered.
 try:
@@ -18,16 +18,17 @@ demo:
 refused-memory:
 	trials/refused_memory/run
 
-# Sends requests from port 0 to the program that `make demo` leaves. It needs Python 3, and leave to open a raw socket.
-port-0:
-	trials/port_0/run
+# Sends requests over loopback to the program that `make demo` leaves. It needs Python 3.
+udp:
+	trials/udp/run
 
 # Proves everything from nothing, tries the must-fail edits, and runs the tests and the programs. The run of radpool is the
-# example, the list in docs/PROVED.md is the one that docs/definitions makes, and before all, a replay whose configuration is refused
-# memory is run without a proof.
+# example, and the list in docs/PROVED.md is the one that docs/definitions makes. Before all, a replay whose configuration is refused
+# memory and turns of which one round is are run without a proof.
 test:
 	@cmp examples/requests.txt crates/radpool/stdin
 	@cmp examples/requests.expected crates/radpool/stdout
 	@docs/definitions --check
 	@cd crates/refused_memory && rt try --steps 1000 --fail-alloc 5 | diff stdout -
+	@cd crates/refused_rounds && rt try --steps 1000 --fail-alloc 231 | diff stdout -
 	@rt ci
