@@ -1,14 +1,19 @@
-//! What rounds do where memory is refused. For each of five calls a line is printed: `right`, or `wrong` and why.
+//! What rounds do where memory is refused. For each of six calls a line is printed: `right`, or `wrong` and why.
 //!
-//! The first opens a service, and the others are its rounds, of the same datagrams: one by one worker, two by two workers, and one by
-//! one worker again, which the second server follows. Whichever allocation is refused, the lines and the status stay the same.
+//! The first opens a service. Then come rounds of the same datagrams: one by one worker, two by two workers, of which the first copies
+//! the server, and one by one worker again. The last call serves three turns. Whichever allocation is refused, the lines and the
+//! status stay the same.
 #![tactic(auto)]
 
 use rad_auth::{Arrival, Door};
 use rad_config::{Config, ConfigFault};
 use rad_server::Server;
-use rad_shell::{Done, OpenGate, Outcome, RoundFault, Service, Timed};
-use std::alloc::Global;
+use rad_shell::{
+    Datagram, Done, MemoryPorts, OpenGate, Outcome, RoundFault, Served, Service, Timed, run_rounds,
+};
+use rand_chacha::ChaCha20Rng;
+use rand_core::SeedableRng;
+use std::alloc::{AllocError, Global};
 use std::io;
 use std::sync::Wait;
 use std::thread::Threads;
@@ -51,6 +56,13 @@ const COUNT: usize = 9;
 
 /// The workers of each round.
 const WORKERS: [u64; 4] = [1, 2, 2, 1];
+
+/// The turns that are served. In each of them the request comes once.
+const TURNS: u32 = 3;
+
+/// What becomes of the three datagrams: replies, requests that are refused memory, and turns whose round is lost. A turn that has no
+/// room for its datagrams leaves them to the next one.
+const SUMS: &[(u64, u64, u64)] = &[(3, 0, 0), (2, 1, 0), (2, 0, 1), (3, 0, 1)];
 
 // Only one allocation is refused, so what is refused memory is done when it is called again.
 fn configuration(alloc: Global) -> Option<Config> {
@@ -149,6 +161,56 @@ fn is_refused(outcome: &Outcome) -> bool {
     matches!(outcome, Outcome::NoMemory)
 }
 
+// The request comes in each turn, if there is memory.
+fn arrive(alloc: Global, ports: &mut MemoryPorts, turn: u64) -> Result<(), AllocError> {
+    ports.arrive(Datagram {
+        turn,
+        address: TIMED.arrival.source,
+        port: TIMED.arrival.port,
+        door: TIMED.arrival.door,
+        moment: TIMED.moment,
+        octets: REQUEST.to_vec(alloc)?,
+    })
+}
+
+fn coming(alloc: Global) -> Option<MemoryPorts> {
+    let mut ports = MemoryPorts::new(alloc);
+    for turn in 0..TURNS {
+        let turn = turn as u64 + 1;
+        if arrive(alloc, &mut ports, turn).is_err() {
+            arrive(alloc, &mut ports, turn).ok()?;
+        }
+    }
+    Some(ports)
+}
+
+/// Whatever is refused, all turns are made, and each datagram is counted.
+fn judge_turns<R: Threads + Wait + Sync>(
+    rt: &R,
+    service: &mut Service,
+    ports: &mut MemoryPorts,
+) -> &'static str {
+    let mut random = ChaCha20Rng::from_seed([0; 32]);
+    match run_rounds(service, rt, ports, &mut random, &OpenGate, TURNS, 1) {
+        Ok(served) if SUMS.iter().any(|sums| is_sum(&served, sums)) => "right",
+        Ok(_) => "wrong: other sums",
+        Err(_) => "wrong: a fault",
+    }
+}
+
+fn is_sum(served: &Served, sums: &(u64, u64, u64)) -> bool {
+    *served
+        == Served {
+            rounds: TURNS as u64,
+            datagrams: TURNS as u64,
+            replies: sums.0,
+            drops: 0,
+            busy: 0,
+            nomemory: sums.1,
+            failed: sums.2,
+        }
+}
+
 fn main(rt: HostRuntime) -> io::Result<()> {
     let Some(config) = configuration(rt.alloc()) else {
         return println!(rt; "wrong: no configuration");
@@ -160,5 +222,8 @@ fn main(rt: HostRuntime) -> io::Result<()> {
     for workers in WORKERS.iter() {
         println!(rt; "{}", judge_round(&rt, &mut service, *workers))?;
     }
-    Ok(())
+    let Some(mut ports) = coming(rt.alloc()) else {
+        return println!(rt; "wrong: nothing comes");
+    };
+    println!(rt; "{}", judge_turns(&rt, &mut service, &mut ports))
 }
