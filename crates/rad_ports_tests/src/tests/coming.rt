@@ -36,6 +36,16 @@ pub(crate) fn random() -> ChaCha20Rng {
     ChaCha20Rng::from_seed(SEED)
 }
 
+/// Whether just so many draws were taken of a source that began as `random` does.
+pub(crate) fn is_after(mut source: ChaCha20Rng, draws: usize) -> bool {
+    let mut other = random();
+    let mut draw = [0; 16];
+    for _ in 0..draws {
+        other.fill_bytes(&mut draw);
+    }
+    source.next_u64() == other.next_u64()
+}
+
 /// Makes so many turns, with two workers.
 pub(crate) fn serve<R: Threads + Wait + Sync>(
     rt: &R,

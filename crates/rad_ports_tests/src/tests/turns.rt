@@ -1,6 +1,6 @@
 use super::campus::CAMPUS;
 use super::coming::{
-    CLIENT, STRANGER, access, are_challenges, arrive, arrive_often, is_sum, random, serve,
+    CLIENT, STRANGER, access, are_challenges, arrive, arrive_often, is_after, is_sum, random, serve,
 };
 use super::holds;
 use rad_config::Config;
@@ -105,7 +105,7 @@ fn a_port_that_fails_ends_the_turns(rt: HostRuntime) -> Result<(), Fail> {
     Ok(())
 }
 
-// Whether a turn ends so, with so many replies, and the next call goes on from its server.
+// Whether a turn ends so, with so many replies. If it isn't all received, no draw is taken and the server is as it was.
 fn fails<R: Threads + Wait + Sync>(rt: &R, alloc: Global, config: &Config, row: &Failing) -> bool {
     let Ok(mut service) = Service::open(alloc, config) else {
         return false;
@@ -116,15 +116,17 @@ fn fails<R: Threads + Wait + Sync>(rt: &R, alloc: Global, config: &Config, row: 
     }
     let (call, wanted, replies, _) = *row;
     ports.fail_at(call);
-    let result = serve(rt, &mut service, &mut ports, &mut random(), 1);
-    let kept = match wanted {
+    let mut random = random();
+    let result = serve(rt, &mut service, &mut ports, &mut random, 1);
+    let made = match wanted {
         Err(ServeFault::Receive) => 0,
         _ => 3,
     };
     result.map(|_served| ()) == wanted
         && ports.sent().len() == replies
         && (ports.faults() == 1) == wanted.is_err()
-        && service.server().recent().rows().count() == kept
+        && service.server().recent().rows().count() == made
+        && is_after(random, made)
 }
 
 // Three requests of nine users come.
