@@ -6,7 +6,8 @@ use rad_shell::ServeFault;
 use std::alloc::AllocError;
 use thiserror::Error;
 
-/// Why `serve` ended before its last round. The first five are reported in this order, before anything is served.
+/// Why `serve` ended before its last round. The first five are reported before anything is served, and in this order, but that refused
+/// memory is reported where it happens.
 #[derive(Clone, Copy, Debug, PartialEq, Eq, Error)]
 pub enum ServeError {
     /// The configuration can't be read, or has more than 16,777,216 octets.

@@ -13,9 +13,10 @@ use std::thread::Threads;
 use std::time::Clock;
 use std::{fs, io};
 
-const AUTH: u16 = 18136;
+/// Authentication ports, each with the accounting port after it. The first pair is taken while serving is tried.
+const TAKEN: u16 = 18136;
 
-const ACCT: u16 = 18137;
+const FREE: u16 = 18138;
 
 /// Files that the tests write.
 const SEED: &str = "/tmp/rad_serve_tests.seed";
@@ -33,41 +34,50 @@ const ENDLESS: &str = "/dev/zero";
 
 const NO_TOML: &str = "/proc/version";
 
-fn options(alloc: Global, config: &str, seed: &str) -> Option<Options> {
+fn options(alloc: Global, config: &str, seed: &str, auth: u16) -> Option<Options> {
     Some(Options {
         config: config.to_string(alloc).ok()?,
         seed: seed.to_string(alloc).ok()?,
         address: LOOPBACK,
-        auth: AUTH,
-        acct: ACCT,
+        auth,
+        acct: auth.saturating_add(1),
         workers: Workers::new(1)?,
         rounds: 1,
     })
 }
 
-// How serving ends with these files.
+// How one turn of serving ends with these files, on these ports.
 fn served<R: Files + Net + Clock + Print + Threads + Wait + Sync + AllocGlobal>(
     rt: &R,
     config: &str,
     seed: &str,
+    auth: u16,
 ) -> Option<Result<(), ServeError>> {
-    let options = options(rt.alloc(), config, seed)?;
+    let options = options(rt.alloc(), config, seed, auth)?;
     Some(serve(rt, &options))
 }
 
-/// Files, and the fault: the configuration's comes first, and then the seed's.
-const ROWS: &[(&str, &str, ServeError)] = &[
-    (MISSING, MISSING, ServeError::ConfigUnreadable),
-    ("/", MISSING, ServeError::ConfigUnreadable),
-    (ENDLESS, MISSING, ServeError::ConfigUnreadable),
-    (NO_TOML, MISSING, ServeError::Config(ConfigFault::Syntax)),
-    (CONFIG, MISSING, ServeError::SeedUnreadable),
-    (CONFIG, "/", ServeError::SeedUnreadable),
-    (CONFIG, ENDLESS, ServeError::SeedUnreadable),
-    (CONFIG, "/dev/null", ServeError::SeedUnreadable),
-    (CONFIG, SHORT_SEED, ServeError::SeedUnreadable),
-    (CONFIG, LONG_SEED, ServeError::SeedUnreadable),
-    (CONFIG, SEED, ServeError::Bind),
+/// Files, ports, and how serving ends: the configuration's fault comes first, then the seed's, and then that of the ports.
+type Row = (&'static str, &'static str, u16, Result<(), ServeError>);
+
+const ROWS: &[Row] = &[
+    (MISSING, MISSING, TAKEN, Err(ServeError::ConfigUnreadable)),
+    ("/", MISSING, TAKEN, Err(ServeError::ConfigUnreadable)),
+    (ENDLESS, MISSING, TAKEN, Err(ServeError::ConfigUnreadable)),
+    (
+        NO_TOML,
+        MISSING,
+        TAKEN,
+        Err(ServeError::Config(ConfigFault::Syntax)),
+    ),
+    (CONFIG, MISSING, TAKEN, Err(ServeError::SeedUnreadable)),
+    (CONFIG, "/", TAKEN, Err(ServeError::SeedUnreadable)),
+    (CONFIG, ENDLESS, TAKEN, Err(ServeError::SeedUnreadable)),
+    (CONFIG, "/dev/null", TAKEN, Err(ServeError::SeedUnreadable)),
+    (CONFIG, SHORT_SEED, TAKEN, Err(ServeError::SeedUnreadable)),
+    (CONFIG, LONG_SEED, TAKEN, Err(ServeError::SeedUnreadable)),
+    (CONFIG, SEED, TAKEN, Err(ServeError::Bind)),
+    (CONFIG, SEED, FREE, Ok(())),
 ];
 
 fn write_files<R: Files>(rt: &R) -> io::Result<()> {
@@ -86,22 +96,21 @@ fn remove_files<R: Files>(rt: &R) -> io::Result<()> {
 
 fn ends_so<R: Files + Net + Clock + Print + Threads + Wait + Sync + AllocGlobal>(
     rt: &R,
-    config: &str,
-    seed: &str,
-    fault: ServeError,
+    row: &Row,
 ) -> bool {
-    match served(rt, config, seed) {
-        Some(Err(ended)) => ended == fault,
-        _ => false,
+    let (config, seed, auth, wanted) = *row;
+    match served(rt, config, seed, auth) {
+        Some(ended) => ended == wanted,
+        None => false,
     }
 }
 
 #[test]
 fn faults_in_their_order(rt: HostRuntime) -> Result<(), Fail> {
     write_files(&rt)?;
-    let _taken = UdpPorts::bind(&rt, LOOPBACK, AUTH, ACCT)?;
-    for (config, seed, fault) in ROWS.iter() {
-        holds(&rt, ends_so(&rt, config, seed, *fault), seed);
+    let _taken = UdpPorts::bind(&rt, LOOPBACK, TAKEN, TAKEN + 1)?;
+    for row in ROWS.iter() {
+        holds(&rt, ends_so(&rt, row), row.1);
     }
     remove_files(&rt)?;
     Ok(())
