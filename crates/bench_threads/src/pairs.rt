@@ -1,4 +1,4 @@
-//! Pairs: services, and an equal server that one thread has to itself, which answer the same datagrams.
+//! Pairs: a service, and an equal server that one thread has to itself, which answer the same datagrams.
 ghost use Rattle.std.specs.Prelude.{◌≤◌, length};
 ghost use Rattle.rad_shell.specs.Rounds.{AreMoments, arrivals_max};
 
@@ -83,10 +83,7 @@ pub(crate) enum Way {
 #[derive(Drop)]
 pub(crate) struct Pair<'c> {
     alloc: Global,
-    // Its rounds have one worker, so it has no second server.
-    single: Service<'c>,
-    // Its rounds have several workers.
-    shared: Service<'c>,
+    service: Service<'c>,
     server: Server<'c>,
     frames: [Frame; FRAMES],
 }
@@ -99,14 +96,12 @@ impl<'c> Pair<'c> {
         config: &'c Config,
         sessions: u16,
     ) -> Option<Pair<'c>> {
-        let single = granted(rt, alloc, config, sessions)?;
-        let shared = granted(rt, alloc, config, sessions)?;
-        let server = single.server().copy().ok()?;
+        let service = granted(rt, alloc, config, sessions)?;
+        let server = service.server().copy().ok()?;
         let frames = try_from_fn(|_| Frame::new(alloc)).ok()?;
         Some(Pair {
             alloc,
-            single,
-            shared,
+            service,
             server,
             frames,
         })
@@ -139,18 +134,14 @@ impl<'c> Pair<'c> {
     ) -> Option<u64> {
         let clock = match way {
             Way::Alone => self.server.clock(),
-            Way::Workers(1) => self.single.server().clock(),
-            Way::Workers(_) => self.shared.server().clock(),
+            Way::Workers(_) => self.service.server().clock(),
         };
         let moment = clock.saturating_add(lot.timing.pause());
         let requests = datagrams(self.alloc, Kind::Start, lot.count, moment, lot.timing.gap())?;
         match way {
             Way::Alone => self.time_alone(rt, requests.as_slice()),
             Way::Workers(workers) => {
-                let service = match workers {
-                    1 => &mut self.single,
-                    _ => &mut self.shared,
-                };
+                let service = &mut self.service;
                 let wanted = code::ACCOUNTING_RESPONSE;
                 time_round(rt, service, requests.as_slice(), workers, wanted)
             }
