@@ -20,7 +20,8 @@ enum {
     AUTH = 18130,
     ACCT = 18131,
     SOCKETS = 8,
-    SLOTS = 128,    // the most requests that wait for a reply
+    SOME = 128,     // requests that wait for a reply: fewer than a turn of two workers has
+    SLOTS = 512,    // the most
     BLOCK = 16,
     HEADER = 20,
     STATUS = 38,    // the length of a Status-Server
@@ -111,6 +112,8 @@ static int bound(uint16_t port) {
     if (made < 0 || bind(made, (struct sockaddr *)&here, sizeof here) != 0) {
         end("a port can't be bound");
     }
+    int room = 4000000;    // as `radpool serve` asks for
+    setsockopt(made, SOL_SOCKET, SO_RCVBUF, &room, sizeof room);
     return made;
 }
 
@@ -199,7 +202,7 @@ static struct slot *receive_slot(int at) {
     return slot;
 }
 
-// Sends so many requests, of which so many wait for a reply at a time: one, or all slots. Keeps their times. Returns the nanoseconds.
+// Sends so many requests, of which so many wait for a reply at a time: one, some or all slots. Keeps their times. Returns the nanoseconds.
 static double load(int count, int waiting) {
     struct pollfd ports[SOCKETS];
     for (int at = 0; at < SOCKETS; at++) {
@@ -304,7 +307,7 @@ static void grant(uint32_t sessions) {
 }
 
 struct figures {
-    double one_p50, one_p99, a_second, p50, p99, processor;
+    double one_p50, one_p99, a_second, p50, p99, processor, most_a_second;
 };
 
 static struct figures measure(const char *radpool, const char *workers, uint32_t sessions, int count) {
@@ -321,18 +324,20 @@ static struct figures measure(const char *radpool, const char *workers, uint32_t
         end("no clock");
     }
     double processor = nanoseconds(clock);
-    found.a_second = count / load(count, SLOTS) * 1e9;
+    found.a_second = count / load(count, SOME) * 1e9;
     found.processor = (nanoseconds(clock) - processor) / count / 1e3;
     found.p50 = within(count, 500);
     found.p99 = within(count, 990);
+    found.most_a_second = count / load(count, SLOTS) * 1e9;
     kill(server, SIGTERM);
     waitpid(server, NULL, 0);
     return found;
 }
 
 static void print_row(const char *name, uint32_t sessions, struct figures f, struct figures null) {
-    printf("| %s | %u | %.1f | %.1f | %.0f | %.0f | %.0f | %.2f | %.2f | %.2f |\n", name, sessions, f.one_p50, f.one_p99, f.a_second, f.p50,
-           f.p99, f.processor, f.one_p50 / null.one_p50, f.a_second / null.a_second);
+    printf("| %s | %u | %.1f | %.1f | %.0f | %.0f | %.0f | %.2f | %.0f | %.2f | %.2f | %.2f |\n", name, sessions, f.one_p50, f.one_p99,
+           f.a_second, f.p50, f.p99, f.processor, f.most_a_second, f.one_p50 / null.one_p50, f.a_second / null.a_second,
+           f.most_a_second / null.most_a_second);
     fflush(stdout);
 }
 
@@ -356,8 +361,8 @@ int main(int argc, char **argv) {
     write_file("seed", configuration, 32);
     fill_slots();
     puts("| server | sessions | one at a time: p50 µs | p99 µs | 128 at a time: requests/s | p50 µs | p99 µs | CPU µs a request "
-         "| p50 to the responder's | requests/s to the responder's |");
-    puts("|---|---|---|---|---|---|---|---|---|---|");
+         "| 512 at a time: requests/s | to the responder's: p50 of one | requests/s of 128 | of 512 |");
+    puts("|---|---|---|---|---|---|---|---|---|---|---|---|");
     print_rows(argv[1], 16, MOST);
     print_rows(argv[1], 4096, MOST / 20);
 }
