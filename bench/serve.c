@@ -202,7 +202,8 @@ static struct slot *receive_slot(int at) {
     return slot;
 }
 
-// Sends so many requests, of which so many wait for a reply at a time: one, some or all slots. Keeps their times. Returns the nanoseconds.
+// Sends so many requests, of which so many wait for a reply at a time: one, some or all slots. Keeps their times. Returns the
+// nanoseconds.
 static double load(int count, int waiting) {
     struct pollfd ports[SOCKETS];
     for (int at = 0; at < SOCKETS; at++) {
