@@ -22,24 +22,42 @@ const CONFIGURATION: &str =
     service = 2\nprotocol = 1\ntimeout = 3600\n\
     [[user]]\nname = \"asked\"\npassword = \"a good password\"\nchallenge = \"And?\"\nanswer = \"So\"\n";
 
-// Takes steps on copies of a server that has so many sessions.
-fn step_on_copies(
-    alloc: Global,
+// Steps with requests of a kind, on copies of a server that has so many sessions.
+#[derive(Clone, Copy)]
+struct Work {
     kind: Kind,
     sessions: u32,
     copies: u32,
     steps: u32,
-) -> Option<usize> {
+}
+
+// What is alive at a `?` is dropped there, and each such drop is proved: so a function of its own makes each big value.
+fn read_and_step(alloc: Global, work: Work) -> Option<usize> {
     let config = Config::read(alloc, CONFIGURATION).ok()?;
-    let server = server_with(alloc, &config, sessions)?;
-    let datagram = datagram(alloc, config.clients(), kind, sessions)?;
-    let request = admit(config.clients(), kind, datagram.octets())?;
+    open_and_step(alloc, &config, work)
+}
+
+fn open_and_step(alloc: Global, config: &Config, work: Work) -> Option<usize> {
+    let server = server_with(alloc, config, work.sessions)?;
+    step_on_copies(alloc, &server, work)
+}
+
+fn step_on_copies(alloc: Global, server: &Server, work: Work) -> Option<usize> {
+    let clients = server.config().clients();
+    let datagram = datagram(alloc, clients, work.kind, work.sessions)?;
+    let request = admit(clients, work.kind, datagram.octets())?;
     let mut replies: usize = 0;
-    for _ in 0..copies {
-        let mut copy = server.copy().ok()?;
-        replies = replies.wrapping_add(take_steps(&mut copy, &request, kind, sessions, steps)?);
+    for _ in 0..work.copies {
+        replies = replies.wrapping_add(step_on_copy(server, &request, work)?);
     }
     Some(replies)
+}
+
+fn step_on_copy(server: &Server, request: &Request, work: Work) -> Option<usize>
+    requires { IsAdmitted server.now.configuration.clients request.now }
+{
+    let mut copy = server.copy().ok()?;
+    take_steps(&mut copy, request, work.kind, work.sessions, work.steps)
 }
 
 // A server that has so many sessions, all Pending.
@@ -121,5 +139,11 @@ pub extern "C" fn radpool_step(
     copies: u32,
     steps: u32,
 ) -> usize {
-    step_on_copies(alloc, Kind::of(kind), sessions, copies, steps).unwrap_or(0)
+    let work = Work {
+        kind: Kind::of(kind),
+        sessions,
+        copies,
+        steps,
+    };
+    read_and_step(alloc, work).unwrap_or(0)
 }
