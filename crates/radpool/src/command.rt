@@ -1,8 +1,10 @@
 //! The command line: what it may say, and what is then done.
 
+use crate::options::{Absent, OCTET, TEXT, Valued, WORD, with_options};
 use crate::serve_command::{Serve, serve_command};
+use clap::builder::ValueParser;
 use clap::error::ErrorKind;
-use clap::{Arg, ArgAction, ArgMatches, Command, value_parser};
+use clap::{Arg, ArgAction, ArgMatches, Command};
 use rad_replay::{KINDS, Kind, Make, MakeFault, RunFault, run_replay};
 use rad_serve::{Options, ServeError};
 use std::alloc::{AllocError, Global};
@@ -38,6 +40,73 @@ const MAKE_EXAMPLES: &str = "\
 Examples:
   radpool make --kind account --secret xyzzy5461 --id 7
   radpool make --kind access --secret xyzzy5461 --user nemo --password arctangent";
+
+/// The options of `make` that have a value: how a request begins and is signed, and then its attributes.
+const MAKE_OPTIONS: &[Valued] = &[
+    Valued {
+        name: "kind",
+        value: "KIND",
+        help: "Access-Request, Accounting-Request or Status-Server",
+        absent: Absent::Fault,
+        parser: ValueParser::Names(&KINDS),
+    },
+    Valued {
+        name: "secret",
+        value: "TEXT",
+        help: "The secret shared with the server, 1 to 128 octets",
+        absent: Absent::Fault,
+        parser: TEXT,
+    },
+    Valued {
+        name: "id",
+        value: "N",
+        help: "The Identifier, 0 to 255",
+        absent: Absent::Value("0"),
+        parser: OCTET,
+    },
+    Valued {
+        name: "random",
+        value: "HEX",
+        help: "The Request Authenticator of kinds access and status",
+        absent: Absent::Value("00000000000000000000000000000000"),
+        parser: TEXT,
+    },
+    Valued {
+        name: "user",
+        value: "TEXT",
+        help: "The User-Name, 1 to 253 octets",
+        absent: Absent::Nothing,
+        parser: TEXT,
+    },
+    Valued {
+        name: "password",
+        value: "TEXT",
+        help: "The password of kind access, at most 128 octets",
+        absent: Absent::Nothing,
+        parser: TEXT,
+    },
+    Valued {
+        name: "chap",
+        value: "N",
+        help: "Sends the password by CHAP with this CHAP identifier, 0 to 255, instead of hiding it",
+        absent: Absent::Nothing,
+        parser: OCTET,
+    },
+    Valued {
+        name: "status",
+        value: "N",
+        help: "The Acct-Status-Type of kind account, 0 to 4294967295",
+        absent: Absent::Value("1"),
+        parser: WORD,
+    },
+    Valued {
+        name: "extra",
+        value: "HEX",
+        help: "Attributes to put last, the octets of Type, Length and Value of each [default: none]",
+        absent: Absent::Value(""),
+        parser: TEXT,
+    },
+];
 
 /// What the command line asks for.
 #[derive(Clone, Copy)]
@@ -117,7 +186,11 @@ pub fn report<R: Eprint>(rt: &R, fault: Fault) -> ExitCode {
 
 fn try_run<R: Env + Input + Print + AllocGlobal>(rt: &R) -> Result<Next, Fault> {
     let words = words(rt)?;
-    match task_of(rt.alloc(), words.as_slice())? {
+    do_task(rt, task_of(rt.alloc(), words.as_slice())?)
+}
+
+fn do_task<R: Input + Print + AllocGlobal>(rt: &R, task: Task) -> Result<Next, Fault> {
+    match task {
         Task::Replay => run_replay(rt.alloc(), &mut rt.reader(), &mut io::writer(rt))?,
         Task::Make(make) => print_request(rt, make)?,
         Task::Serve(serve) => return Ok(Next::Serve(serve.options(rt.alloc())?)),
@@ -133,43 +206,62 @@ fn words<R: Env + AllocGlobal>(rt: &R) -> Result<Vec<String>, Fault> {
             Err(Fault::Run(RunFault::NoMemory))
         }
         Err(_) => {
-            let mut program = program(rt.alloc())?;
             let text = "a word of the command line is not UTF-8";
-            Err(Fault::from(program.error(ErrorKind::InvalidValue, text)?))
+            let error = error_of(program(rt.alloc())?, ErrorKind::InvalidValue, text);
+            Err(Fault::from(error?))
         }
     }
 }
 
 // Makes a request, and prints it as a line.
 fn print_request<R: Print + AllocGlobal>(rt: &R, make: Make) -> Result<(), Fault> {
-    let request = match make.request(rt.alloc()) {
-        Ok(request) => request,
-        Err(MakeFault::NoMemory) => return Err(Fault::Run(RunFault::NoMemory)),
-        Err(fault) => return Err(Fault::from(unfit(rt.alloc(), fault)?)),
-    };
-    let line = hex::encode(rt.alloc(), request.octets())?;
+    let line = line_of(rt.alloc(), make)?;
     match println!(rt; "{line}") {
         Ok(()) => Ok(()),
         Err(_) => Err(Fault::Run(RunFault::Write)),
     }
 }
 
+// The octets of a request in hexadecimal.
+fn line_of(alloc: Global, make: Make) -> Result<String, Fault> {
+    match make.request(alloc) {
+        Ok(request) => Ok(hex::encode(alloc, request.octets())?),
+        Err(MakeFault::NoMemory) => Err(Fault::Run(RunFault::NoMemory)),
+        Err(fault) => Err(Fault::from(unfit(alloc, fault)?)),
+    }
+}
+
 // An option of `make` that doesn't fit, reported as clap reports those that it finds.
 fn unfit(alloc: Global, fault: MakeFault) -> Result<clap::Error, AllocError> {
-    let text = fault.to_string(alloc)?;
-    let mut command = make_command(alloc)?.bin_name("radpool make")?;
-    command.error(ErrorKind::ValueValidation, &text)
+    let command = make_command(alloc)?.bin_name("radpool make")?;
+    error_of(
+        command,
+        ErrorKind::ValueValidation,
+        &fault.to_string(alloc)?,
+    )
+}
+
+/// An error of a command, with this text.
+pub fn error_of(command: Command, kind: ErrorKind, text: &str) -> Result<clap::Error, AllocError> {
+    let mut command = command;
+    command.error(kind, text)
 }
 
 // What the words ask for.
 fn task_of<'a, S: AsStr>(alloc: Global, words: &'a [S]) -> Result<Task<'a>, clap::Error> {
-    let mut program = program(alloc)?;
-    let matches = program.try_get_matches_from_mut(words)?;
-    match task_in(&matches) {
+    match task_in(&matches_of(alloc, words)?) {
         Some(task) => Ok(task),
         // Not reached: clap requires a command, and gives each option that is required or has a default its value.
-        None => Err(program.error(ErrorKind::MissingSubcommand, "a command would fit")?),
+        None => {
+            let kind = ErrorKind::MissingSubcommand;
+            Err(error_of(program(alloc)?, kind, "a command would fit")?)
+        }
     }
+}
+
+fn matches_of<'a, S: AsStr>(alloc: Global, words: &'a [S]) -> Result<ArgMatches<'a>, clap::Error> {
+    let mut program = program(alloc)?;
+    program.try_get_matches_from_mut(words)
 }
 
 fn task_in<'a>(matches: &ArgMatches<'a>) -> Option<Task<'a>> {
@@ -220,73 +312,10 @@ fn make_command<'a>(alloc: Global) -> Result<Command<'a>, AllocError> {
     let command = Command::new(alloc, "make")
         .about("Prints a request as one line of hexadecimal")
         .after_help(MAKE_EXAMPLES);
-    attribute_options(alloc, header_options(alloc, command)?)
-}
-
-// With the options that say how a request begins and is signed.
-fn header_options<'a>(alloc: Global, command: Command<'a>) -> Result<Command<'a>, AllocError> {
-    let command = command.arg(
-        option(alloc, "kind", "KIND")
-            .help("Access-Request, Accounting-Request or Status-Server")
-            .required(true)
-            .value_parser(KINDS.as_slice()),
-    )?;
-    let command = command.arg(
-        option(alloc, "secret", "TEXT")
-            .help("The secret shared with the server, 1 to 128 octets")
-            .required(true),
-    )?;
-    let command = command.arg(
-        option(alloc, "id", "N")
-            .help("The Identifier, 0 to 255")
-            .default_value("0")
-            .value_parser(value_parser!(u8)),
-    )?;
-    command.arg(
-        option(alloc, "random", "HEX")
-            .help("The Request Authenticator of kinds access and status")
-            .default_value("00000000000000000000000000000000"),
-    )
-}
-
-// With the options that say which attributes a request has.
-fn attribute_options<'a>(alloc: Global, command: Command<'a>) -> Result<Command<'a>, AllocError> {
-    let command = command.arg(option(alloc, "user", "TEXT").help(
-        "The User-Name, 1 to 253 octets",
-    ))?;
-    let command = command.arg(option(alloc, "password", "TEXT").help(
-        "The password of kind access, at most 128 octets",
-    ))?;
-    let command = command.arg(
-        option(alloc, "chap", "N")
-            .help(
-                "Sends the password by CHAP with this CHAP identifier, 0 to 255, instead of hiding it",
-            )
-            .value_parser(value_parser!(u8)),
-    )?;
-    let command = command.arg(
-        option(alloc, "status", "N")
-            .help("The Acct-Status-Type of kind account, 0 to 4294967295")
-            .default_value("1")
-            .value_parser(value_parser!(u32)),
-    )?;
-    let command = command.arg(
-        option(alloc, "extra", "HEX")
-            .help(
-                "Attributes to put last, the octets of Type, Length and Value of each [default: none]",
-            )
-            .default_value("")
-            .hide_default_value(true),
-    )?;
-    command.arg(
+    with_options(alloc, command, MAKE_OPTIONS)?.arg(
         Arg::new(alloc, "mac")
             .long("mac")
             .action(ArgAction::SetTrue)
             .help("Puts a Message-Authenticator first, in kind access; kind status always has one"),
     )
-}
-
-/// An option with a value.
-pub fn option<'a>(alloc: Global, name: &'a str, value: &'a str) -> Arg<'a> {
-    Arg::new(alloc, name).long(name).value_name(value)
 }

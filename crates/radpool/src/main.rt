@@ -3,6 +3,7 @@
 #![tactic(auto)]
 
 mod command;
+mod options;
 mod serve_command;
 #[cfg(test)]
 mod tests;

@@ -1,9 +1,10 @@
 //! The command `serve`: its options, and its run.
 
-use crate::command::{Fault, option, report};
+use crate::command::{Fault, error_of, report};
+use crate::options::{Absent, PORT, TEXT, Valued, with_options};
 use clap::builder::ValueParser;
 use clap::error::ErrorKind;
-use clap::{ArgMatches, Command, value_parser};
+use clap::{ArgMatches, Command};
 use rad_config::decimal;
 use rad_serve::{Options, Workers};
 use std::alloc::{AllocError, AllocGlobal, Global};
@@ -25,6 +26,59 @@ const BAD_ADDRESS: &str =
     "invalid value for '--bind <ADDRESS>': four numbers from 0 to 255, separated by points, would fit";
 
 const BAD_WORKERS: &str = "invalid value for '--workers <N>': 1 to 8 would fit";
+
+/// The options of `serve`: the files, where to listen, and how turns are made.
+const SERVE_OPTIONS: &[Valued] = &[
+    Valued {
+        name: "config",
+        value: "PATH",
+        help: "The configuration",
+        absent: Absent::Fault,
+        parser: TEXT,
+    },
+    Valued {
+        name: "seed",
+        value: "PATH",
+        help: "A file of 32 random octets, from which the States of challenges are drawn",
+        absent: Absent::Fault,
+        parser: TEXT,
+    },
+    Valued {
+        name: "bind",
+        value: "ADDRESS",
+        help: "The IPv4 address to listen on",
+        absent: Absent::Value("127.0.0.1"),
+        parser: TEXT,
+    },
+    Valued {
+        name: "auth",
+        value: "PORT",
+        help: "The authentication port",
+        absent: Absent::Value("1812"),
+        parser: PORT,
+    },
+    Valued {
+        name: "acct",
+        value: "PORT",
+        help: "The accounting port",
+        absent: Absent::Value("1813"),
+        parser: PORT,
+    },
+    Valued {
+        name: "workers",
+        value: "N",
+        help: "The most threads that answer at a time, 1 to 8",
+        absent: Absent::Value("2"),
+        parser: ValueParser::Unsigned(1, 8),
+    },
+    Valued {
+        name: "rounds",
+        value: "N",
+        help: "The turns to make, 1 to 4294967295, each of which waits a second at most",
+        absent: Absent::Value("4294967295"),
+        parser: ValueParser::Unsigned(1, 4_294_967_295),
+    },
+];
 
 /// The options of `serve`, as they are given.
 #[derive(Clone, Copy)]
@@ -93,8 +147,8 @@ fn unfit(alloc: Global, text: &str) -> Fault {
 }
 
 fn unfit_error(alloc: Global, text: &str) -> Result<clap::Error, AllocError> {
-    let mut command = serve_command(alloc)?.bin_name("radpool serve")?;
-    command.error(ErrorKind::ValueValidation, text)
+    let command = serve_command(alloc)?.bin_name("radpool serve")?;
+    error_of(command, ErrorKind::ValueValidation, text)
 }
 
 /// The command, with its options.
@@ -102,56 +156,5 @@ pub fn serve_command<'a>(alloc: Global) -> Result<Command<'a>, AllocError> {
     let command = Command::new(alloc, "serve")
         .about("Answers requests that come to two UDP ports")
         .after_help(SERVE_EXAMPLE);
-    turn_options(alloc, port_options(alloc, file_options(alloc, command)?)?)
-}
-
-// With the options that name the files.
-fn file_options<'a>(alloc: Global, command: Command<'a>) -> Result<Command<'a>, AllocError> {
-    let command = command.arg(
-        option(alloc, "config", "PATH")
-            .help("The configuration")
-            .required(true),
-    )?;
-    command.arg(
-        option(alloc, "seed", "PATH")
-            .help("A file of 32 random octets, from which the States of challenges are drawn")
-            .required(true),
-    )
-}
-
-// With the options that say where to listen.
-fn port_options<'a>(alloc: Global, command: Command<'a>) -> Result<Command<'a>, AllocError> {
-    let command = command.arg(
-        option(alloc, "bind", "ADDRESS")
-            .help("The IPv4 address to listen on")
-            .default_value("127.0.0.1"),
-    )?;
-    let command = command.arg(
-        option(alloc, "auth", "PORT")
-            .help("The authentication port")
-            .default_value("1812")
-            .value_parser(value_parser!(u16)),
-    )?;
-    command.arg(
-        option(alloc, "acct", "PORT")
-            .help("The accounting port")
-            .default_value("1813")
-            .value_parser(value_parser!(u16)),
-    )
-}
-
-// With the options that say how turns are made.
-fn turn_options<'a>(alloc: Global, command: Command<'a>) -> Result<Command<'a>, AllocError> {
-    let command = command.arg(
-        option(alloc, "workers", "N")
-            .help("The most threads that answer at a time, 1 to 8")
-            .default_value("2")
-            .value_parser(ValueParser::Unsigned(1, 8)),
-    )?;
-    command.arg(
-        option(alloc, "rounds", "N")
-            .help("The turns to make, 1 to 4294967295, each of which waits a second at most")
-            .default_value("4294967295")
-            .value_parser(ValueParser::Unsigned(1, 4_294_967_295)),
-    )
+    with_options(alloc, command, SERVE_OPTIONS)
 }
