@@ -12,9 +12,14 @@ mod round_tables;
 mod servers;
 mod tables;
 
+use servers::read_config;
+use std::alloc::Global;
 use std::env;
 use std::process::ExitCode;
 use std::rt::Env;
+use std::sync::Wait;
+use std::thread::Threads;
+use std::time::Clock;
 
 /// What is measured.
 #[derive(Clone, Copy)]
@@ -26,12 +31,25 @@ enum Bench {
 fn main(rt: HostRuntime) -> ExitCode {
     let printed = match bench_named(&rt) {
         None => Some(()),
-        Some(Bench::Desk) => tables::print_tables(&rt, rt.alloc()),
-        Some(Bench::Round) => round_tables::print_table(&rt, rt.alloc()),
+        Some(bench) => print(&rt, rt.alloc(), bench),
     };
     match printed {
         Some(()) => ExitCode::SUCCESS,
         None => ExitCode::FAILURE,
+    }
+}
+
+// Measures and prints. What is alive at a `?` is dropped there, and each such drop is proved: so here, as in what this calls, a
+// function of its own makes each big value, and lends it to the next.
+fn print<R: Threads + Wait + Sync + Clock + Print>(
+    rt: &R,
+    alloc: Global,
+    bench: Bench,
+) -> Option<()> {
+    let config = read_config(alloc)?;
+    match bench {
+        Bench::Desk => tables::print_tables(rt, alloc, &config),
+        Bench::Round => round_tables::print_table(rt, alloc, &config),
     }
 }
 

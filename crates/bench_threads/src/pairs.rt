@@ -6,7 +6,6 @@ use crate::alone::answer_alone;
 use crate::asks::nanoseconds_since;
 use crate::datagrams::{ROUND_MAX, datagrams};
 use crate::requests::Kind;
-use rad_config::Config;
 use rad_packet::{Frame, code};
 use rad_server::Server;
 use rad_shell::{OpenGate, Outcome, Service, Timed};
@@ -80,33 +79,30 @@ pub(crate) enum Way {
     Workers(u64),
 }
 
+/// A server that one thread has to itself, and the frames of its replies.
 #[derive(Drop)]
-pub(crate) struct Pair<'c> {
-    alloc: Global,
-    service: Service<'c>,
+pub(crate) struct Alone<'c> {
     server: Server<'c>,
     frames: [Frame; FRAMES],
 }
 
-impl<'c> Pair<'c> {
-    /// A pair with so many sessions: at most `ROUND_MAX`, or a multiple of it.
-    pub fn open<R: Threads + Wait + Sync + Clock>(
-        rt: &R,
-        alloc: Global,
-        config: &'c Config,
-        sessions: u16,
-    ) -> Option<Pair<'c>> {
-        let service = granted(rt, alloc, config, sessions)?;
-        let server = service.server().copy().ok()?;
+impl<'c> Alone<'c> {
+    pub fn open(alloc: Global, server: &Server<'c>) -> Option<Alone<'c>> {
         let frames = try_from_fn(|_| Frame::new(alloc)).ok()?;
-        Some(Pair {
-            alloc,
-            service,
-            server,
-            frames,
-        })
+        let server = server.copy().ok()?;
+        Some(Alone { server, frames })
     }
+}
 
+/// A service and a server that were equal when they were opened.
+#[derive(Drop)]
+pub(crate) struct Pair<'p, 'c> {
+    pub alloc: Global,
+    pub service: &'p mut Service<'c>,
+    pub alone: &'p mut Alone<'c>,
+}
+
+impl<'p, 'c> Pair<'p, 'c> {
     /// Nanoseconds in which the rounds of a lot are answered; none if memory is refused, a reply is missing, or the clock fails.
     pub fn time<R: Threads + Wait + Sync + Clock>(
         &mut self,
@@ -133,7 +129,7 @@ impl<'c> Pair<'c> {
         way: Way,
     ) -> Option<u64> {
         let clock = match way {
-            Way::Alone => self.server.clock(),
+            Way::Alone => self.alone.server.clock(),
             Way::Workers(_) => self.service.server().clock(),
         };
         let moment = clock.saturating_add(lot.timing.pause());
@@ -141,7 +137,7 @@ impl<'c> Pair<'c> {
         match way {
             Way::Alone => self.time_alone(rt, requests.as_slice()),
             Way::Workers(workers) => {
-                let service = &mut self.service;
+                let service = &mut *self.service;
                 let wanted = code::ACCOUNTING_RESPONSE;
                 time_round(rt, service, requests.as_slice(), workers, wanted)
             }
@@ -150,7 +146,8 @@ impl<'c> Pair<'c> {
 
     fn time_alone<R: Clock>(&mut self, rt: &R, arrivals: &[Timed]) -> Option<u64> {
         let start = Instant::now(rt).ok()?;
-        let sealed = answer_alone(&mut self.server, arrivals, &mut self.frames);
+        let Alone { server, frames } = &mut *self.alone;
+        let sealed = answer_alone(server, arrivals, frames);
         let spent = nanoseconds_since(rt, start)?;
         if sealed == arrivals.len() {
             Some(spent)
@@ -160,26 +157,29 @@ impl<'c> Pair<'c> {
     }
 }
 
-// A service with so many sessions: at most `ROUND_MAX`, or a multiple of it.
-fn granted<'c, R: Threads + Wait + Sync + Clock>(
+/// Opens so many sessions of a service: at most `ROUND_MAX`, or a multiple of it.
+pub(crate) fn grant<R: Threads + Wait + Sync + Clock>(
     rt: &R,
     alloc: Global,
-    config: &'c Config,
+    service: &mut Service,
     sessions: u16,
-) -> Option<Service<'c>> {
-    let mut service = Service::open(alloc, config).ok()?;
+) -> Option<()> {
     for _ in 0..sessions.div_ceil(ROUND_MAX) {
-        let moment = service.server().clock().saturating_add(WINDOW);
-        let requests = datagrams(alloc, Kind::Grant, sessions, moment, WINDOW)?;
-        time_round(
-            rt,
-            &mut service,
-            requests.as_slice(),
-            1,
-            code::ACCESS_ACCEPT,
-        )?;
+        grant_round(rt, alloc, service, sessions)?;
     }
-    Some(service)
+    Some(())
+}
+
+// Nanoseconds of one round of so many Access-Requests, at most `ROUND_MAX`.
+fn grant_round<R: Threads + Wait + Sync + Clock>(
+    rt: &R,
+    alloc: Global,
+    service: &mut Service,
+    count: u16,
+) -> Option<u64> {
+    let moment = service.server().clock().saturating_add(WINDOW);
+    let requests = datagrams(alloc, Kind::Grant, count, moment, WINDOW)?;
+    time_round(rt, service, requests.as_slice(), 1, code::ACCESS_ACCEPT)
 }
 
 // Nanoseconds of a round, with the look at its replies and the reuse of its frames; none if it fails, or if a reply is missing or has

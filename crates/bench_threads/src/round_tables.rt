@@ -1,8 +1,8 @@
 //! The table of rounds. What a line compares takes turns, so that what else the machine does for a while disturbs none of it alone.
 
-use crate::pairs::{Lot, Pair, Timing, Way};
-use crate::servers::CONFIGURATION;
+use crate::pairs::{Alone, Lot, Pair, Timing, Way, grant};
 use rad_config::Config;
+use rad_shell::Service;
 use std::alloc::Global;
 use std::num::nearest_u64_to_f64;
 use std::sync::Wait;
@@ -29,6 +29,10 @@ const MANY: Size = Size {
     pairs: 1,
 };
 
+const TIMINGS: [Timing; 3] = [Timing::Apart, Timing::Together, Timing::Again];
+
+const COUNTS: [u16; 4] = [1, 8, 64, 512];
+
 /// The least nanoseconds of each way.
 #[derive(Clone, Copy)]
 struct Best {
@@ -42,20 +46,42 @@ struct Best {
 pub(crate) fn print_table<R: Threads + Wait + Sync + Clock + Print>(
     rt: &R,
     alloc: Global,
+    config: &Config,
 ) -> Option<()> {
-    let config = Config::read(alloc, CONFIGURATION).ok()?;
     println!(rt;
         "| requests | sessions | datagrams | one thread µs | one worker µs | times one thread | two workers µs | four workers µs |"
     ).ok()?;
     println!(rt; "|---|---|---|---|---|---|---|---|").ok()?;
-    for size in [FEW, MANY] {
-        for timing in [Timing::Apart, Timing::Together, Timing::Again] {
-            for count in [1, 8, 64, 512] {
-                let lot = Lot { timing, count };
-                let best = measure(rt, alloc, &config, size, lot)?;
-                print_line(rt, size, lot, best)?;
-            }
-        }
+    print_size(rt, alloc, config, FEW)?;
+    print_size(rt, alloc, config, MANY)
+}
+
+fn print_size<R: Threads + Wait + Sync + Clock + Print>(
+    rt: &R,
+    alloc: Global,
+    config: &Config,
+    size: Size,
+) -> Option<()> {
+    for timing in TIMINGS.iter() {
+        print_lines(rt, alloc, config, size, *timing)?;
+    }
+    Some(())
+}
+
+fn print_lines<R: Threads + Wait + Sync + Clock + Print>(
+    rt: &R,
+    alloc: Global,
+    config: &Config,
+    size: Size,
+    timing: Timing,
+) -> Option<()> {
+    for count in COUNTS.iter() {
+        let lot = Lot {
+            timing,
+            count: *count,
+        };
+        let best = measure(rt, alloc, config, size, lot)?;
+        print_line(rt, size, lot, best)?;
     }
     Some(())
 }
@@ -74,10 +100,50 @@ fn measure<R: Threads + Wait + Sync + Clock>(
         four: u64::MAX,
     };
     for _ in 0..size.pairs {
-        let mut pair = Pair::open(rt, alloc, config, size.sessions)?;
-        for _ in 0..TRIES {
-            best = better(rt, &mut pair, lot, best)?;
-        }
+        best = measure_pair(rt, alloc, config, size.sessions, lot, best)?;
+    }
+    Some(best)
+}
+
+fn measure_pair<R: Threads + Wait + Sync + Clock>(
+    rt: &R,
+    alloc: Global,
+    config: &Config,
+    sessions: u16,
+    lot: Lot,
+    best: Best,
+) -> Option<Best> {
+    let mut service = Service::open(alloc, config).ok()?;
+    measure_service(rt, alloc, &mut service, sessions, lot, best)
+}
+
+fn measure_service<R: Threads + Wait + Sync + Clock>(
+    rt: &R,
+    alloc: Global,
+    service: &mut Service,
+    sessions: u16,
+    lot: Lot,
+    best: Best,
+) -> Option<Best> {
+    grant(rt, alloc, service, sessions)?;
+    let mut alone = Alone::open(alloc, service.server())?;
+    let mut pair = Pair {
+        alloc,
+        service,
+        alone: &mut alone,
+    };
+    tries(rt, &mut pair, lot, best)
+}
+
+fn tries<R: Threads + Wait + Sync + Clock>(
+    rt: &R,
+    pair: &mut Pair,
+    lot: Lot,
+    best: Best,
+) -> Option<Best> {
+    let mut best = best;
+    for _ in 0..TRIES {
+        best = better(rt, pair, lot, best)?;
     }
     Some(best)
 }

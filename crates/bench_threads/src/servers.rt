@@ -9,9 +9,13 @@ use std::alloc::Global;
 use std::sync::atomic::AtomicU64;
 
 /// One client, and a user who may have as many sessions as there may be. A session without a Start lives a day.
-pub(crate) const CONFIGURATION: &str = "window = 1\nhold = 86400\n\
+const CONFIGURATION: &str = "window = 1\nhold = 86400\n\
     [[client]]\naddress = \"192.168.1.16\"\nsecret = \"xyzzy5461\"\n\
     [[user]]\nname = \"nemo\"\npassword = \"arctangent\"\nsessions = 4096\n";
+
+pub(crate) fn read_config(alloc: Global) -> Option<Config> {
+    Config::read(alloc, CONFIGURATION).ok()
+}
 
 /// A server that has so many sessions.
 pub(crate) fn server_with<'c>(

@@ -3,7 +3,7 @@
 use crate::asks::{Work, time_asks, time_steps};
 use crate::desks::{time_copied, time_moved};
 use crate::requests::Kind;
-use crate::servers::{CONFIGURATION, server_with};
+use crate::servers::server_with;
 use rad_config::Config;
 use rad_server::Server;
 use std::alloc::Global;
@@ -23,12 +23,21 @@ const TRIES: u32 = 100;
 pub(crate) fn print_tables<R: Threads + Wait + Sync + Clock + Print>(
     rt: &R,
     alloc: Global,
+    config: &Config,
 ) -> Option<()> {
-    let config = Config::read(alloc, CONFIGURATION).ok()?;
-    let few = server_with(alloc, &config, FEW)?;
-    let many = server_with(alloc, &config, MANY)?;
-    print_asks(rt, alloc, &few, &many)?;
-    print_desks(rt, alloc, &few, &many)
+    let few = server_with(alloc, config, FEW)?;
+    let many = server_with(alloc, config, MANY)?;
+    print_tables_of(rt, alloc, &few, &many)
+}
+
+fn print_tables_of<R: Threads + Wait + Sync + Clock + Print>(
+    rt: &R,
+    alloc: Global,
+    few: &Server,
+    many: &Server,
+) -> Option<()> {
+    print_asks(rt, alloc, few, many)?;
+    print_desks(rt, alloc, few, many)
 }
 
 fn print_asks<R: Threads + Wait + Sync + Clock + Print>(
