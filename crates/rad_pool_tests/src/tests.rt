@@ -84,18 +84,25 @@ enum Call {
     Rows(&'static [(u64, Phase)]),
 }
 
+/// The moment of a call in milliseconds, the call, and what is said if it has another outcome.
+type Row = (u64, Call, &'static str);
+
 // Asserts once, of `what`.
 fn holds(rt: &impl Abort, is_so: bool, what: &str) {
     assert!(rt; is_so, "{what}");
 }
 
 // Makes the calls, each at its moment, in sessions that are opened for it, and asserts what each returns.
-fn play(rt: &impl Abort, alloc: Global, calls: &[(u64, Call, &str)]) -> Result<(), Fail> {
+fn play(rt: &impl Abort, alloc: Global, rows: &[Row]) -> Result<(), Fail> {
     let config = Config::read(alloc, CAMPUS)?;
-    let mut sessions = Sessions::open(alloc, &config)?;
-    for (now, call, what) in calls.iter() {
-        let is_right = make(&mut sessions, &config, *now, call);
-        holds(rt, is_right, what);
+    play_over(rt, alloc, &config, rows)
+}
+
+fn play_over(rt: &impl Abort, alloc: Global, config: &Config, rows: &[Row]) -> Result<(), Fail> {
+    let mut sessions = Sessions::open(alloc, config)?;
+    for row in rows.iter() {
+        let (now, call, what) = *row;
+        holds(rt, make(&mut sessions, config, now, &call), what);
     }
     Ok(())
 }

@@ -1,10 +1,10 @@
-use super::{BRUCE, Call, DORY, NEMO, ONE, TWO, TWO_NEXT, play};
+use super::{BRUCE, Call, DORY, NEMO, ONE, Row, TWO, TWO_NEXT, play};
 use rad_pool::{Phase, Refusal};
 use std::test::Fail;
 
 #[test]
 fn an_ended_session_keeps_its_address_for_the_window(rt: HostRuntime) -> Result<(), Fail> {
-    let calls = [
+    const ROWS: &[Row] = &[
         (0, Call::Grant(NEMO, 1, Some(ONE)), "nemo"),
         (5_000, Call::Stop(1), "a Stop"),
         (
@@ -19,22 +19,22 @@ fn an_ended_session_keeps_its_address_for_the_window(rt: HostRuntime) -> Result<
             "nemo's session is gone",
         ),
     ];
-    play(&rt, rt.alloc(), &calls)
+    play(&rt, rt.alloc(), ROWS)
 }
 
 #[test]
 fn a_session_without_a_start_is_held(rt: HostRuntime) -> Result<(), Fail> {
-    let calls = [
+    const ROWS: &[Row] = &[
         (0, Call::Grant(NEMO, 1, Some(ONE)), "nemo"),
         (59_999, Call::Refuse(DORY, Refusal::NoAddress), "held"),
         (60_000, Call::Grant(DORY, 2, Some(ONE)), "no longer held"),
     ];
-    play(&rt, rt.alloc(), &calls)
+    play(&rt, rt.alloc(), ROWS)
 }
 
 #[test]
 fn an_active_session_lives_until_its_stop(rt: HostRuntime) -> Result<(), Fail> {
-    let calls = [
+    const ROWS: &[Row] = &[
         (0, Call::Grant(NEMO, 1, Some(ONE)), "nemo"),
         (1_000, Call::Start(1), "a Start"),
         (1_000, Call::Start(1), "another Start"),
@@ -52,12 +52,12 @@ fn an_active_session_lives_until_its_stop(rt: HostRuntime) -> Result<(), Fail> {
             "the window is over",
         ),
     ];
-    play(&rt, rt.alloc(), &calls)
+    play(&rt, rt.alloc(), ROWS)
 }
 
 #[test]
 fn an_ended_session_counts_for_no_limit(rt: HostRuntime) -> Result<(), Fail> {
-    let calls = [
+    const ROWS: &[Row] = &[
         (0, Call::Grant(BRUCE, 1, Some(TWO)), "the first"),
         (0, Call::Grant(BRUCE, 2, Some(TWO_NEXT)), "the second"),
         (
@@ -69,12 +69,12 @@ fn an_ended_session_counts_for_no_limit(rt: HostRuntime) -> Result<(), Fail> {
         (2, Call::Refuse(BRUCE, Refusal::NoAddress), "one is open"),
         (30_000, Call::Grant(BRUCE, 3, Some(TWO)), "after the window"),
     ];
-    play(&rt, rt.alloc(), &calls)
+    play(&rt, rt.alloc(), ROWS)
 }
 
 #[test]
 fn the_least_free_address_is_given(rt: HostRuntime) -> Result<(), Fail> {
-    let calls = [
+    const ROWS: &[Row] = &[
         (0, Call::Grant(BRUCE, 1, Some(TWO)), "the first"),
         (5_000, Call::Grant(BRUCE, 2, Some(TWO_NEXT)), "the second"),
         (5_000, Call::Start(2), "its Start"),
@@ -90,12 +90,12 @@ fn the_least_free_address_is_given(rt: HostRuntime) -> Result<(), Fail> {
             "its address is given again",
         ),
     ];
-    play(&rt, rt.alloc(), &calls)
+    play(&rt, rt.alloc(), ROWS)
 }
 
 #[test]
 fn moments_need_not_rise(rt: HostRuntime) -> Result<(), Fail> {
-    let calls = [
+    const ROWS: &[Row] = &[
         (70_000, Call::Grant(BRUCE, 1, Some(TWO)), "the first"),
         (
             10_000,
@@ -113,5 +113,5 @@ fn moments_need_not_rise(rt: HostRuntime) -> Result<(), Fail> {
             "the order",
         ),
     ];
-    play(&rt, rt.alloc(), &calls)
+    play(&rt, rt.alloc(), ROWS)
 }
