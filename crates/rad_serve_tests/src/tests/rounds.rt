@@ -6,11 +6,12 @@ use rad_shell::{OpenGate, Ports, Served, Service, run_rounds};
 use rand_chacha::ChaCha20Rng;
 use rand_core::SeedableRng;
 use std::alloc::{AllocGlobal, Global};
-use std::net::UdpSocket;
+use std::net::{Net, UdpSocket};
 use std::process::Abort;
 use std::sync::Wait;
 use std::test::Fail;
 use std::thread::Threads;
+use std::time::Clock;
 
 const AUTH: u16 = 18120;
 
@@ -69,11 +70,25 @@ fn answers_three<R: Threads + Wait + Sync + AllocGlobal + Abort, P: Ports>(
 
 #[test]
 fn three_datagrams(rt: HostRuntime) -> Result<(), Fail> {
-    let client = client(&rt)?;
-    let mut ports = UdpPorts::bind(&rt, LOOPBACK, AUTH, ACCT)?;
     let config = Config::read(rt.alloc(), CONFIGURATION)?;
-    let mut service = Service::open(rt.alloc(), &config)?;
-    answers_three(&rt, &mut service, &mut ports, &client);
+    answers_three_by(&rt, &config)
+}
+
+fn answers_three_by<R: Net + Clock + Threads + Wait + Sync + AllocGlobal + Abort>(
+    rt: &R,
+    config: &Config,
+) -> Result<(), Fail> {
+    let mut service = Service::open(rt.alloc(), config)?;
+    answers_three_at(rt, &mut service)
+}
+
+fn answers_three_at<R: Net + Clock + Threads + Wait + Sync + AllocGlobal + Abort>(
+    rt: &R,
+    service: &mut Service,
+) -> Result<(), Fail> {
+    let client = client(rt)?;
+    let mut ports = UdpPorts::bind(rt, LOOPBACK, AUTH, ACCT)?;
+    answers_three(rt, service, &mut ports, &client);
     Ok(())
 }
 
@@ -103,10 +118,24 @@ fn leaves_some<R: Threads + Wait + Sync + AllocGlobal + Abort, P: Ports>(
 // What is left over is received in the next turn, without another event.
 #[test]
 fn a_turn_ends_at_512(rt: HostRuntime) -> Result<(), Fail> {
-    let client = client(&rt)?;
-    let mut ports = UdpPorts::bind(&rt, LOOPBACK, 18122, 18123)?;
     let config = Config::read(rt.alloc(), CONFIGURATION)?;
-    let mut service = Service::open(rt.alloc(), &config)?;
-    leaves_some(&rt, &mut service, &mut ports, &client);
+    leaves_some_by(&rt, &config)
+}
+
+fn leaves_some_by<R: Net + Clock + Threads + Wait + Sync + AllocGlobal + Abort>(
+    rt: &R,
+    config: &Config,
+) -> Result<(), Fail> {
+    let mut service = Service::open(rt.alloc(), config)?;
+    leaves_some_at(rt, &mut service)
+}
+
+fn leaves_some_at<R: Net + Clock + Threads + Wait + Sync + AllocGlobal + Abort>(
+    rt: &R,
+    service: &mut Service,
+) -> Result<(), Fail> {
+    let client = client(rt)?;
+    let mut ports = UdpPorts::bind(rt, LOOPBACK, 18122, 18123)?;
+    leaves_some(rt, service, &mut ports, &client);
     Ok(())
 }
