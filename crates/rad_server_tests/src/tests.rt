@@ -87,7 +87,11 @@ fn holds(rt: &impl Abort, is_so: bool, what: &str) {
 // is the same.
 fn play(rt: &impl Abort, alloc: Global, rows: &[Row]) -> Result<(), Fail> {
     let config = Config::read(alloc, CAMPUS)?;
-    let mut run = Run::open(alloc, &config)?;
+    play_over(rt, alloc, &config, rows)
+}
+
+fn play_over(rt: &impl Abort, alloc: Global, config: &Config, rows: &[Row]) -> Result<(), Fail> {
+    let mut run = Run::open(alloc, config)?;
     for (moment, step, what) in rows.iter() {
         let is_right = run.takes(*moment, step);
         holds(rt, is_right, what);

@@ -33,10 +33,21 @@ pub(crate) struct Run<'c> {
 impl<'c> Run<'c> {
     pub fn open(alloc: Global, config: &'c Config) -> Result<Run<'c>, AllocError> {
         let server = Server::open(alloc, config)?;
+        Run::open_from(alloc, config, &server)
+    }
+
+    fn open_from(
+        alloc: Global,
+        config: &'c Config,
+        server: &Server<'c>,
+    ) -> Result<Run<'c>, AllocError>
+        requires { server.now.configuration ≡ config.now }
+    {
+        let book = Book::open(alloc, server)?;
         Ok(Run {
             alloc,
             config,
-            book: Book::open(alloc, &server)?,
+            book,
         })
     }
 
@@ -84,19 +95,39 @@ impl<'c> Run<'c> {
             config: self.config,
             book,
         };
-        copy.book.server().same(self.book.server())
+        self.parts_from(&mut copy, moment, asked, answered)
+    }
+
+    // Whether a copy is so.
+    fn parts_from(
+        &mut self,
+        copy: &mut Run,
+        moment: u64,
+        asked: &Asked,
+        answered: &Answered,
+    ) -> bool {
+        copy.is_at(self)
             && self.answers(moment, PORT, asked, answered)
-            && !copy.book.server().same(self.book.server())
+            && !copy.is_at(self)
             && copy.answers(moment, PORT, asked, answered)
-            && copy.book.server().same(self.book.server())
+            && copy.is_at(self)
+    }
+
+    // Whether the server of this run is the same as that of another.
+    fn is_at(&self, other: &Run) -> bool {
+        self.book.server().same(other.book.server())
     }
 
     // Whether a server that is opened with a configuration is the same as this one.
     fn is_like(&self, text: &str) -> bool {
-        let Ok(config) = Config::read(self.alloc, text) else {
-            return false;
-        };
-        match Server::open(self.alloc, &config) {
+        match Config::read(self.alloc, text) {
+            Ok(config) => self.is_opened_with(&config),
+            Err(_) => false,
+        }
+    }
+
+    fn is_opened_with(&self, config: &Config) -> bool {
+        match Server::open(self.alloc, config) {
             Ok(server) => server.same(self.book.server()),
             Err(_) => false,
         }
