@@ -16,6 +16,13 @@ use std::thread::{Threads, join};
 /// The draw of each request.
 const DRAW: &[u8; 16] = b"\0\0\0\0\0\0\0\0\0\0\0\0\0\0\0\x01";
 
+/// A Status-Server, which changes the clock alone.
+const STATUS_0: Asked = Asked {
+    pass: 0,
+    tag: 0,
+    octets: STATUS,
+};
+
 /// Octets that are asked with a pass, under a tag, at the moment 0.
 #[derive(Clone, Copy)]
 pub(crate) struct Asked {
@@ -47,28 +54,41 @@ pub(crate) struct Ended {
     pub history: Result<Vec<Entry>, Mismatch>,
 }
 
-/// What is left of a new desk at which this was asked in turn; none if memory was refused or a request isn't admitted.
-pub(crate) fn one_thread<R: Wait>(
-    rt: &R,
-    alloc: Global,
-    asks: &[Asked],
-    ending: Ending,
-) -> Option<Ended> {
-    let config = Config::read(alloc, CAMPUS).ok()?;
-    let server = Server::open(alloc, &config).ok()?;
-    in_turn(rt, alloc, &server, asks, ending)
+/// How a desk is asked.
+#[derive(Clone, Copy)]
+pub(crate) enum Way<'a> {
+    /// By one thread in turn; then the desk ends.
+    InTurn(&'a [Asked], Ending),
+    /// By two threads at once, each with a pass; then the desk is closed.
+    AtOnce(&'a [Asked], &'a [Asked]),
 }
 
-/// The same where two threads ask at once, each with a pass, and the desk is closed.
-pub(crate) fn two_threads<R: Threads + Wait + Sync>(
+/// What is left of a new desk that was asked so; none if memory was refused or a request isn't admitted.
+pub(crate) fn left_of<R: Threads + Wait + Sync>(rt: &R, alloc: Global, way: Way) -> Option<Ended> {
+    let config = Config::read(alloc, CAMPUS).ok()?;
+    asked_with(rt, alloc, &config, way)
+}
+
+fn asked_with<R: Threads + Wait + Sync>(
     rt: &R,
     alloc: Global,
-    first: &[Asked],
-    second: &[Asked],
+    config: &Config,
+    way: Way,
 ) -> Option<Ended> {
-    let config = Config::read(alloc, CAMPUS).ok()?;
-    let server = Server::open(alloc, &config).ok()?;
-    at_once(rt, alloc, &server, first, second)
+    let server = Server::open(alloc, config).ok()?;
+    asked_over(rt, alloc, &server, way)
+}
+
+fn asked_over<R: Threads + Wait + Sync>(
+    rt: &R,
+    alloc: Global,
+    server: &Server,
+    way: Way,
+) -> Option<Ended> {
+    match way {
+        Way::InTurn(asks, ending) => in_turn(rt, alloc, server, asks, ending),
+        Way::AtOnce(first, second) => at_once(rt, alloc, server, first, second),
+    }
 }
 
 fn in_turn<R: Wait>(
@@ -102,11 +122,9 @@ fn asked_in_turn<'c, L: Opened, R: Wait>(
     requires blank { IsBlankOf blank.name blank.parts L.name L.parts 2 }
     requires opening { server.now ≡ L.opening }
 {
-    let (desk, mut passes) = Desk::<L>::open(alloc, blank, server, 2).ok()?;
-    let mut second = passes.pop()?;
-    let mut first = passes.pop()?;
-    ask_in_turn(rt, &desk, server, &mut first, &mut second, asks)?;
-    end_of(alloc, desk, server, passes, first, second, ending)
+    let (desk, passes) = Desk::<L>::open(alloc, blank, server, 2).ok()?;
+    let passes = ask_with_all(rt, &desk, server, passes, asks)?;
+    end_of(alloc, desk, server, passes, ending)
 }
 
 fn asked_at_once<'c, L: Opened + Send + Sync, R: Threads + Wait + Sync>(
@@ -121,8 +139,8 @@ fn asked_at_once<'c, L: Opened + Send + Sync, R: Threads + Wait + Sync>(
     requires opening { server.now ≡ L.opening }
 {
     let (desk, mut passes) = Desk::<L>::open(alloc, blank, server, 2).ok()?;
-    let last = passes.pop()?;
-    let other = passes.pop()?;
+    let last = passes.pop();
+    let other = passes.pop();
     let (other, last) = join(
         rt,
         || -> Option<Pass<L>>
@@ -132,57 +150,73 @@ fn asked_at_once<'c, L: Opened + Send + Sync, R: Threads + Wait + Sync>(
             requires { server.now ≡ L.opening }
         { ask_all(rt, &desk, server, last, second) },
     );
-    end_of(alloc, desk, server, passes, other?, last?, Ending::Close)
+    let passes = with(with(Some(passes), other), last)?;
+    end_of(alloc, desk, server, passes, Ending::Close)
 }
 
-// The pass, once all this was asked with it.
+// These passes and one more, unless one is missing.
+fn with<L: Opened>(passes: Option<Vec<Pass<L>>>, pass: Option<Pass<L>>) -> Option<Vec<Pass<L>>> {
+    match (passes, pass) {
+        (Some(passes), Some(pass)) => pushed(passes, pass),
+        _ => None,
+    }
+}
+
+fn pushed<L: Opened>(mut passes: Vec<Pass<L>>, pass: Pass<L>) -> Option<Vec<Pass<L>>> {
+    if passes.push(pass).is_ok() {
+        Some(passes)
+    } else {
+        None
+    }
+}
+
+// The pass, if there is one, once all this was asked with it.
 fn ask_all<L: Opened, R: Wait>(
     rt: &R,
     desk: &Desk<L>,
     server: &Server,
-    mut pass: Pass<L>,
+    pass: Option<Pass<L>>,
     asks: &[Asked],
 ) -> Option<Pass<L>>
     requires { server.now ≡ L.opening }
 {
+    let mut pass = pass?;
     for asked in asks.iter() {
         ask(rt, desk, server, &mut pass, asked)?;
     }
     Some(pass)
 }
 
-// Asks all this, each time with the pass that is meant.
+// The passes, once all this was asked, each time with the one that is meant.
+fn ask_with_all<L: Opened, R: Wait>(
+    rt: &R,
+    desk: &Desk<L>,
+    server: &Server,
+    mut passes: Vec<Pass<L>>,
+    asks: &[Asked],
+) -> Option<Vec<Pass<L>>>
+    requires { server.now ≡ L.opening }
+{
+    if ask_in_turn(rt, desk, server, &mut passes, asks).is_some() {
+        Some(passes)
+    } else {
+        None
+    }
+}
+
 fn ask_in_turn<L: Opened, R: Wait>(
     rt: &R,
     desk: &Desk<L>,
     server: &Server,
-    first: &mut Pass<L>,
-    second: &mut Pass<L>,
+    passes: &mut [Pass<L>],
     asks: &[Asked],
 ) -> Option<()>
     requires { server.now ≡ L.opening }
 {
     for asked in asks.iter() {
-        ask_with(rt, desk, server, first, second, asked)?;
+        ask(rt, desk, server, passes.get_mut(asked.pass)?, asked)?;
     }
     Some(())
-}
-
-// Asks with the pass that is meant.
-fn ask_with<L: Opened, R: Wait>(
-    rt: &R,
-    desk: &Desk<L>,
-    server: &Server,
-    first: &mut Pass<L>,
-    second: &mut Pass<L>,
-    asked: &Asked,
-) -> Option<()>
-    requires { server.now ≡ L.opening }
-{
-    match asked.pass {
-        0 => ask(rt, desk, server, first, asked),
-        _ => ask(rt, desk, server, second, asked),
-    }
 }
 
 fn ask<L: Opened, R: Wait>(
@@ -202,29 +236,75 @@ fn end_of<'c, L: Opened>(
     alloc: Global,
     desk: Desk<'c, L>,
     server: &Server<'c>,
-    mut passes: Vec<Pass<L>>,
-    first: Pass<L>,
-    second: Pass<L>,
+    passes: Vec<Pass<L>>,
     ending: Ending,
 ) -> Option<Ended> {
-    let receipts = copies_of(alloc, &first, &second)?;
-    passes.push(first).ok()?;
-    passes.push(second).ok()?;
-    let closed = match ending {
-        Ending::Close => desk.close(server, passes),
-        Ending::CloseLater => desk.close(&later(server)?, passes),
-        Ending::CloseWithOne => {
-            passes.pop();
-            desk.close(server, passes)
-        }
-        Ending::Settle(asks) => settle(book_of(alloc, server, asks)?, server, passes),
-        Ending::SettleWithNone(asks) => {
-            passes.clear();
-            settle(book_of(alloc, server, asks)?, server, passes)
-        }
-    };
-    let history = history_of(closed);
-    Some(Ended { receipts, history })
+    let receipts = copies_of(alloc, &passes);
+    let closed = end(alloc, desk, server, passes, ending);
+    what_is_left(receipts, closed)
+}
+
+fn what_is_left(
+    receipts: Option<Vec<Receipt>>,
+    closed: Option<Result<Closed, Mismatch>>,
+) -> Option<Ended> {
+    match (receipts, closed) {
+        (Some(receipts), Some(closed)) => Some(Ended {
+            receipts,
+            history: history_of(closed),
+        }),
+        _ => None,
+    }
+}
+
+// Ends a desk; none if memory was refused or a request isn't admitted.
+fn end<'c, L: Opened>(
+    alloc: Global,
+    desk: Desk<'c, L>,
+    server: &Server<'c>,
+    passes: Vec<Pass<L>>,
+    ending: Ending,
+) -> Option<Result<Closed<'c>, Mismatch>> {
+    match ending {
+        Ending::Close => Some(desk.close(server, passes)),
+        Ending::CloseLater => close_later(alloc, desk, server, passes),
+        Ending::CloseWithOne => Some(close_with_one(desk, server, passes)),
+        Ending::Settle(asks) => settle_asks(alloc, server, asks, passes),
+        Ending::SettleWithNone(asks) => settle_asks::<L>(alloc, server, asks, Vec::new(alloc)),
+    }
+}
+
+fn close_later<'c, L: Opened>(
+    alloc: Global,
+    desk: Desk<'c, L>,
+    server: &Server<'c>,
+    passes: Vec<Pass<L>>,
+) -> Option<Result<Closed<'c>, Mismatch>> {
+    match book_of(alloc, server, &[STATUS_0], 5) {
+        Some(later) => Some(desk.close(later.server(), passes)),
+        None => None,
+    }
+}
+
+fn close_with_one<'c, L: Opened>(
+    desk: Desk<'c, L>,
+    server: &Server<'c>,
+    mut passes: Vec<Pass<L>>,
+) -> Result<Closed<'c>, Mismatch> {
+    passes.pop();
+    desk.close(server, passes)
+}
+
+fn settle_asks<'c, L: Opened>(
+    alloc: Global,
+    server: &Server<'c>,
+    asks: &[Asked],
+    passes: Vec<Pass<L>>,
+) -> Option<Result<Closed<'c>, Mismatch>> {
+    match book_of(alloc, server, asks, 0) {
+        Some(book) => Some(settle(book, server, passes)),
+        None => None,
+    }
 }
 
 fn history_of(closed: Result<Closed, Mismatch>) -> Result<Vec<Entry>, Mismatch> {
@@ -233,14 +313,11 @@ fn history_of(closed: Result<Closed, Mismatch>) -> Result<Vec<Entry>, Mismatch> 
 }
 
 // Copies of all receipts.
-fn copies_of<L: Opened>(alloc: Global, first: &Pass<L>, second: &Pass<L>) -> Option<Vec<Receipt>> {
-    let all = with_copies(Vec::new(alloc), first.receipts())?;
-    with_copies(all, second.receipts())
-}
-
-// These receipts, and copies of those.
-fn with_copies(mut all: Vec<Receipt>, receipts: &[Receipt]) -> Option<Vec<Receipt>> {
-    append(&mut all, receipts)?;
+fn copies_of<L: Opened>(alloc: Global, passes: &[Pass<L>]) -> Option<Vec<Receipt>> {
+    let mut all = Vec::new(alloc);
+    for pass in passes.iter() {
+        append(&mut all, pass.receipts())?;
+    }
     Some(all)
 }
 
@@ -253,25 +330,30 @@ fn append(all: &mut Vec<Receipt>, receipts: &[Receipt]) -> Option<()> {
     Some(())
 }
 
-// A server that differs by its clock alone.
-fn later<'c>(server: &Server<'c>) -> Option<Server<'c>> {
-    let request = admit(server.config().clients(), STATUS)?;
-    let mut later = server.copy().ok()?;
-    later.step(&request, 5, DRAW).ok()?;
-    Some(later)
-}
-
-// A book that began as a server, of which this was asked in turn.
-fn book_of<'c>(alloc: Global, server: &Server<'c>, asks: &[Asked]) -> Option<Book<'c>> {
+// A book that began as a server, of which this was asked in turn at a moment.
+fn book_of<'c>(
+    alloc: Global,
+    server: &Server<'c>,
+    asks: &[Asked],
+    moment: u32,
+) -> Option<Book<'c>> {
     let mut book = Book::open(alloc, server).ok()?;
-    for asked in asks.iter() {
-        exchange(&mut book, asked)?;
+    if exchange_all(&mut book, asks, moment) {
+        Some(book)
+    } else {
+        None
     }
-    Some(book)
 }
 
-fn exchange(book: &mut Book, asked: &Asked) -> Option<()> {
-    let request = admit(book.server().config().clients(), asked.octets)?;
-    book.exchange(asked.tag, &request, 0, DRAW).ok()?;
-    Some(())
+fn exchange_all(book: &mut Book, asks: &[Asked], moment: u32) -> bool {
+    asks.iter().all(|asked| exchange(book, asked, moment))
+}
+
+fn exchange(book: &mut Book, asked: &Asked, moment: u32) -> bool {
+    match admit(book.server().config().clients(), asked.octets) {
+        Some(request) => book
+            .exchange(asked.tag, &request, moment as u64, DRAW)
+            .is_ok(),
+        None => false,
+    }
 }

@@ -1,5 +1,6 @@
 use super::asking::Ending::{Close, CloseLater, CloseWithOne, Settle, SettleWithNone};
-use super::asking::{Asked, Ended, Ending, one_thread, two_threads};
+use super::asking::Way::{AtOnce, InTurn};
+use super::asking::{Asked, Ended, Ending, left_of};
 use super::holds;
 use super::requests::{DORY, NEMO};
 use rad_desk::{Mismatch, Receipt};
@@ -7,6 +8,7 @@ use rad_packet::code::{ACCESS_ACCEPT, ACCESS_REJECT};
 use rad_server::{Answer, Entry};
 use std::alloc::Global;
 use std::sync::Wait;
+use std::thread::Threads;
 
 const NEMO_7: Asked = Asked {
     pass: 0,
@@ -25,7 +27,7 @@ const BOTH: &[Asked] = &[NEMO_7, DORY_8];
 
 #[test]
 fn a_desk_closes_with_its_history(rt: HostRuntime) {
-    let ended = one_thread(&rt, rt.alloc(), BOTH, Close);
+    let ended = left_of(&rt, rt.alloc(), InTurn(BOTH, Close));
     let wanted = &[(7, ACCESS_ACCEPT), (8, ACCESS_REJECT)];
     holds(
         &rt,
@@ -37,7 +39,7 @@ fn a_desk_closes_with_its_history(rt: HostRuntime) {
 
 #[test]
 fn a_book_of_the_same_settles(rt: HostRuntime) {
-    let ended = one_thread(&rt, rt.alloc(), BOTH, Settle(BOTH));
+    let ended = left_of(&rt, rt.alloc(), InTurn(BOTH, Settle(BOTH)));
     let wanted = &[(7, ACCESS_ACCEPT), (8, ACCESS_REJECT)];
     holds(&rt, has_history(&ended, wanted), "the book's history");
     holds(&rt, all_stand(&ended), "each receipt stands in it");
@@ -69,13 +71,13 @@ fn what_does_not_agree_does_not_close(rt: HostRuntime) {
 
 #[test]
 fn a_pass_without_receipts_may_be_missing(rt: HostRuntime) {
-    let ended = one_thread(&rt, rt.alloc(), &[NEMO_7], CloseWithOne);
+    let ended = left_of(&rt, rt.alloc(), InTurn(&[NEMO_7], CloseWithOne));
     holds(&rt, has_history(&ended, &[(7, ACCESS_ACCEPT)]), "an Accept");
 }
 
 #[test]
 fn two_equal_asks_are_two_entries(rt: HostRuntime) {
-    let ended = one_thread(&rt, rt.alloc(), &[NEMO_7, NEMO_7], Close);
+    let ended = left_of(&rt, rt.alloc(), InTurn(&[NEMO_7, NEMO_7], Close));
     let wanted = &[(7, ACCESS_ACCEPT), (7, ACCESS_ACCEPT)];
     holds(&rt, has_history(&ended, wanted), "two entries");
     holds(&rt, are_equal(&ended), "the entries are the same");
@@ -90,7 +92,7 @@ fn two_threads_share_a_desk(rt: HostRuntime) {
     const SECOND: &[Asked] = &[
         DORY_8, DORY_8, DORY_8, DORY_8, DORY_8, DORY_8, DORY_8, DORY_8,
     ];
-    let ended = two_threads(&rt, rt.alloc(), FIRST, SECOND);
+    let ended = left_of(&rt, rt.alloc(), AtOnce(FIRST, SECOND));
     holds(
         &rt,
         has_len(&ended, 16),
@@ -100,9 +102,9 @@ fn two_threads_share_a_desk(rt: HostRuntime) {
 }
 
 // Whether a desk ends as its row says.
-fn mismatches(rt: &impl Wait, alloc: Global, row: Row) -> bool {
+fn mismatches<R: Threads + Wait + Sync>(rt: &R, alloc: Global, row: Row) -> bool {
     let (ending, wanted, _) = row;
-    match one_thread(rt, alloc, BOTH, ending) {
+    match left_of(rt, alloc, InTurn(BOTH, ending)) {
         Some(
             Ended {
                 history: Err(mismatch),
