@@ -211,19 +211,33 @@ fn is_sum(served: &Served, sums: &(u64, u64, u64)) -> bool {
         }
 }
 
-fn main(rt: HostRuntime) -> io::Result<()> {
-    let Some(config) = configuration(rt.alloc()) else {
-        return println!(rt; "wrong: no configuration");
-    };
-    let Some(mut service) = opened(rt.alloc(), &config) else {
-        return println!(rt; "wrong: no service");
-    };
+fn print_judgements<R: Print + Threads + Wait + Sync + AllocGlobal>(
+    rt: &R,
+    service: &mut Service,
+) -> io::Result<()> {
     println!(rt; "right")?;
     for workers in WORKERS.iter() {
-        println!(rt; "{}", judge_round(&rt, &mut service, *workers))?;
+        println!(rt; "{}", judge_round(rt, service, *workers))?;
     }
-    let Some(mut ports) = coming(rt.alloc()) else {
-        return println!(rt; "wrong: nothing comes");
-    };
-    println!(rt; "{}", judge_turns(&rt, &mut service, &mut ports))
+    match coming(rt.alloc()) {
+        Some(mut ports) => println!(rt; "{}", judge_turns(rt, service, &mut ports)),
+        None => println!(rt; "wrong: nothing comes"),
+    }
+}
+
+fn open_and_print<R: Print + Threads + Wait + Sync + AllocGlobal>(
+    rt: &R,
+    config: &Config,
+) -> io::Result<()> {
+    match opened(rt.alloc(), config) {
+        Some(mut service) => print_judgements(rt, &mut service),
+        None => println!(rt; "wrong: no service"),
+    }
+}
+
+fn main(rt: HostRuntime) -> io::Result<()> {
+    match configuration(rt.alloc()) {
+        Some(config) => open_and_print(&rt, &config),
+        None => println!(rt; "wrong: no configuration"),
+    }
 }
