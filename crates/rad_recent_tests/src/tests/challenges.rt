@@ -1,7 +1,7 @@
 use super::{CAMPUS, holds};
 use rad_config::{Config, MOMENT_MAX};
 use rad_recent::{Challenge, Challenges, IssueFault, state_value};
-use std::alloc::{AllocError, Global};
+use std::alloc::Global;
 use std::process::Abort;
 use std::test::Fail;
 
@@ -24,16 +24,20 @@ enum Call {
 
 use Call::{Copy, Expire, Fill, Issue, Rows, Take};
 
-fn opened(alloc: Global, config: Config) -> Result<Challenges, AllocError> {
-    Challenges::open(alloc, &config)
-}
+/// The moment of a call in milliseconds, the call, and what is said if it has another outcome.
+type Row = (u64, Call, &'static str);
 
 // Makes the calls, each at its moment, in a table that is opened for them, and asserts what each returns.
-fn play(rt: &impl Abort, alloc: Global, calls: &[(u64, Call, &str)]) -> Result<(), Fail> {
-    let mut challenges = opened(alloc, Config::read(alloc, CAMPUS)?)?;
-    for (now, call, what) in calls.iter() {
-        let is_right = make(&mut challenges, *now, call);
-        holds(rt, is_right, what);
+fn play(rt: &impl Abort, alloc: Global, rows: &[Row]) -> Result<(), Fail> {
+    let config = Config::read(alloc, CAMPUS)?;
+    play_over(rt, alloc, &config, rows)
+}
+
+fn play_over(rt: &impl Abort, alloc: Global, config: &Config, rows: &[Row]) -> Result<(), Fail> {
+    let mut challenges = Challenges::open(alloc, config)?;
+    for row in rows.iter() {
+        let (now, call, what) = *row;
+        holds(rt, make(&mut challenges, now, &call), what);
     }
     Ok(())
 }
@@ -140,7 +144,7 @@ fn fills(challenges: &mut Challenges, now: u64) -> bool {
 
 #[test]
 fn a_challenge_is_answered_once(rt: HostRuntime) -> Result<(), Fail> {
-    let calls = [
+    const ROWS: &[Row] = &[
         (0, Rows(&[]), "none waits yet"),
         (0, Issue(0, 3, 7, Ok(1)), "a first challenge"),
         (1_000, Issue(1, 4, 8, Ok(2)), "another client's"),
@@ -163,12 +167,12 @@ fn a_challenge_is_answered_once(rt: HostRuntime) -> Result<(), Fail> {
         (61_000, Take(2, 8, 24, 1, None), "the end of the hold"),
         (61_000, Rows(&[]), "none is left"),
     ];
-    play(&rt, rt.alloc(), &calls)
+    play(&rt, rt.alloc(), ROWS)
 }
 
 #[test]
 fn challenges_expire_each_in_its_turn(rt: HostRuntime) -> Result<(), Fail> {
-    let calls = [
+    const ROWS: &[Row] = &[
         (5_000, Issue(0, 3, 7, Ok(1)), "the first"),
         (0, Issue(0, 3, 7, Ok(2)), "an earlier moment"),
         (59_999, Expire, "both live"),
@@ -179,7 +183,7 @@ fn challenges_expire_each_in_its_turn(rt: HostRuntime) -> Result<(), Fail> {
         (65_000, Rows(&[]), "none is left"),
         (65_000, Issue(0, 3, 7, Ok(3)), "no number comes again"),
     ];
-    play(&rt, rt.alloc(), &calls)
+    play(&rt, rt.alloc(), ROWS)
 }
 
 #[test]
@@ -194,24 +198,24 @@ fn a_state_is_a_number_and_a_draw(rt: HostRuntime) {
 
 #[test]
 fn a_copy_of_challenges_is_the_same_until_one_changes(rt: HostRuntime) -> Result<(), Fail> {
-    let calls = [
+    const ROWS: &[Row] = &[
         (0, Copy(1), "an empty table"),
         (0, Take(1, 7, 24, 0, Some((3, 0))), "its challenge"),
         (0, Copy(2), "the number alone is left"),
         (0, Copy(3), "a table of one"),
         (0, Rows(&[2, 3]), "both wait"),
     ];
-    play(&rt, rt.alloc(), &calls)
+    play(&rt, rt.alloc(), ROWS)
 }
 
 #[test]
 fn so_many_challenges_and_no_more(rt: HostRuntime) -> Result<(), Fail> {
-    let full = Err(IssueFault::Full);
-    let calls = [
+    const FULL: Result<u64, IssueFault> = Err(IssueFault::Full);
+    const ROWS: &[Row] = &[
         (0, Fill, "1,024 challenges"),
-        (59_999, Issue(0, 3, 7, full), "no more in the hold"),
+        (59_999, Issue(0, 3, 7, FULL), "no more in the hold"),
         (60_000, Issue(0, 3, 7, Ok(1_025)), "the hold is over"),
         (60_000, Rows(&[1_025]), "the others are gone"),
     ];
-    play(&rt, rt.alloc(), &calls)
+    play(&rt, rt.alloc(), ROWS)
 }

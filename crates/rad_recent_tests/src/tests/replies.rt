@@ -3,7 +3,7 @@ use rad_auth::Door;
 use rad_config::{Config, MOMENT_MAX};
 use rad_packet::{Body, Octets};
 use rad_recent::{KeepFault, Key, Recent};
-use std::alloc::{AllocError, Global};
+use std::alloc::Global;
 use std::process::Abort;
 use std::test::Fail;
 
@@ -40,6 +40,9 @@ enum Call {
 
 use Call::{Copy, Expire, Fill, Keep, Look, Refuse, Repeats, Rows, Share};
 
+/// The moment of a call in milliseconds, the call, and what is said if it has another outcome.
+type Row = (u64, Call, &'static str);
+
 // The keys of one source: 256 Identifiers of a port, then those of the next port.
 fn key_at(place: u16) -> Key {
     let [high, low] = place.to_be_bytes();
@@ -51,16 +54,17 @@ fn key_at(place: u16) -> Key {
     }
 }
 
-fn opened(alloc: Global, config: Config) -> Result<Recent, AllocError> {
-    Recent::open(alloc, &config)
+// Makes the calls, each at its moment, in a table that is opened for them, and asserts what each returns.
+fn play(rt: &impl Abort, alloc: Global, rows: &[Row]) -> Result<(), Fail> {
+    let config = Config::read(alloc, CAMPUS)?;
+    play_over(rt, alloc, &config, rows)
 }
 
-// Makes the calls, each at its moment, in a table that is opened for them, and asserts what each returns.
-fn play(rt: &impl Abort, alloc: Global, calls: &[(u64, Call, &str)]) -> Result<(), Fail> {
-    let mut recent = opened(alloc, Config::read(alloc, CAMPUS)?)?;
-    for (now, call, what) in calls.iter() {
-        let is_right = make(&mut recent, alloc, *now, call);
-        holds(rt, is_right, what);
+fn play_over(rt: &impl Abort, alloc: Global, config: &Config, rows: &[Row]) -> Result<(), Fail> {
+    let mut recent = Recent::open(alloc, config)?;
+    for row in rows.iter() {
+        let (now, call, what) = *row;
+        holds(rt, make(&mut recent, alloc, now, &call), what);
     }
     Ok(())
 }
@@ -211,7 +215,7 @@ fn are_repeats(recent: &Recent) -> bool {
 
 #[test]
 fn a_later_reply_takes_the_place_of_one_with_its_key(rt: HostRuntime) -> Result<(), Fail> {
-    let calls = [
+    const ROWS: &[Row] = &[
         (0, Rows(&[]), "none is kept yet"),
         (0, Keep(1, FIRST, 2, Ok(())), "a first reply"),
         (1, Keep(2, FIRST, 3, Ok(())), "another key"),
@@ -225,12 +229,12 @@ fn a_later_reply_takes_the_place_of_one_with_its_key(rt: HostRuntime) -> Result<
         (4, Share(1), "shared octets"),
         (4, Rows(&[(5, 3), (2, 4)]), "it is the last as well"),
     ];
-    play(&rt, rt.alloc(), &calls)
+    play(&rt, rt.alloc(), ROWS)
 }
 
 #[test]
 fn replies_expire_each_in_its_turn(rt: HostRuntime) -> Result<(), Fail> {
-    let calls = [
+    const ROWS: &[Row] = &[
         (5_000, Keep(1, FIRST, 2, Ok(())), "the first"),
         (0, Keep(2, FIRST, 3, Ok(())), "an earlier moment"),
         (29_999, Expire, "both live"),
@@ -242,33 +246,33 @@ fn replies_expire_each_in_its_turn(rt: HostRuntime) -> Result<(), Fail> {
         (35_000, Expire, "the first's end"),
         (35_000, Rows(&[]), "none is left"),
     ];
-    play(&rt, rt.alloc(), &calls)
+    play(&rt, rt.alloc(), ROWS)
 }
 
 #[test]
 fn a_reply_is_found_by_key_and_octets(rt: HostRuntime) -> Result<(), Fail> {
-    let calls = [
+    const ROWS: &[Row] = &[
         (0, Keep(7, FIRST, 2, Ok(())), "a reply"),
         (0, Repeats, "each row of the table"),
         (0, Rows(&[(2, 0)]), "no change"),
     ];
-    play(&rt, rt.alloc(), &calls)
+    play(&rt, rt.alloc(), ROWS)
 }
 
 #[test]
 fn a_copy_of_replies_is_the_same_until_one_changes(rt: HostRuntime) -> Result<(), Fail> {
-    let calls = [
+    const ROWS: &[Row] = &[
         (0, Copy(1), "an empty table"),
         (1, Copy(2), "another key"),
         (2, Copy(1), "a key that is there"),
         (2, Rows(&[(2, 1), (2, 2)]), "the order"),
     ];
-    play(&rt, rt.alloc(), &calls)
+    play(&rt, rt.alloc(), ROWS)
 }
 
 #[test]
 fn so_many_replies_and_no_more(rt: HostRuntime) -> Result<(), Fail> {
-    let calls = [
+    const ROWS: &[Row] = &[
         (0, Fill, "4,096 keys"),
         (29_999, Refuse(4_096), "one more key"),
         (29_999, Keep(77, SECOND, 11, Ok(())), "a key that is there"),
@@ -279,5 +283,5 @@ fn so_many_replies_and_no_more(rt: HostRuntime) -> Result<(), Fail> {
         (30_000, Keep(4_096, FIRST, 3, Ok(())), "the window is over"),
         (30_000, Rows(&[(11, 29_999), (3, 30_000)]), "both live"),
     ];
-    play(&rt, rt.alloc(), &calls)
+    play(&rt, rt.alloc(), ROWS)
 }
