@@ -87,13 +87,18 @@ fn response(rt: &impl Abort, alloc: Global) -> Body
     body
 }
 
+// Writes what is in a frame before it is sealed, Identifier 1.
+fn write_before(rt: &impl Abort, body: &Body, authenticator: &[u8; 16], frame: &mut Frame) {
+    write(body, 1, authenticator, frame).expect(rt, "a frame");
+}
+
 // Seals replies in the first lane, the sixth and the last, into frames of which the first and the fourth have been
 // written before.
 fn seal_responses(rt: &impl Abort, alloc: Global, frames: &mut [Frame; 8]) {
     let body = Body::new(alloc, code::ACCOUNTING_RESPONSE);
     let proxied_body = response(rt, alloc);
-    write(&proxied_body, 1, b"0123456789abcdef", &mut frames[0]).expect(rt, "the first");
-    write(&proxied_body, 1, b"0123456789abcdef", &mut frames[3]).expect(rt, "the fourth");
+    write_before(rt, &proxied_body, b"0123456789abcdef", &mut frames[0]);
+    write_before(rt, &proxied_body, b"0123456789abcdef", &mut frames[3]);
     let secret = Secret::new(SECRET);
     let jobs = [
         lane(START, &body, &secret),
@@ -218,8 +223,8 @@ fn seal_mixed(rt: &impl Abort, alloc: Global, frames: &mut [Frame; 8]) {
     let reject = reject(rt, alloc);
     let challenge = challenge(rt, alloc);
     let response = response(rt, alloc);
-    write(&reject, 1, b"Sixteen octets..", &mut frames[1]).expect(rt, "the second");
-    write(&reject, 1, b"Sixteen octets..", &mut frames[2]).expect(rt, "the third");
+    write_before(rt, &reject, b"Sixteen octets..", &mut frames[1]);
+    write_before(rt, &reject, b"Sixteen octets..", &mut frames[2]);
     let (secret, other_secret) = (Secret::new(SECRET), Secret::new(OTHER_SECRET));
     let jobs = [
         lane(ACCESS_REQUEST, &challenge, &secret),
