@@ -1,10 +1,12 @@
-//! Rounds of a service that remembers nothing yet.
+//! Rounds and turns of a service that remembers nothing yet.
 mod campus;
+mod coming;
 mod datagrams;
 mod gates;
 mod rounds;
 mod serving;
 mod texts;
+mod turns;
 
 use std::process::Abort;
 

@@ -24,8 +24,14 @@ const AUTHENTICATOR: &[u8; 16] =
 /// The first client's secret.
 const SECRET: &[u8; 9] = b"xyzzy5461";
 
+/// The address of the first client.
+pub(crate) const CLIENT: u32 = 0xC0A8_0110;
+
+/// An address that is no client's.
+pub(crate) const STRANGER: u32 = 0xC0A8_0111;
+
 /// The source port of the first line.
-const PORT: u16 = 1645;
+pub(crate) const PORT: u16 = 1645;
 
 /// The Acct-Status-Types.
 pub(crate) const START: u8 = 1;
@@ -60,8 +66,8 @@ impl Sent {
 
     fn source(&self) -> u32 {
         match self {
-            Sent::Strange(_) => 0xC0A8_0111,
-            _ => 0xC0A8_0110,
+            Sent::Strange(_) => STRANGER,
+            _ => CLIENT,
         }
     }
 
@@ -79,7 +85,8 @@ impl Sent {
         }
     }
 
-    fn octets(&self, alloc: Global) -> Option<Vec<u8>> {
+    /// Its octets, if there is memory.
+    pub fn octets(&self, alloc: Global) -> Option<Vec<u8>> {
         match self {
             Sent::Octets(octets) | Sent::Strange(octets) => octets.to_vec(alloc).ok(),
             Sent::Access(identifier, name, password) => {

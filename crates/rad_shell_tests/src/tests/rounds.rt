@@ -156,7 +156,16 @@ fn full_round<R: Abort + Threads + Wait + Sync>(rt: &R, alloc: Global) -> Option
 // Plays rounds of two workers, and asserts of each that it is as it must be.
 fn play<R: Abort + Threads + Wait + Sync>(rt: &R, alloc: Global, rows: &[Row]) -> Option<()> {
     let config = Config::read(alloc, CAMPUS).ok()?;
-    let mut service = Service::open(alloc, &config).ok()?;
+    play_with(rt, alloc, &config, rows)
+}
+
+fn play_with<R: Abort + Threads + Wait + Sync>(
+    rt: &R,
+    alloc: Global,
+    config: &Config,
+    rows: &[Row],
+) -> Option<()> {
+    let mut service = Service::open(alloc, config).ok()?;
     for row in rows.iter() {
         holds(rt, plays(rt, alloc, &mut service, row), row.5);
     }
@@ -182,20 +191,29 @@ fn round_of_full_table<R: Threads + Wait + Sync>(
     sent: &[Sent],
 ) -> Option<Done> {
     let config = Config::read(alloc, CAMPUS).ok()?;
-    let mut service = Service::open(alloc, &config).ok()?;
-    fill(rt, alloc, &mut service)?;
-    round(rt, alloc, &mut service, 0, sent, 2, &OpenGate)
+    round_of_full_table_with(rt, alloc, &config, sent)
 }
 
-// Rounds of 512 Starts, until 4,096 of them are answered; none if one isn't.
-fn fill<R: Threads + Wait + Sync>(rt: &R, alloc: Global, service: &mut Service) -> Option<()> {
-    const FIRSTS: &[u16] = &[0, 512, 1_024, 1_536, 2_048, 2_560, 3_072, 3_584];
-    for first in FIRSTS.iter() {
-        if !answers_starts(rt, alloc, service, *first) {
-            return None;
-        }
+fn round_of_full_table_with<R: Threads + Wait + Sync>(
+    rt: &R,
+    alloc: Global,
+    config: &Config,
+    sent: &[Sent],
+) -> Option<Done> {
+    let mut service = Service::open(alloc, config).ok()?;
+    if fills(rt, alloc, &mut service) {
+        round(rt, alloc, &mut service, 0, sent, 2, &OpenGate)
+    } else {
+        None
     }
-    Some(())
+}
+
+// Whether rounds of 512 Starts, until 4,096 of them are answered, have a reply and an entry for each.
+fn fills<R: Threads + Wait + Sync>(rt: &R, alloc: Global, service: &mut Service) -> bool {
+    const FIRSTS: &[u16] = &[0, 512, 1_024, 1_536, 2_048, 2_560, 3_072, 3_584];
+    FIRSTS
+        .iter()
+        .all(|first| answers_starts(rt, alloc, service, *first))
 }
 
 // Whether a round of 512 Starts, from this number on, has a reply and an entry for each.

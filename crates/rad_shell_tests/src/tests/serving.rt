@@ -69,7 +69,21 @@ pub(crate) fn first_round<R: Abort + Threads + Wait + Sync, G: Gate + Sync>(
     requires { (1 ≤ workers) × (workers ≤ workers_max) }
 {
     let config = Config::read(alloc, CAMPUS).ok()?;
-    let mut service = Service::open(alloc, &config).ok()?;
+    first_round_with(rt, alloc, &config, all, workers, gate, sessions)
+}
+
+fn first_round_with<R: Abort + Threads + Wait + Sync, G: Gate + Sync>(
+    rt: &R,
+    alloc: Global,
+    config: &Config,
+    all: &[Sent],
+    workers: u64,
+    gate: &G,
+    sessions: &[u64],
+) -> Option<Done>
+    requires { (1 ≤ workers) × (workers ≤ workers_max) }
+{
+    let mut service = Service::open(alloc, config).ok()?;
     let done = round(rt, alloc, &mut service, 0, all, workers, gate);
     holds(rt, are_sessions(&service, sessions), "the sessions");
     done

@@ -1,6 +1,7 @@
 use super::holds;
-use rad_shell::{Mismatch, RoundFault};
+use rad_shell::{Mismatch, RoundFault, ServeFault, Served};
 use std::alloc::Global;
+use std::test::Fail;
 
 #[test]
 fn round_faults_are_printed(rt: HostRuntime) {
@@ -14,12 +15,52 @@ fn round_faults_are_printed(rt: HostRuntime) {
         (RoundFault::NoThread, "no thread for a worker"),
     ];
     for row in ROWS.iter() {
-        holds(&rt, is_printed(rt.alloc(), row.0, row.1), row.1);
+        holds(&rt, is_round_fault(rt.alloc(), row.0, row.1), row.1);
     }
 }
 
-// Whether a fault is printed so.
-fn is_printed(alloc: Global, fault: RoundFault, text: &str) -> bool {
+#[test]
+fn serve_faults_are_printed(rt: HostRuntime) {
+    const ROWS: &[(ServeFault, &str)] = &[
+        (ServeFault::Receive, "receive failed"),
+        (ServeFault::Send, "send failed"),
+        (ServeFault::Mismatch, "mismatch"),
+    ];
+    for row in ROWS.iter() {
+        holds(&rt, is_serve_fault(rt.alloc(), row.0, row.1), row.1);
+    }
+}
+
+#[test]
+fn sums_are_printed(rt: HostRuntime) -> Result<(), Fail> {
+    const SUMS: Served = Served {
+        rounds: 1,
+        datagrams: 21,
+        replies: 2,
+        drops: 3,
+        busy: 4,
+        nomemory: 5,
+        failed: 6,
+    };
+    let printed = SUMS.to_string(rt.alloc())?;
+    holds(
+        &rt,
+        printed.as_str() == "rounds 1 datagrams 21 replies 2 drops 3 busy 4 nomemory 5 failed 6",
+        "each number after its name",
+    );
+    Ok(())
+}
+
+// Whether the fault of a round is printed so.
+fn is_round_fault(alloc: Global, fault: RoundFault, text: &str) -> bool {
+    match fault.to_string(alloc) {
+        Ok(printed) => printed.as_str() == text,
+        Err(_) => false,
+    }
+}
+
+// Whether the fault of turns is printed so.
+fn is_serve_fault(alloc: Global, fault: ServeFault, text: &str) -> bool {
     match fault.to_string(alloc) {
         Ok(printed) => printed.as_str() == text,
         Err(_) => false,

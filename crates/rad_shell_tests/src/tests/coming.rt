@@ -1,32 +1,15 @@
-//! Datagrams that come, and turns over them.
-ghost use Rattle.std.specs.Prelude.{IfOk};
-ghost use Rattle.rad_auth.specs.Sealing.{IsRequestCode};
-
-use rad_auth::{Door, PASSWORD_MAX, Secret, hide, sign_request};
-use rad_packet::attribute::{STATE, USER_NAME, USER_PASSWORD, VALUE_MAX};
-use rad_packet::code::{ACCESS_CHALLENGE, ACCESS_REQUEST};
-use rad_packet::{Body, Frame, Packet};
+//! Datagrams that come to ports in memory, and turns over them.
+use super::datagrams::{CLIENT, PORT};
+use rad_auth::Door;
+use rad_packet::Packet;
+use rad_packet::attribute::STATE;
+use rad_packet::code::ACCESS_CHALLENGE;
 use rad_shell::{Datagram, MemoryPorts, OpenGate, ServeFault, Served, Service, run_rounds};
 use rand_chacha::ChaCha20Rng;
 use rand_core::{Rng, SeedableRng};
 use std::alloc::{AllocError, Global};
 use std::sync::Wait;
 use std::thread::Threads;
-
-/// The Request Authenticator of each Access-Request: that of RFC 2865, section 7.1.
-const AUTHENTICATOR: &[u8; 16] =
-    b"\x0f\x40\x3f\x94\x73\x97\x80\x57\xbd\x83\xd5\xcb\x98\xf4\x22\x7a";
-
-/// The first client's secret, and its address.
-const SECRET: &[u8; 9] = b"xyzzy5461";
-
-pub(crate) const CLIENT: u32 = 0xC0A8_0110;
-
-/// An address that is no client's.
-pub(crate) const STRANGER: u32 = 0xC0A8_0111;
-
-/// The source port of each datagram.
-pub(crate) const PORT: u16 = 1645;
 
 /// The seed of the draws.
 const SEED: [u8; 32] = [7; 32];
@@ -88,28 +71,6 @@ pub(crate) fn arrive_often(
         arrive(alloc, ports, address, 0, octets)?;
     }
     Ok(())
-}
-
-/// An Access-Request of the first client, if there is memory.
-pub(crate) fn access(alloc: Global, identifier: u8, name: &[u8], password: &[u8]) -> Option<Frame> {
-    let secret = Secret::new(SECRET);
-    let body = body(alloc, &secret, name, password).ok()?;
-    let mut frame = Frame::new(alloc).ok()?;
-    sign_request(&body, identifier, AUTHENTICATOR, &secret, &mut frame).ok()?;
-    Some(frame)
-}
-
-// What the Access-Request of a user says. No test has a name or a password that is too long, and would be cut.
-fn body(alloc: Global, secret: &Secret, name: &[u8], password: &[u8]) -> Result<Body, AllocError>
-    ensures { IfOk result (λ body. IsRequestCode body.code) }
-{
-    let password = &password[..password.len().min(PASSWORD_MAX)];
-    let mut value = [0; PASSWORD_MAX];
-    let len = hide(secret, AUTHENTICATOR, password, &mut value);
-    let mut body = Body::new(alloc, ACCESS_REQUEST);
-    body.push(USER_NAME, &name[..name.len().min(VALUE_MAX)])?;
-    body.push(USER_PASSWORD, &value[..len])?;
-    Ok(body)
 }
 
 /// Whether the datagrams that were sent are Access-Challenges to the first client: one for each number from 1 on, with the draws of
