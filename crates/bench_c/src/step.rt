@@ -64,14 +64,15 @@ fn step_on_copy(server: &Server, request: &Request, work: Work) -> Option<usize>
 fn server_with<'c>(alloc: Global, config: &'c Config, sessions: u32) -> Option<Server<'c>>
     ensures { IfSome result (λ server. server.configuration ≡ config.now) }
 {
-    let mut server = Server::open(alloc, config).ok()?;
     let datagram = datagram(alloc, config.clients(), Kind::Accept, 0)?;
     let request = admit(config.clients(), Kind::Accept, datagram.octets())?;
-    let granted = take_steps(&mut server, &request, Kind::Accept, 0, sessions)?;
-    if granted < sessions as usize {
-        return None;
+    let mut server = Server::open(alloc, config).ok()?;
+    let granted = take_steps(&mut server, &request, Kind::Accept, 0, sessions);
+    if granted == Some(sessions as usize) {
+        Some(server)
+    } else {
+        None
     }
-    Some(server)
 }
 
 // Takes steps with one request, after so many others, and returns how many replies were as wanted.
