@@ -64,11 +64,21 @@ fn seal_in_lanes(
     out: &mut [u8],
 ) -> Result<usize, AllocError> {
     let lot = Lot::new(alloc, Kind::of(kind))?;
+    seal_lot_in_lanes(alloc, &lot, rounds, checks, out)
+}
+
+fn seal_lot_in_lanes(
+    alloc: Global,
+    lot: &Lot,
+    rounds: u32,
+    checks: bool,
+    out: &mut [u8],
+) -> Result<usize, AllocError> {
     let mut frames = empty_frames(alloc)?;
     let mut written: usize = 0;
     for round in 0..rounds {
         for group in 0..GROUPS {
-            written = written.wrapping_add(seal_group(&lot, group, checks, &mut frames));
+            written = written.wrapping_add(seal_group(lot, group, checks, &mut frames));
             if round == rounds - 1 {
                 lay_out_group(&frames, group, out);
             }
@@ -163,6 +173,16 @@ fn seal_one_by_one(
     out: &mut [u8],
 ) -> Result<usize, AllocError> {
     let lot = Lot::new(alloc, Kind::of(kind))?;
+    seal_lot_one_by_one(alloc, &lot, rounds, checks, out)
+}
+
+fn seal_lot_one_by_one(
+    alloc: Global,
+    lot: &Lot,
+    rounds: u32,
+    checks: bool,
+    out: &mut [u8],
+) -> Result<usize, AllocError> {
     let mut frame = Frame::new(alloc)?;
     let mut written: usize = 0;
     for round in 0..rounds {
