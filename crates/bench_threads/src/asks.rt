@@ -24,9 +24,13 @@ pub(crate) struct Work {
 /// Nanoseconds of the steps alone; none if memory is refused or a reply is missing.
 pub(crate) fn time_steps<R: Clock>(rt: &R, server: &Server, work: Work) -> Option<u64> {
     let mut server = server.copy().ok()?;
-    let clock = clock_after(&server);
+    time_steps_of(rt, &mut server, work)
+}
+
+fn time_steps_of<R: Clock>(rt: &R, server: &mut Server, work: Work) -> Option<u64> {
+    let clock = clock_after(server);
     let start = Instant::now(rt).ok()?;
-    step_often(&mut server, work.kind, &clock, work.count)?;
+    step_often(server, work.kind, &clock, work.count)?;
     nanoseconds_since(rt, start)
 }
 
@@ -56,22 +60,38 @@ fn time_desk<L: Opened + Send + Sync, R: Threads + Wait + Sync + Clock>(
     requires opening { server.now ≡ L.opening }
 {
     let (desk, mut passes) = Desk::<L>::open(alloc, blank, server, threads).ok()?;
+    let spent = time_threads(rt, &desk, server, work, passes.as_mut_slice(), threads);
+    let Closed { history, .. } = desk.close(server, passes).ok()?;
+    if has_all(&history, work, threads) {
+        spent
+    } else {
+        None
+    }
+}
+
+// Nanoseconds in which threads ask, each with its own pass.
+fn time_threads<L: Opened + Send + Sync, R: Threads + Wait + Sync + Clock>(
+    rt: &R,
+    desk: &Desk<L>,
+    server: &Server,
+    work: Work,
+    passes: &mut [Pass<L>],
+    threads: u64,
+) -> Option<u64>
+    requires threads { (1 ≤ threads) × (threads ≤ passes_max) }
+    requires opening { server.now ≡ L.opening }
+{
     let clock = clock_after(server);
     let start = Instant::now(rt).ok()?;
     for_each_mut(
         rt,
-        passes.as_mut_slice(),
+        passes,
         threads as usize,
         &|thread: usize, pass: &mut Pass<L>|
             requires { server.now ≡ L.opening }
-        { ask_often(rt, &desk, server, work, &clock, thread, pass) },
+        { ask_often(rt, desk, server, work, &clock, thread, pass) },
     );
-    let spent = nanoseconds_since(rt, start)?;
-    let Closed { history, .. } = desk.close(server, passes).ok()?;
-    if !has_all(&history, work, threads) {
-        return None;
-    }
-    Some(spent)
+    nanoseconds_since(rt, start)
 }
 
 /// None if the clock fails.

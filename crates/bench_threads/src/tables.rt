@@ -26,8 +26,17 @@ pub(crate) fn print_tables<R: Threads + Wait + Sync + Clock + Print>(
     config: &Config,
 ) -> Option<()> {
     let few = server_with(alloc, config, FEW)?;
+    print_tables_with(rt, alloc, config, &few)
+}
+
+fn print_tables_with<R: Threads + Wait + Sync + Clock + Print>(
+    rt: &R,
+    alloc: Global,
+    config: &Config,
+    few: &Server,
+) -> Option<()> {
     let many = server_with(alloc, config, MANY)?;
-    print_tables_of(rt, alloc, &few, &many)
+    print_tables_of(rt, alloc, few, &many)
 }
 
 fn print_tables_of<R: Threads + Wait + Sync + Clock + Print>(
