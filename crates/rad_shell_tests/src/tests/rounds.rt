@@ -166,10 +166,19 @@ fn play_with<R: Abort + Threads + Wait + Sync>(
     rows: &[Row],
 ) -> Option<()> {
     let mut service = Service::open(alloc, config).ok()?;
-    for row in rows.iter() {
-        holds(rt, plays(rt, alloc, &mut service, row), row.5);
-    }
+    play_rows(rt, alloc, &mut service, rows);
     Some(())
+}
+
+fn play_rows<R: Abort + Threads + Wait + Sync>(
+    rt: &R,
+    alloc: Global,
+    service: &mut Service,
+    rows: &[Row],
+) {
+    for row in rows.iter() {
+        holds(rt, plays(rt, alloc, service, row), row.5);
+    }
 }
 
 // Whether a round is as it must be.
@@ -201,8 +210,17 @@ fn round_of_full_table_with<R: Threads + Wait + Sync>(
     sent: &[Sent],
 ) -> Option<Done> {
     let mut service = Service::open(alloc, config).ok()?;
-    if fills(rt, alloc, &mut service) {
-        round(rt, alloc, &mut service, 0, sent, 2, &OpenGate)
+    fill_and_round(rt, alloc, &mut service, sent)
+}
+
+fn fill_and_round<R: Threads + Wait + Sync>(
+    rt: &R,
+    alloc: Global,
+    service: &mut Service,
+    sent: &[Sent],
+) -> Option<Done> {
+    if fills(rt, alloc, service) {
+        round(rt, alloc, service, 0, sent, 2, &OpenGate)
     } else {
         None
     }

@@ -8,7 +8,6 @@ use rad_shell::{MemoryPorts, Ports, ServeFault, Served, Service};
 use rand_chacha::ChaCha20Rng;
 use std::alloc::Global;
 use std::sync::Wait;
-use std::test::Fail;
 use std::thread::Threads;
 
 /// Turns over what comes: so many datagrams of one octet from the stranger, so many turns, and how many are dropped.
@@ -17,34 +16,41 @@ type Cut = (u32, u32, u64, &'static str);
 /// A call of `receive` or `send` that fails, what it ends with, how many replies went out before, and what it is.
 type Failing = (u64, Result<(), ServeFault>, usize, &'static str);
 
+/// What is tried.
+#[derive(Clone, Copy)]
+enum Trial<'a> {
+    /// Turns over more or fewer datagrams than one receives.
+    Cut(&'a Cut),
+    /// Two calls, in each of which a user is challenged.
+    Challenges,
+    /// A turn over ports that fail.
+    Fault(&'a Failing),
+}
+
 #[test]
-fn a_turn_is_cut_at_512(rt: HostRuntime) -> Result<(), Fail> {
+fn a_turn_is_cut_at_512(rt: HostRuntime) {
     const ROWS: &[Cut] = &[
         (0, 2, 0, "no datagram in two turns"),
         (513, 2, 513, "two turns receive 513"),
         (513, 1, 512, "one turn receives 512"),
         (3, 0, 0, "no turn"),
     ];
-    let config = Config::read(rt.alloc(), CAMPUS)?;
     for row in ROWS.iter() {
-        holds(&rt, is_cut(&rt, rt.alloc(), &config, row), row.3);
+        holds(&rt, is_right(&rt, rt.alloc(), Trial::Cut(row)), row.3);
     }
-    Ok(())
 }
 
 #[test]
-fn calls_go_on_from_one_another(rt: HostRuntime) -> Result<(), Fail> {
-    let config = Config::read(rt.alloc(), CAMPUS)?;
+fn calls_go_on_from_one_another(rt: HostRuntime) {
     holds(
         &rt,
-        is_challenged_twice(&rt, rt.alloc(), &config),
+        is_right(&rt, rt.alloc(), Trial::Challenges),
         "a challenge in each call: two numbers, and the first and second draws",
     );
-    Ok(())
 }
 
 #[test]
-fn a_port_that_fails_ends_the_turns(rt: HostRuntime) -> Result<(), Fail> {
+fn a_port_that_fails_ends_the_turns(rt: HostRuntime) {
     const ROWS: &[Failing] = &[
         (1, Err(ServeFault::Receive), 0, "the first receive"),
         (2, Err(ServeFault::Receive), 0, "the second"),
@@ -55,22 +61,46 @@ fn a_port_that_fails_ends_the_turns(rt: HostRuntime) -> Result<(), Fail> {
         (7, Err(ServeFault::Send), 2, "the third"),
         (8, Ok(()), 3, "no call"),
     ];
-    let config = Config::read(rt.alloc(), CAMPUS)?;
     for row in ROWS.iter() {
-        holds(&rt, fails(&rt, rt.alloc(), &config, row), row.3);
+        holds(&rt, is_right(&rt, rt.alloc(), Trial::Fault(row)), row.3);
     }
-    Ok(())
 }
 
-fn is_cut<R: Threads + Wait + Sync>(rt: &R, alloc: Global, config: &Config, row: &Cut) -> bool {
-    match Service::open(alloc, config) {
-        Ok(mut service) => is_cut_by(rt, alloc, &mut service, row),
+// Whether a service that remembers nothing yet does what a trial wants.
+fn is_right<R: Threads + Wait + Sync>(rt: &R, alloc: Global, trial: Trial) -> bool {
+    match Config::read(alloc, CAMPUS) {
+        Ok(config) => is_right_with(rt, alloc, &config, trial),
         Err(_) => false,
     }
 }
 
+fn is_right_with<R: Threads + Wait + Sync>(
+    rt: &R,
+    alloc: Global,
+    config: &Config,
+    trial: Trial,
+) -> bool {
+    match Service::open(alloc, config) {
+        Ok(mut service) => is_right_by(rt, alloc, &mut service, trial),
+        Err(_) => false,
+    }
+}
+
+fn is_right_by<R: Threads + Wait + Sync>(
+    rt: &R,
+    alloc: Global,
+    service: &mut Service,
+    trial: Trial,
+) -> bool {
+    match trial {
+        Trial::Cut(row) => is_cut(rt, alloc, service, row),
+        Trial::Challenges => is_challenged_twice(rt, alloc, service),
+        Trial::Fault(row) => fails(rt, alloc, service, row),
+    }
+}
+
 // Whether so many turns drop what comes of it.
-fn is_cut_by<R: Threads + Wait + Sync>(
+fn is_cut<R: Threads + Wait + Sync>(
     rt: &R,
     alloc: Global,
     service: &mut Service,
@@ -83,15 +113,8 @@ fn is_cut_by<R: Threads + Wait + Sync>(
     has_come && is_sum(ended, rounds as u64, wanted, 0, wanted) && ports.turns() == rounds as u64
 }
 
-fn is_challenged_twice<R: Threads + Wait + Sync>(rt: &R, alloc: Global, config: &Config) -> bool {
-    match Service::open(alloc, config) {
-        Ok(mut service) => is_challenged_twice_by(rt, alloc, &mut service),
-        Err(_) => false,
-    }
-}
-
 // Whether kay's request gets a challenge in each of two calls, the second after the window.
-fn is_challenged_twice_by<R: Threads + Wait + Sync>(
+fn is_challenged_twice<R: Threads + Wait + Sync>(
     rt: &R,
     alloc: Global,
     service: &mut Service,
@@ -116,15 +139,8 @@ fn is_replied<R: Threads + Wait + Sync>(
         && is_sum(serve(rt, service, ports, random, 1), 1, 1, 1, 0)
 }
 
-fn fails<R: Threads + Wait + Sync>(rt: &R, alloc: Global, config: &Config, row: &Failing) -> bool {
-    match Service::open(alloc, config) {
-        Ok(mut service) => fails_by(rt, alloc, &mut service, row),
-        Err(_) => false,
-    }
-}
-
 // Whether a turn ends so, with so many replies. If it isn't all received, no draw is taken and the server is as it was.
-fn fails_by<R: Threads + Wait + Sync>(
+fn fails<R: Threads + Wait + Sync>(
     rt: &R,
     alloc: Global,
     service: &mut Service,
