@@ -2,9 +2,9 @@
 ghost use Rattle.std.specs.Prelude.{◌+◌, ◌≤◌, length};
 ghost use Rattle.rad_packet.specs.Attributes.{value_max};
 
+use super::holds;
 use rad_packet::{Attribute, Attributes, Body, Frame, Octets, TooLong, attribute, code, write};
 use std::alloc::{AllocError, Global};
-use std::process::Abort;
 
 const REPLY: [u8; 38] = *b"\
     \x02\x00\x00\x26\
@@ -15,11 +15,6 @@ const REPLY: [u8; 38] = *b"\
 
 const REPLY_AUTHENTICATOR: [u8; 16] =
     *b"\x86\xfe\x22\x0e\x76\x24\xba\x2a\x10\x05\xf6\xbf\x9b\x55\xe0\xb2";
-
-// Each case asserts by this. Memory that is refused makes none right.
-fn holds(rt: &impl Abort, is_so: Result<bool, AllocError>, what: &str) {
-    assert!(rt; is_so == Ok(true), "{what}");
-}
 
 // The body with one attribute more.
 fn with(body: Body, kind: u8, value: &[u8]) -> Result<Body, AllocError>
