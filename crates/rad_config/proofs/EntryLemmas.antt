@@ -1,44 +1,51 @@
 -- The entries of a list that are left to read, for every part.
-use Rattle.std.proofs.Common.{◌≡◌, ℕ, ◌+◌, ◌<◌, ◌≤◌, List, [], ◌∷◌, ◌++◌, length, get_or, drop, Some, Result, Ok, Err, refl, sym, ◌∙◌, arith, inl, inr}
-use Rattle.std.specs.Prelude.{◌⊎◌, All}
+use Rattle.std.proofs.Common.{◌≡◌, ℕ, ◌+◌, ◌<◌, ◌≤◌, List, [], ◌∷◌, ◌++◌, length, get_or, drop, Some, Result, Ok, Err, refl, ap, sym, ◌∙◌, arith, inl, inr}
+use Rattle.std.specs.Prelude.{◌⊎◌, All, unwrap_or}
+use Rattle.std.specs.Result.{result_ok}
 use Rattle.std.proofs.lemmas.Bool.{lt-ltb, le-ltb}
-use Rattle.std.proofs.lemmas.List.{drop_all}
+use Rattle.std.proofs.lemmas.List.{drop_all, length_push}
 use Rattle.std.proofs.lemmas.List.Elements.{All-append, All-nil, All-cons}
 use Rattle.toml.specs.Data.{Data, as_array}
 use Rattle.toml.specs.View.{view, items_view}
 use Rattle.toml.specs.declared.value.Value.{Value}
 use Rattle.toml.proofs.Views.{items_view-drop}
+use Rattle.rad_packet.specs.Ladders.{◌>>=◌}
 use Rattle.rad_config.specs.declared.config_fault.Part.{Part}
 use Rattle.rad_config.specs.declared.config_fault.ConfigFault.{ConfigFault}
 use Rattle.rad_config.specs.declared.config_fault.ConfigFault.TheVariants.{NoMemory, TooMany}
-use Rattle.rad_config.specs.Configurations.{EntryData, entry_of, entries_from, items_in, count_items}
+use Rattle.rad_config.specs.Configurations.{EntryData, and_entry, entry_of, entries_from, items_in, count_items}
 
 module _ {A : Type 0} (part : Part) (read : List A → EntryData → Result A ConfigFault) (values : List Value) (i : ℕ) (value : Value)
     (earlier : List A) (within : i < length values) (found : value ≡ get_or values i value) where
   -- an entry that is read
-  pub entries_from-more : (e : EntryData) (a : A) → entry_of part (i + 1) (view value) ≡ Ok e → read earlier e ≡ Ok a
-      → entries_from part read (i + 1) earlier (items_view (drop i values)) ≡ entries_from part read (i + 1 + 1) (earlier ++ a ∷ []) (items_view (drop (i + 1) values))
+  pub entries_from-more : (entries : List A) → and_entry part read (i + 1) earlier (view value) ≡ Ok entries
+      → entries_from part read (i + 1) earlier (items_view (drop i values)) ≡ entries_from part read (i + 1 + 1) entries (items_view (drop (i + 1) values))
   unfolding entries_from
-  entries_from-more e a is_entry is_read = rw (items_view-drop values i value within, ← found, is_entry, is_read)
+  entries_from-more entries is_read = rw (items_view-drop values i value within, ← found, is_read)
 
-  -- an entry that is no table
-  pub entries_from-no_entry : (fault : ConfigFault) (total : Result (List A) ConfigFault) → (fault ≡ NoMemory) ⊎ (entry_of part (i + 1) (view value) ≡ Err fault)
+  -- an entry that is refused
+  pub entries_from-refused : (fault : ConfigFault) (total : Result (List A) ConfigFault)
+      → (fault ≡ NoMemory) ⊎ (and_entry part read (i + 1) earlier (view value) ≡ Err fault)
       → entries_from part read (i + 1) earlier (items_view (drop i values)) ≡ total → (fault ≡ NoMemory) ⊎ (total ≡ Err fault)
   unfolding entries_from
-  entries_from-no_entry fault total (inl memory) so_far = inl memory
-  entries_from-no_entry fault total (inr refused) so_far =
+  entries_from-refused fault total (inl memory) so_far = inl memory
+  entries_from-refused fault total (inr refused) so_far =
       let here : entries_from part read (i + 1) earlier (items_view (drop i values)) ≡ Err fault = rw (items_view-drop values i value within, ← found, refused) in
       inr (sym so_far ∙ here)
 
-  -- an entry that is refused
-  pub entries_from-refused : (e : EntryData) (fault : ConfigFault) (total : Result (List A) ConfigFault)
-      → entry_of part (i + 1) (view value) ≡ Ok e → (fault ≡ NoMemory) ⊎ (read earlier e ≡ Err fault)
-      → entries_from part read (i + 1) earlier (items_view (drop i values)) ≡ total → (fault ≡ NoMemory) ⊎ (total ≡ Err fault)
-  unfolding entries_from
-  entries_from-refused e fault total is_entry (inl memory) so_far = inl memory
-  entries_from-refused e fault total is_entry (inr refused) so_far =
-      let here : entries_from part read (i + 1) earlier (items_view (drop i values)) ≡ Err fault = rw (items_view-drop values i value within, ← found, is_entry, refused) in
-      inr (sym so_far ∙ here)
+-- one more entry is one more
+pub and_entry-length : {A : Type 0} (part : Part) (read : List A → EntryData → Result A ConfigFault) (index : ℕ) (earlier : List A) (d : Data) (entries : List A)
+    → and_entry part read index earlier d ≡ Ok entries → length entries ≡ length earlier + 1
+unfolding and_entry
+and_entry-length {A} part read index earlier d entries is_read = of_entry (entry_of part index d) is_read
+  where
+    of_value : (value : Result A ConfigFault) → (value >>= λ a. Ok (earlier ++ a ∷ [])) ≡ Ok entries → length entries ≡ length earlier + 1
+    of_value (Ok a) is = rw (← ap (λ (r : Result (List A) ConfigFault). unwrap_or (result_ok r) []) is) (length_push earlier a)
+    of_value (Err fault) is = absurd cc
+
+    of_entry : (entry : Result EntryData ConfigFault) → (entry >>= λ e. read earlier e >>= λ a. Ok (earlier ++ a ∷ [])) ≡ Ok entries → length entries ≡ length earlier + 1
+    of_entry (Ok e) is = of_value (read earlier e) is
+    of_entry (Err fault) is = absurd cc
 
 -- no entry is left
 pub entries_from-all : {A : Type 0} (part : Part) (read : List A → EntryData → Result A ConfigFault) (values : List Value) (i index : ℕ) (earlier : List A)

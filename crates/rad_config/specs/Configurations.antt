@@ -78,13 +78,19 @@ entry_of part index d = do
   members ← ok_or (as_table d) (BadValue (record { part = part; index = index; key = keys.Entry }))
   Ok (record { part = part; index = index; members = members })
 
+-- the earlier entries, and one more
+unfoldable pub and_entry : {A : Type 0} → Part → (List A → EntryData → Result A ConfigFault) → ℕ → List A → Data → Result (List A) ConfigFault
+and_entry part read index earlier d = do
+  entry ← entry_of part index d
+  value ← read earlier entry
+  Ok (earlier ++ value ∷ [])
+
 -- The entries from this index on, after the earlier ones: the first fault is that of the first entry that has one.
 unfoldable pub entries_from : {A : Type 0} → Part → (List A → EntryData → Result A ConfigFault) → ℕ → List A → Items → Result (List A) ConfigFault
 entries_from part read index earlier no_items = Ok earlier
 entries_from part read index earlier (item d ds) = do
-  entry ← entry_of part index d
-  value ← read earlier entry
-  entries_from part read (index + 1) (earlier ++ value ∷ []) ds
+  entries ← and_entry part read index earlier d
+  entries_from part read (index + 1) entries ds
 
 -- the items of a list, which is empty where it is absent
 unfoldable pub items_in : Part → ℕ → Option Data → Result Items ConfigFault

@@ -1,11 +1,11 @@
 -- What the functions return that read keys, lists and their entries. Only the contracts of private functions use these words.
 use Rattle.std.specs.Prelude.{◌≡◌, ℕ, Bool, List, [], Option, is_some, Result, IfOk}
 use Rattle.std.specs.Borrow.{Bor}
-use Rattle.toml.specs.Data.{Items}
+use Rattle.toml.specs.Data.{Data, Items}
 use Rattle.toml.specs.View.{items_view}
 use Rattle.toml.specs.declared.value.Value.{Value}
 use Rattle.rad_auth.specs.Clients.{Client}
-use Rattle.rad_config.specs.Configurations.{Gives, client_in, entries_from, pool_in, user_in, value}
+use Rattle.rad_config.specs.Configurations.{Gives, and_entry, client_in, entries_from, pool_in, user_in, value}
 use Rattle.rad_config.specs.Keys.{Row}
 use Rattle.rad_config.specs.Ranges.{HasLength}
 use Rattle.rad_config.specs.Views.{entry_data}
@@ -41,3 +41,13 @@ pools_from items = entries_from parts.Pool pool_in 1 [] items
 
 abbrev pub users_from : List Pool → Items → Result (List User) ConfigFault
 users_from pools items = entries_from parts.User (user_in pools) 1 [] items
+
+-- the earlier clients, pools and users, and the one that an item is
+abbrev pub and_client : ℕ → List Client → Data → Result (List Client) ConfigFault
+and_client index earlier d = and_entry parts.Client client_in index earlier d
+
+abbrev pub and_pool : ℕ → List Pool → Data → Result (List Pool) ConfigFault
+and_pool index earlier d = and_entry parts.Pool pool_in index earlier d
+
+abbrev pub and_user : List Pool → ℕ → List User → Data → Result (List User) ConfigFault
+and_user pools index earlier d = and_entry parts.User (user_in pools) index earlier d

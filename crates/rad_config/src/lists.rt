@@ -1,12 +1,12 @@
 //! The lists of entries: clients, pools and users.
-ghost use Rattle.std.specs.Prelude.{◌≡◌, ◌≤◌, length, All, IfOk};
+ghost use Rattle.std.specs.Prelude.{◌≡◌, ◌<◌, ◌≤◌, length, All, IfOk};
 ghost use Rattle.toml.specs.View.{view, items_view, table_view};
 ghost use Rattle.toml.specs.Data.{get_member};
 ghost use Rattle.rad_auth.specs.Clients.{clients_max};
 ghost use Rattle.rad_config.specs.Configurations.{Gives, clients_of, entry_of, items_at, pools_max, pools_of, users_max, users_of};
 ghost use Rattle.rad_config.specs.Faults.{part_name};
 ghost use Rattle.rad_config.specs.Ranges.{IsPool, IsUser};
-ghost use Rattle.rad_config.specs.Readers.{clients_from, found_items, pools_from, users_from};
+ghost use Rattle.rad_config.specs.Readers.{and_client, and_pool, and_user, clients_from, found_items, pools_from, users_from};
 ghost use Rattle.rad_config.specs.Views.{data_of, entry_data};
 
 use crate::config_fault::{ConfigFault, Key, Part, Spot};
@@ -97,18 +97,27 @@ fn clients_from(alloc: Global, items: &[Value]) -> Result<Clients, ConfigFault>
 {
     let mut clients = Clients::new(alloc);
     for (place, item) in items.iter().enumerate() {
-        let entry = entry_at(Part::Client, place as u32 + 1, item)?;
-        let client = read_client(&clients, &entry)?;
-        // The address is new, so only memory can be refused.
-        clients
-            .add(
-                client.address,
-                client.secret,
-                client.require_message_authenticator,
-            )
-            .map_err(|_| ConfigFault::NoMemory)?;
+        add_client(place as u32 + 1, item, &mut clients)?;
     }
     Ok(clients)
+}
+
+// Adds the client that an item is.
+#[tactic(auto, unfolding(crate::specs::Configurations::and_entry))]
+fn add_client(index: u32, item: &Value, clients: &mut Clients) -> Result<(), ConfigFault>
+    requires { length clients.old < clients_max }
+    ensures { Gives (λ _. clients.new) result (and_client index clients.old (view item.now)) }
+{
+    let entry = entry_at(Part::Client, index, item)?;
+    let client = read_client(clients, &entry)?;
+    // The address is new, so only memory can be refused.
+    clients
+        .add(
+            client.address,
+            client.secret,
+            client.require_message_authenticator,
+        )
+        .map_err(|_| ConfigFault::NoMemory)
 }
 
 fn pools_from(alloc: Global, items: &[Value]) -> Result<Vec<Pool>, ConfigFault>
@@ -119,11 +128,26 @@ fn pools_from(alloc: Global, items: &[Value]) -> Result<Vec<Pool>, ConfigFault>
 {
     let mut pools = Vec::new(alloc);
     for (place, item) in items.iter().enumerate() {
-        let entry = entry_at(Part::Pool, place as u32 + 1, item)?;
-        let pool = read_pool(alloc, &pools, &entry)?;
-        pools.push(pool).map_err(|_| ConfigFault::NoMemory)?;
+        add_pool(alloc, place as u32 + 1, item, &mut pools)?;
     }
     Ok(pools)
+}
+
+// Adds the pool that an item is.
+#[tactic(auto, unfolding(crate::specs::Configurations::and_entry))]
+fn add_pool(
+    alloc: Global,
+    index: u32,
+    item: &Value,
+    pools: &mut Vec<Pool>,
+) -> Result<(), ConfigFault>
+    requires { All IsPool pools.old.items }
+    ensures read { Gives (λ _. pools.new.items) result (and_pool index pools.old.items (view item.now)) }
+    ensures range { IfOk result (λ _. All IsPool pools.new.items) }
+{
+    let entry = entry_at(Part::Pool, index, item)?;
+    let pool = read_pool(alloc, pools, &entry)?;
+    pools.push(pool).map_err(|_| ConfigFault::NoMemory)
 }
 
 fn users_from(alloc: Global, pools: &[Pool], items: &[Value]) -> Result<Users, ConfigFault>
@@ -134,10 +158,28 @@ fn users_from(alloc: Global, pools: &[Pool], items: &[Value]) -> Result<Users, C
 {
     let mut users = Users::new(alloc);
     for (place, item) in items.iter().enumerate() {
-        let entry = entry_at(Part::User, place as u32 + 1, item)?;
-        let said = read_user(pools, &users, &entry)?;
-        let user = said.to_user(alloc).map_err(|_| ConfigFault::NoMemory)?;
-        users.add(user).map_err(|_| ConfigFault::NoMemory)?;
+        add_user(alloc, pools, place as u32 + 1, item, &mut users)?;
     }
     Ok(users)
+}
+
+// Adds the user that an item is.
+#[tactic(auto, unfolding(crate::specs::Configurations::and_entry))]
+fn add_user(
+    alloc: Global,
+    pools: &[Pool],
+    index: u32,
+    item: &Value,
+    users: &mut Users,
+) -> Result<(), ConfigFault>
+    requires room { length users.old < users_max }
+    requires pools { length pools.now ≤ pools_max }
+    requires range { All (IsUser (length pools.now)) users.old }
+    ensures read { Gives (λ _. users.new) result (and_user pools.now index users.old (view item.now)) }
+    ensures range { IfOk result (λ _. All (IsUser (length pools.now)) users.new) }
+{
+    let entry = entry_at(Part::User, index, item)?;
+    let said = read_user(pools, users, &entry)?;
+    let user = said.to_user(alloc).map_err(|_| ConfigFault::NoMemory)?;
+    users.add(user).map_err(|_| ConfigFault::NoMemory)
 }
