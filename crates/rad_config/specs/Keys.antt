@@ -8,7 +8,7 @@ use Rattle.toml.specs.Data.{Data, as_str, as_integer, as_bool}
 use Rattle.rad_packet.specs.Attributes.{value_max}
 use Rattle.rad_auth.specs.Clients.{secret_max}
 use Rattle.rad_auth.specs.Passwords.{password_max}
-use Rattle.rad_config.specs.Decimals.{address_of}
+use Rattle.rad_text.specs.Decimals.{address_of}
 use Rattle.rad_config.specs.declared.config_fault.Key.{Key}
 use Rattle.rad_config.specs.declared.config_fault.Key.TheVariants as keys
 use Rattle.rad_config.specs.declared.pool.Pool.{Pool}

@@ -1,11 +1,9 @@
 pub mod Configurations
-pub mod Decimals
 pub mod Faults
 pub mod Keys
 pub mod Ranges
 pub mod ReadEntries
 pub mod Readers
 pub mod Spans
-pub mod Splits
 pub mod UserTables
 pub mod Views

@@ -8,9 +8,9 @@ ghost use Rattle.rad_config.specs.Readers.{HasRowLength};
 ghost use Rattle.rad_config.specs.Views.{text_fit};
 
 use crate::config_fault::Key;
-use crate::decimal;
 use rad_auth::{PASSWORD_MAX, SECRET_MAX};
 use rad_packet::attribute::VALUE_MAX;
+use rad_text::decimal;
 use toml::Value;
 
 /// A key that holds a number, and the range of that number.

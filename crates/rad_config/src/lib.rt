@@ -10,7 +10,6 @@
 
 mod config;
 mod config_fault;
-pub mod decimal;
 mod entry;
 mod keys;
 mod lists;
@@ -20,7 +19,6 @@ mod read_pool;
 mod read_user;
 mod same;
 mod spans;
-pub mod split;
 mod text;
 mod user;
 

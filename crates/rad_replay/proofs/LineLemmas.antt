@@ -4,7 +4,7 @@ use Rattle.std.specs.Prelude.{◌==◌, ◌&&◌, unwrap_or, MatchOption, option
 use Rattle.std.specs.Option.{option_or}
 use Rattle.std.proofs.lemmas.Bool.{eqb-true}
 use Rattle.std.proofs.lemmas.List.{append-nil}
-use Rattle.rad_config.specs.Splits.{split_once}
+use Rattle.rad_text.specs.Splits.{split_once}
 use lib.Pointwise.{pointwise}
 use Rattle.rad_replay.specs.Lines.{line_feed, carriage_return, onto_first, lines_of, without_return, is_divider, divided, text_of, IsFirstLine}
 

@@ -8,9 +8,9 @@ use Rattle.rad_packet.specs.Packets.{length_max}
 use Rattle.rad_auth.specs.declared.arrival.Door.{Door}
 use Rattle.rad_auth.specs.declared.arrival.Door.TheVariants.{Auth, Acct}
 use Rattle.rad_auth.specs.Datagrams.{Datagram}
-use Rattle.rad_config.specs.Decimals.{◌>>=◌, number_of, address_of}
+use Rattle.rad_text.specs.Decimals.{◌>>=◌, number_of, address_of}
 use Rattle.rad_config.specs.Spans.{moment_max}
-use Rattle.rad_config.specs.Splits.{split_once}
+use Rattle.rad_text.specs.Splits.{split_once}
 
 -- a datagram and when it came
 pub record TimedDatagram : Type 0 where

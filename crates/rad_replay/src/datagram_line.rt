@@ -7,9 +7,9 @@ ghost use Rattle.rad_replay.specs.ReadLines.{datagram_found};
 
 use rad_auth::Door;
 use rad_config::MOMENT_MAX;
-use rad_config::decimal::{address, number};
-use rad_config::split::split_once;
 use rad_packet::LENGTH_MAX;
+use rad_text::decimal::{address, number};
+use rad_text::split::split_once;
 
 /// A datagram and when it came.
 #[derive(Clone, Copy, Debug, PartialEq, Eq)]

@@ -3,7 +3,7 @@ ghost use Rattle.std.specs.Prelude.{◌≡◌, ℕ, List, [], None, MatchOption}
 ghost use Rattle.std.specs.Iterator.{YieldsFirstRef, item_count};
 ghost use Rattle.rad_replay.specs.Lines.{IsFirstLine, Divides, lines_of, without_return, is_divider, divided, is_skipped, datagram_lines};
 
-use rad_config::split::split_once;
+use rad_text::split::split_once;
 use std::marker::Model;
 
 // The first line of a text, without its line feed, and the text after it.

@@ -4,7 +4,7 @@ use Rattle.std.specs.Prelude.{◌&&◌}
 use Rattle.std.proofs.Math.Nat.{pow-le-pow_right}
 use Rattle.std.proofs.lemmas.Option.{cond_some}
 use Rattle.std.proofs.lemmas.Bool.Decides.{nat_tests}
-use Rattle.rad_config.specs.Decimals.{digit_of}
+use Rattle.rad_text.specs.Decimals.{digit_of}
 
 -- the value of a digit is below ten
 pub digit_of_below : (octet digit : ℕ) → digit_of octet ≡ Some digit → digit < 10

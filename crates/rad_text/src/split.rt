@@ -1,6 +1,6 @@
 //! Texts in parts.
 ghost use Rattle.std.specs.Prelude.{◌≡◌, ◌==◌, position, option_map};
-ghost use Rattle.rad_config.specs.Splits.{split_once};
+ghost use Rattle.rad_text.specs.Splits.{split_once};
 
 // Where the first separator is.
 fn place(text: &[u8], separator: u8) -> Option<usize>

@@ -1,6 +1,6 @@
 use Rattle.std.proofs.Common.{get_or, sym, arith}
-use Rattle.rad_config.proofs.DecimalLemmas.{digit_of_below, nineteen_fit}
-use Rattle.rad_config.proofs.decimal.digits.Goals as goal
+use Rattle.rad_text.proofs.DecimalLemmas.{digit_of_below, nineteen_fit}
+use Rattle.rad_text.proofs.decimal.digits.Goals as goal
 
 pub overflow_mul-number : goal.overflow_mul-number
 overflow_mul-number c = omega (arith, nineteen_fit c.loop-octet.number 0 c.loop-octet.octet-index c.loop-octet.invariant.small (omega arith) (omega arith))

@@ -3,7 +3,7 @@ use Rattle.std.proofs.Common.{◌≡◌, ℕ, suc, ◌+◌, Bool, true, false, c
 use Rattle.std.specs.Prelude.{◌==◌, not, position, option_map}
 use Rattle.std.specs.List.{prefix_len}
 use Rattle.std.proofs.lemmas.Bool.{lt-ltb, le-ltb, cases_lt}
-use Rattle.rad_config.specs.Splits.{split_once}
+use Rattle.rad_text.specs.Splits.{split_once}
 
 -- the texts before and after the octet at a place
 abbrev pub around : List ℕ → ℕ → List ℕ × List ℕ

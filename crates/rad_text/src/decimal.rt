@@ -1,6 +1,6 @@
 //! The numbers and addresses that texts spell.
 ghost use Rattle.std.specs.Prelude.{◌≡◌, ◌≤◌, IfSome, length};
-ghost use Rattle.rad_config.specs.Decimals.{digit_of, digits_from, number_of, address_part_of, address_of};
+ghost use Rattle.rad_text.specs.Decimals.{digit_of, digits_from, number_of, address_part_of, address_of};
 
 use crate::split::split_once;
 
