@@ -1,6 +1,6 @@
 //! Replies as `seal8` writes them, and the Response Authenticator.
 ghost use Rattle.std.specs.Prelude.{IfSome};
-ghost use Rattle.rad_auth.specs.Sealing.{IsJob, IsReply};
+ghost use Rattle.rad_auth.specs.Sealing.{AreJobs, IsJob, IsReply};
 
 use super::{
     ACCESS_REQUEST, OTHER_SECRET, OTHER_START, PROXIED_START, REQUEST_AUTHENTICATOR,
@@ -216,8 +216,34 @@ fn challenge(rt: &impl Abort, alloc: Global) -> Body
     body
 }
 
-// Seals replies of each Code, under the one secret or the other, into frames of which the second and the third have been
-// written before. The second lane, the fifth and the seventh have none.
+// Jobs of each Code, under the one secret or the other. The second lane, the fifth and the seventh have none.
+fn mixed_jobs<'a>(
+    accept: &'a Body,
+    reject: &'a Body,
+    challenge: &'a Body,
+    response: &'a Body,
+    secret: &'a Secret,
+    other_secret: &'a Secret,
+) -> [Option<Job<'a>>; 8]
+    requires accept { IsReply accept.now }
+    requires reject { IsReply reject.now }
+    requires challenge { IsReply challenge.now }
+    requires response { IsReply response.now }
+    ensures { AreJobs result }
+{
+    [
+        lane(ACCESS_REQUEST, challenge, secret),
+        None,
+        lane(OTHER_START, response, other_secret),
+        lane(OTHER_REQUEST, accept, other_secret),
+        None,
+        lane(ACCESS_REQUEST, reject, secret),
+        None,
+        lane(ACCESS_REQUEST, accept, secret),
+    ]
+}
+
+// Seals mixed replies into frames of which the second and the third have been written before.
 fn seal_mixed(rt: &impl Abort, alloc: Global, frames: &mut [Frame; 8]) {
     let accept = accept(rt, alloc);
     let reject = reject(rt, alloc);
@@ -226,16 +252,14 @@ fn seal_mixed(rt: &impl Abort, alloc: Global, frames: &mut [Frame; 8]) {
     write_before(rt, &reject, b"Sixteen octets..", &mut frames[1]);
     write_before(rt, &reject, b"Sixteen octets..", &mut frames[2]);
     let (secret, other_secret) = (Secret::new(SECRET), Secret::new(OTHER_SECRET));
-    let jobs = [
-        lane(ACCESS_REQUEST, &challenge, &secret),
-        None,
-        lane(OTHER_START, &response, &other_secret),
-        lane(OTHER_REQUEST, &accept, &other_secret),
-        None,
-        lane(ACCESS_REQUEST, &reject, &secret),
-        None,
-        lane(ACCESS_REQUEST, &accept, &secret),
-    ];
+    let jobs = mixed_jobs(
+        &accept,
+        &reject,
+        &challenge,
+        &response,
+        &secret,
+        &other_secret,
+    );
     seal8(&jobs, frames);
 }
 
