@@ -30,10 +30,6 @@ use Rattle.rad_shell.specs.declared.worker.Numbered.{Numbered}
 abbrev pub AreKept : List Receipt → List Receipt → Type 0
 AreKept before after = (index : ℕ) (receipt : Receipt) → slice_get before index ≡ Some receipt → slice_get after index ≡ Some receipt
 
--- a receipt has this index
-abbrev pub IsReceiptAt : List Receipt → Option ℕ → Receipt → Type 0
-IsReceiptAt receipts index receipt = (some : ℕ) × (index ≡ Some some) × (slice_get receipts some ≡ Some receipt)
-
 -- an entry is that of a receipt with this place
 abbrev pub HasReceipt : List Receipt → Option ℕ → Entry → Type 0
 HasReceipt receipts None entry = ⊥

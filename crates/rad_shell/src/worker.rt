@@ -1,7 +1,7 @@
 //! Workers of a round that has several.
 ghost use Rattle.std.specs.Prelude.{◌≡◌, [], ◌+◌, ◌*◌, ◌<◌, ◌≤◌, ◌^◌, length, IfSome, Some};
 ghost use Rattle.rad_shell.specs.Rounds.{AreMoments, arrivals_max};
-ghost use Rattle.rad_shell.specs.Works.{AreAsked, AreSealed, AreVerdicts, HasAnswered, HasReceipt, IsAskedIn, IsFoundBy, IsReceiptAt, IsSealed, IsSealedIn, IsVerdict};
+ghost use Rattle.rad_shell.specs.Works.{AreAsked, AreSealed, AreVerdicts, HasAnswered, HasReceipt, IsAskedIn, IsFoundBy, IsSealed, IsSealedIn, IsVerdict};
 
 use crate::batch::{BATCH, Verdict, ask_batch, check_batch, seal_batch};
 use crate::gate::Gate;
@@ -317,42 +317,14 @@ fn answered(
     requires sealed { IsSealed clients.now receipts.now verdict.now asked frame }
     ensures { IfSome result.0 (IsFoundBy clients.now arrivals.now (HasReceipt receipts.now)) }
 {
-    match receipt_at(receipts, asked) {
-        None => (
-            without_exchange(clients, arrivals, receipts, number, verdict),
-            Some(frame),
-        ),
-        Some(receipt) => of_receipt(
-            clients, arrivals, receipts, number, verdict, asked, receipt, frame,
-        ),
-    }
-}
-
-// The outcome of an arrival with this receipt, and its frame if no reply takes it.
-fn of_receipt(
-    clients: &Clients,
-    arrivals: &[Timed],
-    receipts: &[Receipt],
-    number: usize,
-    verdict: &Verdict,
-    asked: Option<usize>,
-    receipt: &Receipt,
-    frame: Frame,
-) -> (Option<Numbered>, Option<Frame>)
-    requires verdict { IsVerdict clients.now arrivals.now number verdict.now }
-    requires asked { IfSome asked (IsAskedIn arrivals.now receipts.now number verdict.now) }
-    requires sealed { IsSealed clients.now receipts.now verdict.now asked frame }
-    requires receipt { IsReceiptAt receipts.now asked receipt.now }
-    ensures { IfSome result.0 (IsFoundBy clients.now arrivals.now (HasReceipt receipts.now)) }
-{
-    let _ = clients;
-    let _ = arrivals;
-    let _ = receipts;
-    let _ = verdict;
-    let place = receipt.place;
-    match &receipt.entry.answer {
-        Answer::Busy => (Some(found(number, place, Outcome::Busy)), Some(frame)),
-        Answer::Send(_) => (Some(found(number, place, Outcome::Reply(frame))), None),
+    let Some(index) = asked else {
+        let outcome = without_exchange(clients, arrivals, receipts, number, verdict);
+        return (outcome, Some(frame));
+    };
+    let Receipt { place, entry } = &receipts[index];
+    match &entry.answer {
+        Answer::Busy => (Some(found(number, *place, Outcome::Busy)), Some(frame)),
+        Answer::Send(_) => (Some(found(number, *place, Outcome::Reply(frame))), None),
     }
 }
 
@@ -366,11 +338,4 @@ fn found(number: usize, place: u64, outcome: Outcome) -> Numbered
         place: Some(place),
         outcome,
     }
-}
-
-// The receipt of this index, if there is one.
-fn receipt_at(receipts: &[Receipt], index: Option<usize>) -> Option<&Receipt>
-    ensures { IfSome result (λ receipt. IsReceiptAt receipts.now index receipt.now) }
-{
-    receipts.get(index?)
 }
