@@ -1,4 +1,4 @@
-//! Tests of `rad_auth` by its public calls: admission, passwords and sealing, against octets that were made elsewhere.
+//! Tests of `rad_auth` by its public calls: admission and sealing, against octets that were made elsewhere.
 //! They stand in a crate of their own so that its functions aren't proved again with them.
 #![tactic(auto)]
 

@@ -5,14 +5,11 @@ ghost use Rattle.rad_packet.specs.Attributes.{value_max};
 
 mod accounting;
 mod changed_bits;
-mod chap;
 mod clients;
 mod discards;
 mod doors;
-mod hidden_passwords;
 mod lanes;
 mod message_authenticators;
-mod passwords;
 mod proxy_states;
 mod replies;
 mod requests;
