@@ -10,9 +10,9 @@ use Rattle.toml.specs.View.{view, items_view}
 use Rattle.toml.specs.declared.value.Value.{Value}
 use Rattle.toml.proofs.Views.{items_view-drop}
 use Rattle.rad_packet.specs.Ladders.{◌>>=◌}
-use Rattle.rad_config.specs.declared.config_fault.Part.{Part}
-use Rattle.rad_config.specs.declared.config_fault.ConfigFault.{ConfigFault}
-use Rattle.rad_config.specs.declared.config_fault.ConfigFault.TheVariants.{NoMemory, TooMany}
+use Rattle.rad_config_fault.specs.declared.config_fault.Part.{Part}
+use Rattle.rad_config_fault.specs.declared.config_fault.ConfigFault.{ConfigFault}
+use Rattle.rad_config_fault.specs.declared.config_fault.ConfigFault.TheVariants.{NoMemory, TooMany}
 use Rattle.rad_config.specs.Configurations.{EntryData, and_entry, entry_of, entries_from, items_in, count_items}
 
 module _ {A : Type 0} (part : Part) (read : List A → EntryData → Result A ConfigFault) (values : List Value) (i : ℕ) (value : Value)

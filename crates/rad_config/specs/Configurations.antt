@@ -7,16 +7,16 @@ use Rattle.toml.specs.Data.{Data, as_array, as_table, Items, no_items, item, Mem
 use Rattle.toml.specs.Parse.{parse_document}
 use Rattle.rad_packet.specs.Ladders.{◌>>=◌, refuse_if}
 use Rattle.rad_auth.specs.Clients.{Client, client_place, clients_max}
-use Rattle.rad_config.specs.declared.config_fault.Key.{Key}
-use Rattle.rad_config.specs.declared.config_fault.Key.TheVariants as keys
-use Rattle.rad_config.specs.declared.config_fault.Part.{Part}
-use Rattle.rad_config.specs.declared.config_fault.Part.TheVariants as parts
-use Rattle.rad_config.specs.declared.config_fault.Spot.{Spot}
-use Rattle.rad_config.specs.declared.config_fault.ConfigFault.{ConfigFault}
-use Rattle.rad_config.specs.declared.config_fault.ConfigFault.TheVariants.{Syntax, Missing, BadValue, HoldBelowWindow, PoolsOverlap, TooMany, NoMemory}
+use Rattle.rad_config_fault.specs.declared.config_fault.Key.{Key}
+use Rattle.rad_config_fault.specs.declared.config_fault.Key.TheVariants as keys
+use Rattle.rad_config_fault.specs.declared.config_fault.Part.{Part}
+use Rattle.rad_config_fault.specs.declared.config_fault.Part.TheVariants as parts
+use Rattle.rad_config_fault.specs.declared.config_fault.Spot.{Spot}
+use Rattle.rad_config_fault.specs.declared.config_fault.ConfigFault.{ConfigFault}
+use Rattle.rad_config_fault.specs.declared.config_fault.ConfigFault.TheVariants.{Syntax, Missing, BadValue, HoldBelowWindow, PoolsOverlap, TooMany, NoMemory}
 use Rattle.rad_config.specs.declared.pool.Pool.{Pool}
 use Rattle.rad_config.specs.declared.user.User.{User}
-use Rattle.rad_config.specs.Faults.{key_name, part_name}
+use Rattle.rad_config_fault.specs.Faults.{key_name, part_name}
 use Rattle.rad_config.specs.Keys.{Row, pool_place}
 use Rattle.rad_config.specs.Keys as rows
 

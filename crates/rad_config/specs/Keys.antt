@@ -9,8 +9,8 @@ use Rattle.rad_packet.specs.Attributes.{value_max}
 use Rattle.rad_auth.specs.Clients.{secret_max}
 use Rattle.rad_auth.specs.Passwords.{password_max}
 use Rattle.rad_text.specs.Decimals.{address_of}
-use Rattle.rad_config.specs.declared.config_fault.Key.{Key}
-use Rattle.rad_config.specs.declared.config_fault.Key.TheVariants as keys
+use Rattle.rad_config_fault.specs.declared.config_fault.Key.{Key}
+use Rattle.rad_config_fault.specs.declared.config_fault.Key.TheVariants as keys
 use Rattle.rad_config.specs.declared.pool.Pool.{Pool}
 
 -- ---- rows

@@ -1,5 +1,5 @@
 pub mod Configurations
-pub mod Faults
+pub use Rattle.rad_config_fault.specs.Faults
 pub mod Keys
 pub mod Ranges
 pub mod ReadEntries

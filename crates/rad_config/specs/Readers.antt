@@ -9,8 +9,8 @@ use Rattle.rad_config.specs.Configurations.{Gives, and_entry, client_in, entries
 use Rattle.rad_config.specs.Keys.{Row}
 use Rattle.rad_config.specs.Ranges.{HasLength}
 use Rattle.rad_config.specs.Views.{entry_data}
-use Rattle.rad_config.specs.declared.config_fault.ConfigFault.{ConfigFault}
-use Rattle.rad_config.specs.declared.config_fault.Part.TheVariants as parts
+use Rattle.rad_config_fault.specs.declared.config_fault.ConfigFault.{ConfigFault}
+use Rattle.rad_config_fault.specs.declared.config_fault.Part.TheVariants as parts
 use Rattle.rad_config.specs.declared.entry.Entry.{Entry}
 use Rattle.rad_config.specs.declared.keys.TextRow.{TextRow}
 use Rattle.rad_config.specs.declared.pool.Pool.{Pool}

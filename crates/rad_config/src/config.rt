@@ -6,7 +6,6 @@ ghost use Rattle.toml.specs.View.{table_view};
 ghost use Rattle.rad_config.specs.Configurations.{Gives, ordered_spans, overlap, pools_max, separate_pools};
 ghost use Rattle.rad_config.specs.Ranges.{IsPool};
 
-use crate::config_fault::{ConfigFault, Part};
 use crate::entry::Entry;
 use crate::keys::{HOLD, WINDOW};
 use crate::lists::{read_clients, read_pools, read_users};
@@ -16,6 +15,7 @@ use crate::same::{same_pools, same_users};
 use crate::spans::Spans;
 use crate::user::{User, Users};
 use rad_auth::Clients;
+use rad_config_fault::{ConfigFault, Part};
 use std::alloc::Global;
 use std::marker::Model;
 use toml::Table;

@@ -1,7 +1,7 @@
 //! The tables of a text, and the values at their keys.
 
-use crate::config_fault::{ConfigFault, Key, Part, Spot};
 use crate::keys::{AddressRow, DefaultRow, FlagRow, NumberRow, TextRow};
+use rad_config_fault::{ConfigFault, Key, Part, Spot};
 use toml::{Table, Value};
 
 /// A table of the text: an entry of a part, whose index counts from 1, or the top with index 0.

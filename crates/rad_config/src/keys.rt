@@ -7,8 +7,8 @@ ghost use Rattle.rad_config.specs.Keys.{number, address, above_first_max, addres
 ghost use Rattle.rad_config.specs.Readers.{HasRowLength};
 ghost use Rattle.rad_config.specs.Views.{text_fit};
 
-use crate::config_fault::Key;
 use rad_auth::{PASSWORD_MAX, SECRET_MAX};
+use rad_config_fault::Key;
 use rad_packet::attribute::VALUE_MAX;
 use rad_text::decimal;
 use toml::Value;

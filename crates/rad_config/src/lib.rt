@@ -9,7 +9,6 @@
 #![tactic(auto)]
 
 mod config;
-mod config_fault;
 mod entry;
 mod keys;
 mod lists;
@@ -23,8 +22,8 @@ mod text;
 mod user;
 
 pub use config::Config;
-pub use config_fault::{ConfigFault, Key, Part, Spot};
 pub use pool::{POOLS_MAX, Pool};
+pub use rad_config_fault::{ConfigFault, Key, Part, Spot};
 pub use spans::{MOMENT_MAX, Spans};
 pub use text::Text;
 pub use user::{USERS_MAX, User};

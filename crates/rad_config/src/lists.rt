@@ -4,12 +4,11 @@ ghost use Rattle.toml.specs.View.{view, items_view, table_view};
 ghost use Rattle.toml.specs.Data.{get_member};
 ghost use Rattle.rad_auth.specs.Clients.{clients_max};
 ghost use Rattle.rad_config.specs.Configurations.{Gives, clients_of, entry_of, items_at, pools_max, pools_of, users_max, users_of};
-ghost use Rattle.rad_config.specs.Faults.{part_name};
+ghost use Rattle.rad_config_fault.specs.Faults.{part_name};
 ghost use Rattle.rad_config.specs.Ranges.{IsPool, IsUser};
 ghost use Rattle.rad_config.specs.Readers.{and_client, and_pool, and_user, clients_from, found_items, pools_from, users_from};
 ghost use Rattle.rad_config.specs.Views.{data_of, entry_data};
 
-use crate::config_fault::{ConfigFault, Key, Part, Spot};
 use crate::entry::Entry;
 use crate::pool::{POOLS_MAX, Pool};
 use crate::read_client::read_client;
@@ -17,6 +16,7 @@ use crate::read_pool::read_pool;
 use crate::read_user::read_user;
 use crate::user::{USERS_MAX, Users};
 use rad_auth::{CLIENTS_MAX, Clients};
+use rad_config_fault::{ConfigFault, Key, Part, Spot};
 use std::alloc::Global;
 use toml::{Table, Value};
 

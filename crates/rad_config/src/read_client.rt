@@ -5,10 +5,10 @@ ghost use Rattle.rad_config.specs.Configurations.{Gives, client_in};
 ghost use Rattle.rad_config.specs.ReadEntries.{entry_client};
 ghost use Rattle.rad_config.specs.Views.{entry_data};
 
-use crate::config_fault::{ConfigFault, Key};
 use crate::entry::Entry;
 use crate::keys::{CLIENT_ADDRESS, CLIENT_SECRET, REQUIRE_MESSAGE_AUTHENTICATOR};
 use rad_auth::Clients;
+use rad_config_fault::{ConfigFault, Key};
 
 /// What an entry says of a client.
 #[derive(Clone, Copy)]

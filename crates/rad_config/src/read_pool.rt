@@ -7,11 +7,11 @@ ghost use Rattle.rad_config.specs.Ranges.{IsPool};
 ghost use Rattle.rad_config.specs.Readers.{GivesValue};
 ghost use Rattle.rad_config.specs.Views.{entry_data};
 
-use crate::config_fault::{ConfigFault, Key};
 use crate::entry::Entry;
 use crate::keys::{POOL_FIRST, POOL_NAME, pool_last};
 use crate::pool::Pool;
 use crate::text::Text;
+use rad_config_fault::{ConfigFault, Key};
 use std::alloc::Global;
 
 /// The pool that an entry says, whose name no earlier one has.

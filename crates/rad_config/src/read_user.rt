@@ -6,7 +6,6 @@ ghost use Rattle.rad_config.specs.Ranges.{IsUser};
 ghost use Rattle.rad_config.specs.ReadEntries.{entry_user};
 ghost use Rattle.rad_config.specs.Views.{entry_data};
 
-use crate::config_fault::{ConfigFault, Key};
 use crate::entry::Entry;
 use crate::keys::{
     ANSWER, CHALLENGE, MESSAGE, PASSWORD, PROTOCOL, SERVICE, SESSIONS, TIMEOUT, USER_NAME,
@@ -15,6 +14,7 @@ use crate::pool::Pool;
 use crate::read_pool::read_pool_place;
 use crate::text::Text;
 use crate::user::{User, Users};
+use rad_config_fault::{ConfigFault, Key};
 use std::alloc::{AllocError, Global};
 
 /// What an entry says of a user.

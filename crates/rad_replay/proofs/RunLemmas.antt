@@ -4,8 +4,8 @@ use Rattle.std.specs.Prelude.{filter, map, option_map, unwrap_or, IfSome}
 use Rattle.std.specs.Io.KnownBytes.{Appends, Consumes, IsAtEnd}
 use Rattle.std.proofs.lemmas.List.{append-nil, length-map}
 use Rattle.rad_config.specs.Configurations.{Configuration}
-use Rattle.rad_config.specs.declared.config_fault.ConfigFault.{ConfigFault}
-use Rattle.rad_config.specs.declared.config_fault.ConfigFault.TheVariants as fault
+use Rattle.rad_config_fault.specs.declared.config_fault.ConfigFault.{ConfigFault}
+use Rattle.rad_config_fault.specs.declared.config_fault.ConfigFault.TheVariants as fault
 use Rattle.rad_replay.specs.declared.run_fault.RunFault.{RunFault}
 use Rattle.rad_replay.specs.declared.run_fault.RunFault.TheVariants as run
 use Rattle.rad_replay.specs.Configuration.{configuration_of_octets}

@@ -2,8 +2,8 @@
 use Rattle.std.specs.Prelude.{ℕ, if◌then◌else◌, List, Result, Err}
 use Rattle.std.specs.Str.{is_utf8}
 use Rattle.rad_config.specs.Configurations.{Configuration, configuration_of}
-use Rattle.rad_config.specs.declared.config_fault.ConfigFault.{ConfigFault}
-use Rattle.rad_config.specs.declared.config_fault.ConfigFault.TheVariants.{Syntax}
+use Rattle.rad_config_fault.specs.declared.config_fault.ConfigFault.{ConfigFault}
+use Rattle.rad_config_fault.specs.declared.config_fault.ConfigFault.TheVariants.{Syntax}
 
 -- what UTF-8 says, and otherwise that it is no text
 abbrev pub configuration_of_octets : List ℕ → Result Configuration ConfigFault

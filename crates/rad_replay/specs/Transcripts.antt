@@ -13,7 +13,7 @@ use Rattle.rad_auth.specs.Sealing.{reply_octets}
 use Rattle.rad_auth.specs.declared.arrival.Request.{Request}
 use Rattle.rad_auth.specs.declared.discard.Discard.{Discard}
 use Rattle.rad_config.specs.Configurations.{Configuration}
-use Rattle.rad_config.specs.declared.config_fault.ConfigFault.TheVariants as fault
+use Rattle.rad_config_fault.specs.declared.config_fault.ConfigFault.TheVariants as fault
 use Rattle.rad_replay.specs.declared.run_fault.RunFault.{RunFault}
 use Rattle.rad_replay.specs.declared.run_fault.RunFault.TheVariants as run
 use Rattle.rad_replay.specs.Configuration.{configuration_of_octets}

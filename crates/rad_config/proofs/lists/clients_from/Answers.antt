@@ -1,7 +1,7 @@
 use Rattle.std.proofs.Common.{◌+◌, sym, ◌∙◌, arith}
 use Rattle.std.proofs.lemmas.Result.{err_from_is_err_and}
 use Rattle.rad_config.specs.Configurations.{client_in}
-use Rattle.rad_config.specs.declared.config_fault.Part.TheVariants as part
+use Rattle.rad_config_fault.specs.declared.config_fault.Part.TheVariants as part
 use Rattle.rad_config.proofs.EntryLemmas.{and_entry-length, entries_from-all, entries_from-more, entries_from-refused}
 use Rattle.rad_config.proofs.lists.clients_from.Goals as goal
 

@@ -4,7 +4,7 @@ use Rattle.toml.specs.View.{items_view}
 use Rattle.rad_config.specs.Configurations.{entries_from, pool_in}
 use Rattle.rad_config.specs.Ranges.{IsPool}
 use Rattle.rad_config.specs.Readers.{pools_from}
-use Rattle.rad_config.specs.declared.config_fault.Part.TheVariants as part
+use Rattle.rad_config_fault.specs.declared.config_fault.Part.TheVariants as part
 use Rattle.rad_config.proofs.lists.pools_from.Given as goal
 
 -- the pools so far, and those that the other entries are, are those of all the entries

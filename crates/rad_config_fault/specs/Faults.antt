@@ -1,11 +1,11 @@
 -- The faults of a configuration text, its parts and its keys: numbers and names.
 use Rattle.std.specs.Prelude.{ℕ, List, codes}
-use Rattle.rad_config.specs.declared.config_fault.ConfigFault.{ConfigFault}
-use Rattle.rad_config.specs.declared.config_fault.ConfigFault.TheVariants.{Syntax, Missing, BadValue, HoldBelowWindow, PoolsOverlap, TooMany, NoMemory}
-use Rattle.rad_config.specs.declared.config_fault.Key.{Key}
-use Rattle.rad_config.specs.declared.config_fault.Key.TheVariants as keys
-use Rattle.rad_config.specs.declared.config_fault.Part.{Part}
-use Rattle.rad_config.specs.declared.config_fault.Part.TheVariants as parts
+use Rattle.rad_config_fault.specs.declared.config_fault.ConfigFault.{ConfigFault}
+use Rattle.rad_config_fault.specs.declared.config_fault.ConfigFault.TheVariants.{Syntax, Missing, BadValue, HoldBelowWindow, PoolsOverlap, TooMany, NoMemory}
+use Rattle.rad_config_fault.specs.declared.config_fault.Key.{Key}
+use Rattle.rad_config_fault.specs.declared.config_fault.Key.TheVariants as keys
+use Rattle.rad_config_fault.specs.declared.config_fault.Part.{Part}
+use Rattle.rad_config_fault.specs.declared.config_fault.Part.TheVariants as parts
 
 abbrev pub fault_number : ConfigFault → ℕ
 fault_number Syntax = 1

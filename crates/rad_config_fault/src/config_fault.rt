@@ -1,6 +1,6 @@
 //! What is wrong with a configuration text.
 ghost use Rattle.std.specs.Prelude.{◌≡◌};
-ghost use Rattle.rad_config.specs.Faults.{fault_number, fault_name, part_name, key_name};
+ghost use Rattle.rad_config_fault.specs.Faults.{fault_number, fault_name, part_name, key_name};
 
 use std::fmt;
 use thiserror::Error;
