@@ -14,14 +14,14 @@ use Rattle.rad_server.specs.Runs.{IsHistory, Run, RunsAreLawful}
 use Rattle.rad_server.specs.Servers.{Server}
 use Rattle.rad_server.specs.States.{State}
 use Rattle.rad_server.specs.declared.entry.Entry.{Entry}
-use Rattle.rad_shell.specs.Rounds.{HasArrival, HasEntry, HaveOwnTags, IsEntryOf, IsOutcome, Round, arrivals_max}
+use Rattle.rad_round.specs.Rounds.{HasArrival, HasEntry, HaveOwnTags, IsEntryOf, IsOutcome, Round, arrivals_max}
 use Rattle.rad_shell.specs.Serving.{AddTurn, AddUp, HasServed, IsRoundMade, IsServed, IsTurn, exchange_count, is_exchanged, is_replied, is_reply, octet_count, replied_count, reply_count}
-use Rattle.rad_shell.specs.declared.outcome.Outcome.{Outcome}
-use Rattle.rad_shell.specs.declared.outcome.Outcome.TheVariants.{Dropped, Busy, NoMemory, Reply}
+use Rattle.rad_round.specs.declared.outcome.Outcome.{Outcome}
+use Rattle.rad_round.specs.declared.outcome.Outcome.TheVariants.{Dropped, Busy, NoMemory, Reply}
 use Rattle.rad_shell.specs.declared.ports.Got.{Got}
 use Rattle.rad_shell.specs.declared.serve_fault.ServeFault.{ServeFault}
 use Rattle.rad_shell.specs.declared.served.Served.{Served}
-use Rattle.rad_shell.specs.declared.timed.Timed.{Timed}
+use Rattle.rad_round.specs.declared.timed.Timed.{Timed}
 
 -- ---- datagrams and outcomes, one more
 

@@ -12,9 +12,9 @@ use Rattle.rad_server.specs.Servers.{Server}
 use Rattle.rad_server.specs.declared.answer.Answer.{Answer}
 use Rattle.rad_server.specs.declared.answer.Answer.TheVariants as answers
 use Rattle.rad_server.specs.declared.entry.Entry.{Entry}
-use Rattle.rad_shell.specs.Rounds.{arrivals_max}
-use Rattle.rad_shell.specs.declared.outcome.Outcome.{Outcome}
-use Rattle.rad_shell.specs.declared.outcome.Outcome.TheVariants.{Dropped, Busy, NoMemory, Reply}
+use Rattle.rad_round.specs.Rounds.{arrivals_max}
+use Rattle.rad_round.specs.declared.outcome.Outcome.{Outcome}
+use Rattle.rad_round.specs.declared.outcome.Outcome.TheVariants.{Dropped, Busy, NoMemory, Reply}
 use Rattle.rad_shell.specs.declared.ports.Got.{Got}
 use Rattle.rad_shell.specs.declared.serve_fault.ServeFault.{ServeFault}
 use Rattle.rad_shell.specs.declared.serve_fault.ServeFault.TheVariants as faults

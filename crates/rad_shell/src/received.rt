@@ -1,13 +1,11 @@
 //! What a turn received.
 ghost use Rattle.std.specs.Prelude.{◌≡◌, ◌≤◌, ◌<◌, All, IfErr, IfOk, length, vec_capacity, vec_len};
-ghost use Rattle.rad_shell.specs.Rounds.{AreMoments, arrivals_max};
+ghost use Rattle.rad_round.specs.Rounds.{AreMoments, arrivals_max};
 ghost use Rattle.rad_shell.specs.Serving.{IsReceived, octet_count};
 
-use crate::outcome::Outcome;
 use crate::ports::{Got, PortFault, Ports, RECEIVED_MAX};
-use crate::service::ARRIVALS_MAX;
-use crate::timed::Timed;
 use rad_auth::Arrival;
+use rad_round::{ARRIVALS_MAX, Outcome, Timed};
 use rand_core::Rng;
 use std::alloc::{AllocError, Global};
 

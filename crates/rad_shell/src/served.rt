@@ -1,9 +1,9 @@
 //! What turns came to.
 ghost use Rattle.std.specs.Prelude.{◌≡◌, ◌+◌, ◌≤◌, ◌<◌, ◌^◌, cond, length};
-ghost use Rattle.rad_shell.specs.Rounds.{arrivals_max};
+ghost use Rattle.rad_round.specs.Rounds.{arrivals_max};
 ghost use Rattle.rad_shell.specs.Serving.{AddTurn, AddUp, exchange_count, is_exchanged, is_replied, outcome_count, replied_count, turns_max};
 
-use crate::outcome::Outcome;
+use rad_round::Outcome;
 use std::fmt;
 
 /// What turns came to. It is printed as one line, each number after its field's name.

@@ -1,14 +1,13 @@
 //! The loop over ports.
 ghost use Rattle.std.specs.Prelude.{◌≤◌, IfErr};
-ghost use Rattle.rad_shell.specs.Rounds.{workers_max};
+ghost use Rattle.rad_round.specs.Rounds.{workers_max};
 ghost use Rattle.rad_shell.specs.Serving.{HasCause, IsServed};
 
-use crate::gate::Gate;
 use crate::ports::Ports;
 use crate::serve_fault::ServeFault;
 use crate::served::Served;
-use crate::service::Service;
 use crate::turn::make_turn;
+use rad_round::{Gate, Service};
 use rad_server::{runs_are_lawful, runs_repeat};
 use rand_core::Rng;
 use std::sync::Wait;

@@ -1,17 +1,14 @@
 //! One turn: datagrams are received, answered in a round, and their replies sent.
 ghost use Rattle.std.specs.Prelude.{◌≡◌, ◌≤◌, ◌<◌, IfErr, IfNone, IfOk, IfSome, OnErr};
-ghost use Rattle.rad_shell.specs.Rounds.{workers_max};
+ghost use Rattle.rad_round.specs.Rounds.{workers_max};
 ghost use Rattle.rad_shell.specs.Serving.{AddUp, HasCause, IsRoundMade, IsTurn, turns_max};
 
-use crate::gate::Gate;
 use crate::ports::Ports;
 use crate::received::Received;
-use crate::round::Done;
-use crate::round_fault::RoundFault;
 use crate::serve_fault::ServeFault;
 use crate::served::Served;
-use crate::service::Service;
 use rad_desk::Mismatch;
+use rad_round::{Done, Gate, RoundFault, Service};
 use rand_core::Rng;
 use std::sync::Wait;
 use std::thread::Threads;

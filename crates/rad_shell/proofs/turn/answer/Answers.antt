@@ -1,6 +1,6 @@
 use Rattle.std.proofs.Common.{◌≤◌, length, sym, subst}
 use Rattle.rad_shell.proofs.ServingLemmas.{round_made}
-use Rattle.rad_shell.specs.Rounds.{arrivals_max}
+use Rattle.rad_round.specs.Rounds.{arrivals_max}
 use Rattle.rad_shell.proofs.turn.answer.Goals as goal
 
 pub returns-in-Ok-round-clause-made : goal.returns-in-Ok-round-clause-made

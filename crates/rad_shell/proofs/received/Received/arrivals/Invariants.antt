@@ -1,5 +1,5 @@
 use Rattle.std.proofs.Common.{◌≡◌, drop, length, vec_len}
-use Rattle.rad_shell.specs.Rounds.{AreMoments}
+use Rattle.rad_round.specs.Rounds.{AreMoments}
 use Rattle.rad_shell.specs.Serving.{octet_count}
 use Rattle.rad_shell.proofs.received.Received.arrivals.Given as goal
 

@@ -1,5 +1,5 @@
 use Rattle.std.proofs.Common.{◌≡◌, ◌≤◌, All, vec_capacity, vec_len}
-use Rattle.rad_shell.specs.Rounds.{arrivals_max}
+use Rattle.rad_round.specs.Rounds.{arrivals_max}
 use Rattle.rad_shell.specs.Serving.{IsReceived, octet_count}
 use Rattle.rad_shell.proofs.received.Received.draw.Given as goal
 

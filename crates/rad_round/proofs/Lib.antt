@@ -1,0 +1,3 @@
+pub mod WorkLemmas
+pub mod TableLemmas
+pub mod AloneLemmas

@@ -1,0 +1,4 @@
+pub mod Rounds
+pub mod Faults
+pub mod Works
+pub mod Alone

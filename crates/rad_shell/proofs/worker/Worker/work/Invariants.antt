@@ -1,5 +1,0 @@
-use Rattle.rad_shell.specs.Works.{HasAnswered}
-use Rattle.rad_shell.proofs.worker.Worker.work.Given as goal
-
-abbrev pub invariant-loop-batch : goal.invariant-loop-batch
-invariant-loop-batch g l = HasAnswered l.clients l.arrivals l.self
