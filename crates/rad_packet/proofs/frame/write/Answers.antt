@@ -6,6 +6,9 @@ use Rattle.rad_packet.specs.Bodies.{packet_of_body}
 use Rattle.rad_packet.proofs.PacketLemmas.{again}
 use Rattle.rad_packet.proofs.frame.write.Goals as goal
 
+pub returns-then-size-clause-fits : goal.returns-then-size-clause-fits
+returns-then-size-clause-fits c = grind (arith, common_steps)
+
 pub returns-then-size-clause-unchanged : goal.returns-then-size-clause-unchanged
 returns-then-size-clause-unchanged c = grind (arith, common_steps)
 

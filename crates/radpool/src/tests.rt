@@ -1,3 +1,0 @@
-mod command;
-mod fake;
-mod serve;
