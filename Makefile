@@ -1,4 +1,4 @@
-.PHONY: demo refused-memory test try udp
+.PHONY: commands demo refused-memory test try udp
 
 # Runs radpool on the shipped transcript without a proof, and prints what it answered.
 try:
@@ -13,9 +13,15 @@ demo:
 	(cat examples/radpool.toml; echo; echo ---) | crates/radpool/out/radpool replay
 	@echo "The output is that of examples/requests.expected. The program is crates/radpool/out/radpool."
 
-# Proves and builds refused_memory and refused_rounds, and runs each again and again, each time with another allocation refused. It
-# needs cc.
-refused-memory:
+# Runs radpool with many command lines, and judges what each prints and its status. It needs Python 3.
+commands: demo
+	trials/command/run crates/radpool/out/radpool
+
+# Proves and builds refused_memory and refused_rounds, and runs them and radpool again and again, each time with another allocation
+# refused. It needs cc.
+refused-memory: demo
+	cd crates/refused_memory && rt run > /dev/null
+	cd crates/refused_rounds && rt run > /dev/null
 	trials/refused_memory/run
 
 # Sends requests over loopback to the program that `make demo` leaves. It needs Python 3.
@@ -23,12 +29,12 @@ udp:
 	trials/udp/run
 
 # Proves everything from nothing, tries the must-fail edits, and runs the tests and the programs. The run of radpool is the
-# example, and the list in docs/PROVED.md is the one that docs/definitions makes. Before all, a replay whose configuration is refused
-# memory and turns of which one round is are run without a proof.
+# example, and the list in docs/PROVED.md is the one that docs/definitions makes. Then the programs that were built are tried: radpool
+# with many command lines, and each program with each of its allocations refused.
 test:
 	@cmp examples/requests.txt crates/radpool/stdin
 	@cmp examples/requests.expected crates/radpool/stdout
 	@docs/definitions --check
-	@cd crates/refused_memory && rt try --steps 1000 --fail-alloc 5 | diff stdout -
-	@cd crates/refused_rounds && rt try --steps 1000 --fail-alloc 231 | diff stdout -
 	@rt ci
+	@trials/command/run > /dev/null
+	@trials/refused_memory/run > /dev/null

@@ -5,8 +5,6 @@
 mod command;
 mod options;
 mod serve_command;
-#[cfg(test)]
-mod tests;
 
 use command::Next;
 use std::process::ExitCode;
