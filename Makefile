@@ -29,8 +29,8 @@ udp:
 	trials/udp/run
 
 # Proves everything from nothing, tries the must-fail edits, and runs the tests and the programs. The run of radpool is the
-# example, and the list in docs/PROVED.md is the one that docs/definitions makes. Then the programs that were built are tried: radpool
-# with many command lines, and each program with each of its allocations refused.
+# example, and the list in docs/PROVED.md is the one that docs/definitions makes. Then the executables are tried: radpool with many
+# command lines, and radpool make, refused_memory and refused_rounds with each of their allocations refused in turn.
 test:
 	@cmp examples/requests.txt crates/radpool/stdin
 	@cmp examples/requests.expected crates/radpool/stdout
