@@ -1,5 +1,5 @@
 //! Tests of the passwords of `rad_auth` by its public calls: hidden User-Passwords and CHAP, against values that were made
-//! elsewhere. They are a crate of their own beside `rad_auth_tests`, so that each of the two is proved within its budget.
+//! elsewhere. They are a crate of their own beside `rad_auth_tests`, so that neither takes long to prove.
 #![tactic(auto)]
 
 #[cfg(test)]

@@ -196,6 +196,10 @@ impl<'r, C: Clock> Ports for UdpPorts<'r, C> {
         }
     }
 
+    fn pause(&mut self) {
+        self.clock.sleep(Duration::from_secs(WAIT_SECONDS));
+    }
+
     fn receive(&mut self, room: &mut [u8; RECEIVED_MAX]) -> Result<Option<Got>, PortFault> {
         if self.auth_may {
             if let Some(got) = self.receive_at(Door::Auth, room)? {

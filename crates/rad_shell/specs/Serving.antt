@@ -2,7 +2,7 @@
 --
 -- A turn receives until no datagram waits or a round is full. A round for which memory is refused is lost: its datagrams are counted,
 -- and the server is as it was.
-use Rattle.std.specs.Prelude.{◌≡◌, ℕ, ◌+◌, ◌*◌, ◌^◌, ◌≤◌, ◌<◌, Bool, true, false, List, length, filter, Result, IfOk, OnOk}
+use Rattle.std.specs.Prelude.{◌≡◌, ℕ, ◌+◌, ◌-◌, ◌*◌, ◌^◌, min, ◌≤◌, ◌<◌, Bool, true, false, List, length, filter, Result, IfOk, OnOk}
 use Rattle.std.specs.List.{sum_by}
 use Rattle.rad_config.specs.Spans.{moment_max}
 use Rattle.rad_packet.specs.Packets.{length_max}
@@ -43,6 +43,26 @@ HasCause before after faults.Mismatch = Unit {0}
 -- the datagrams that have an outcome
 abbrev pub outcome_count : Served → ℕ
 outcome_count served = served.replies + served.drops + served.busy + served.nomemory
+
+-- the sums of no turn
+abbrev pub no_sums : Served
+no_sums = record { rounds = 0; datagrams = 0; replies = 0; drops = 0; busy = 0; nomemory = 0; failed = 0 }
+
+-- two numbers together, or the greatest number that there is room for
+abbrev pub capped_sum : ℕ → ℕ → ℕ
+capped_sum first second = min (first + second) (2 ^ 64 - 1)
+
+-- what turns came to, and others after them
+abbrev pub with_sums : Served → Served → Served
+with_sums served more = record {
+  rounds = capped_sum served.rounds more.rounds;
+  datagrams = capped_sum served.datagrams more.datagrams;
+  replies = capped_sum served.replies more.replies;
+  drops = capped_sum served.drops more.drops;
+  busy = capped_sum served.busy more.busy;
+  nomemory = capped_sum served.nomemory more.nomemory;
+  failed = capped_sum served.failed more.failed;
+}
 
 -- whether an answer is a reply
 abbrev pub is_reply : Answer → Bool

@@ -1,9 +1,9 @@
 //! Turns: in each, what has come to ports is answered in a round, and its replies are sent.
 //!
-//! `run_rounds` makes turns, each with one round of `rad_round`. Nothing is decided here: answers are `rad_server`'s. The names of
+//! `Turns` are made one after another, each with one round of `rad_round`, and `run_rounds` makes them for one call. Nothing is decided here: answers are `rad_server`'s. The names of
 //! rounds and of the desk are passed on.
 //!
-//! Other crates rest on this: however `run_rounds` ends, a history leads from the server before to the one after, and without a fault
+//! Other crates rest on this: however a call of turns ends, a history leads from the server before to the one after, and without a fault
 //! its sums count the entries (`specs/Serving.antt`).
 #![tactic(auto)]
 
@@ -13,7 +13,7 @@ mod received;
 mod serve_fault;
 mod served;
 mod serving;
-mod turn;
+mod turns;
 
 pub use memory_ports::{Datagram, MemoryPorts};
 pub use ports::{Got, PortFault, Ports, RECEIVED_MAX};
@@ -27,3 +27,4 @@ pub use rad_round::{
 pub use serve_fault::ServeFault;
 pub use served::Served;
 pub use serving::run_rounds;
+pub use turns::Turns;

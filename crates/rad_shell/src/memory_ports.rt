@@ -33,6 +33,7 @@ pub struct MemoryPorts {
     received: usize,
     sent: Vec<Datagram>,
     turns: u64,
+    pauses: u64,
     calls: u64,
     failing: u64,
     faults: u64,
@@ -47,6 +48,7 @@ impl MemoryPorts {
             received: 0,
             sent: Vec::new(alloc),
             turns: 0,
+            pauses: 0,
             calls: 0,
             failing: 0,
             faults: 0,
@@ -76,6 +78,11 @@ impl MemoryPorts {
         self.turns
     }
 
+    /// How often `pause` was called.
+    pub fn pauses(&self) -> u64 {
+        self.pauses
+    }
+
     // Counts a call of `receive` or `send`, and its failure if it is to fail. At the last count nothing fails.
     fn fails(&mut self) -> bool
         ensures counted { self.old.faults ≤ self.new.faults }
@@ -95,6 +102,11 @@ impl Ports for MemoryPorts {
 
     fn wait<R: Wait>(&mut self, _rt: &R) {
         self.turns = self.turns.saturating_add(1);
+    }
+
+    // Nothing waits here.
+    fn pause(&mut self) {
+        self.pauses = self.pauses.saturating_add(1);
     }
 
     fn receive(&mut self, room: &mut [u8; RECEIVED_MAX]) -> Result<Option<Got>, PortFault> {

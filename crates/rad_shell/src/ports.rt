@@ -42,6 +42,10 @@ pub trait Ports {
     fn wait<R: Wait>(&mut self, rt: &R)
         ensures counted { failures self.old ≤ failures self.new };
 
+    /// Waits for a second, whatever comes: after a turn that was refused memory, which more datagrams wouldn't help.
+    fn pause(&mut self)
+        ensures counted { failures self.old ≤ failures self.new };
+
     /// Receives the next datagram, if one waits: its first 4,096 octets go to the beginning of the room.
     ///
     /// Returns `PortFault` only if a failure was counted in the call.

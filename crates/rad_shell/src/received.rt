@@ -38,7 +38,8 @@ impl Received {
 
     /// How many datagrams there are.
     pub fn len(&self) -> usize
-        ensures { result ≤ arrivals_max }
+        ensures few { result ≤ arrivals_max }
+        ensures count { result ≡ vec_len self.now.got }
     {
         self.got.len()
     }
@@ -64,7 +65,9 @@ impl Received {
     }
 
     /// Takes a draw for each datagram, in order.
-    pub fn draw<D: Rng>(&mut self, random: &mut D) {
+    pub fn draw<D: Rng>(&mut self, random: &mut D)
+        ensures drawn { vec_len self.new.draws ≡ vec_len self.new.got }
+    {
         self.draws.clear();
         for _ in 0..self.got.len() {
             let mut draw = [0; 16];
@@ -76,7 +79,9 @@ impl Received {
     /// The datagrams as arrivals of a round.
     #[tactic(auto, using(crate::proofs::ServingLemmas::octets_left))]
     pub fn arrivals(&self, alloc: Global) -> Result<Vec<Timed<'_>>, AllocError>
-        ensures count { IfOk result (λ arrivals. length arrivals.items ≤ arrivals_max) }
+        requires drawn { vec_len self.now.draws ≡ vec_len self.now.got }
+        ensures few { IfOk result (λ arrivals. length arrivals.items ≤ arrivals_max) }
+        ensures count { IfOk result (λ arrivals. length arrivals.items ≡ vec_len self.now.got) }
         ensures moments { IfOk result (λ arrivals. AreMoments arrivals.items) }
     {
         let mut arrivals = Vec::with_capacity(alloc, self.got.len())?;
@@ -95,19 +100,11 @@ impl Received {
             arrivals.push(Timed {
                 arrival,
                 moment: got.moment,
-                draw: self.draw_at(i),
+                draw: self.draws[i],
             })?;
             rest = after;
         }
         Ok(arrivals)
-    }
-
-    // The draw of the datagram with this number, which has one.
-    fn draw_at(&self, number: usize) -> [u8; 16] {
-        match self.draws.get(number) {
-            Some(draw) => *draw,
-            None => [0; 16],
-        }
     }
 
     /// Sends the replies among the outcomes of the datagrams, in order, each to where its datagram came from.

@@ -4,7 +4,7 @@ ghost use Rattle.rad_shell.specs.Serving.{serve_fault_number};
 
 use thiserror::Error;
 
-/// Why `run_rounds` ended before its last turn. The server is as it was after the last closed round.
+/// Why turns ended before the last one. The server is as it was after the last closed round.
 #[derive(Clone, Copy, Debug, PartialEq, Eq, Error)]
 pub enum ServeFault {
     /// A port failed while datagrams were received. Those of this turn are dropped, before any draw for them.

@@ -1,7 +1,7 @@
 //! What turns came to.
 ghost use Rattle.std.specs.Prelude.{◌≡◌, ◌+◌, ◌≤◌, ◌<◌, ◌^◌, cond, length};
 ghost use Rattle.rad_round.specs.Rounds.{arrivals_max};
-ghost use Rattle.rad_shell.specs.Serving.{AddTurn, AddUp, exchange_count, is_exchanged, is_replied, outcome_count, replied_count, turns_max};
+ghost use Rattle.rad_shell.specs.Serving.{AddTurn, AddUp, exchange_count, is_exchanged, is_replied, no_sums, outcome_count, replied_count, turns_max, with_sums};
 
 use rad_round::Outcome;
 use std::fmt;
@@ -25,10 +25,8 @@ pub struct Served {
 
 impl Served {
     /// The sums of no turn.
-    pub(crate) fn nothing() -> Served
-        ensures sums { AddUp result }
-        ensures rounds { result.rounds ≡ 0 }
-        ensures exchanged { result.replies + result.busy ≡ 0 }
+    pub fn nothing() -> Served
+        ensures { result ≡ no_sums }
     {
         Served {
             rounds: 0,
@@ -39,6 +37,21 @@ impl Served {
             nomemory: 0,
             failed: 0,
         }
+    }
+
+    /// Adds what turns after these came to. A sum that would be greater than 2^64 - 1 is that.
+    pub fn add(&mut self, more: &Served)
+        ensures { self.new ≡ with_sums self.old more.now }
+    {
+        *self = Served {
+            rounds: self.rounds.saturating_add(more.rounds),
+            datagrams: self.datagrams.saturating_add(more.datagrams),
+            replies: self.replies.saturating_add(more.replies),
+            drops: self.drops.saturating_add(more.drops),
+            busy: self.busy.saturating_add(more.busy),
+            nomemory: self.nomemory.saturating_add(more.nomemory),
+            failed: self.failed.saturating_add(more.failed),
+        };
     }
 
     /// Adds a turn whose round is lost, with so many datagrams.

@@ -192,6 +192,7 @@ fn judge_turns<R: Threads + Wait + Sync>(
 ) -> &'static str {
     let mut random = ChaCha20Rng::from_seed([0; 32]);
     match run_rounds(service, rt, ports, &mut random, &OpenGate, TURNS, 1) {
+        Ok(served) if served.failed != ports.pauses() => "wrong: a lost turn without a pause",
         Ok(served) if SUMS.iter().any(|sums| is_sum(&served, sums)) => "right",
         Ok(_) => "wrong: other sums",
         Err(_) => "wrong: a fault",

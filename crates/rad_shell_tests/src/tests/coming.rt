@@ -29,7 +29,7 @@ pub(crate) fn is_after(mut source: ChaCha20Rng, draws: usize) -> bool {
     source.next_u64() == other.next_u64()
 }
 
-/// Makes so many turns, with two workers.
+/// Makes so many turns, with two workers allowed.
 pub(crate) fn serve<R: Threads + Wait + Sync>(
     rt: &R,
     service: &mut Service,

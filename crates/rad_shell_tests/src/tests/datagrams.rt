@@ -17,6 +17,16 @@ pub(crate) const NEMO: &[u8; 56] = b"\
     \x04\x06\xc0\xa8\x01\x10\
     \x05\x06\x00\x00\x00\x03";
 
+/// The Access-Accept of nemo in the first session, with the Message-Authenticator and the Response Authenticator.
+pub(crate) const NEMO_ACCEPTED: &[u8] = b"\
+    \x02\x00\x00\x46\
+    \xaa\x8b\x49\x5d\x82\x7f\x6e\x8b\x84\x5a\x63\x94\x35\x90\x31\x60\
+    \x50\x12\x4b\x9b\x7d\x66\xb7\x40\x49\xdd\x5d\xd7\x64\xf6\x7f\x03\x46\x1b\
+    \x06\x06\x00\x00\x00\x02\
+    \x07\x06\x00\x00\x00\x01\
+    \x08\x06\x0a\x00\x00\x01\
+    \x19\x0eRAP1\x00\x00\x00\x00\x00\x00\x00\x01";
+
 /// The Request Authenticator of each Access-Request: that of RFC 2865, section 7.1.
 const AUTHENTICATOR: &[u8; 16] =
     b"\x0f\x40\x3f\x94\x73\x97\x80\x57\xbd\x83\xd5\xcb\x98\xf4\x22\x7a";
@@ -26,6 +36,9 @@ const SECRET: &[u8; 9] = b"xyzzy5461";
 
 /// The address of the first client.
 pub(crate) const CLIENT: u32 = 0xC0A8_0110;
+
+/// The address of the second client.
+pub(crate) const SECOND_CLIENT: u32 = 0xC0A8_0114;
 
 /// An address that is no client's.
 pub(crate) const STRANGER: u32 = 0xC0A8_0111;
@@ -60,6 +73,19 @@ impl Sent {
             source: self.source(),
             port: self.port(),
             door: self.door(),
+            octets,
+        })
+    }
+
+    /// The datagram as it comes to ports in memory, if there is memory.
+    pub fn coming(&self, alloc: Global, moment: u64) -> Option<rad_shell::Datagram> {
+        let octets = self.octets(alloc)?;
+        Some(rad_shell::Datagram {
+            turn: 0,
+            address: self.source(),
+            port: self.port(),
+            door: self.door(),
+            moment,
             octets,
         })
     }

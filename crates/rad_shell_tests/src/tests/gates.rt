@@ -1,7 +1,7 @@
 use super::datagrams::Sent::Octets;
 use super::datagrams::{NEMO, Sent};
 use super::holds;
-use super::serving::{first_round, has_len};
+use super::serving::{begins_with_tags, first_round, has_len};
 use rad_shell::Gate;
 use std::sync::atomic::{AtomicU64, Ordering};
 use std::thread::yield_now;
@@ -52,6 +52,11 @@ impl Gate for Meeting {
 // Counts that one came, and waits for the other. Whether it came.
 fn meets(own: &AtomicU64, other: &AtomicU64) -> bool {
     own.fetch_add(1, Ordering::SeqCst);
+    sees(other)
+}
+
+// Waits for another batch. Whether it came.
+fn sees(other: &AtomicU64) -> bool {
     for _ in 0..TURNS {
         if other.load(Ordering::SeqCst) != 0 {
             return true;
@@ -63,22 +68,22 @@ fn meets(own: &AtomicU64, other: &AtomicU64) -> bool {
 
 /// A gate that counts the batches, each of which should come in its turn.
 #[derive(Drop)]
-struct InTurn {
+pub(crate) struct InTurn {
     passed: AtomicU64,
     /// How often another batch came than the next one.
     faults: AtomicU64,
 }
 
 impl InTurn {
-    fn new() -> InTurn {
+    pub fn new() -> InTurn {
         InTurn {
             passed: AtomicU64::new(0),
             faults: AtomicU64::new(0),
         }
     }
 
-    // Whether so many batches came, each in its turn.
-    fn has_passed(&self, count: u64) -> bool {
+    /// Whether so many batches came, each in its turn.
+    pub fn has_passed(&self, count: u64) -> bool {
         self.passed.load(Ordering::SeqCst) == count && self.faults.load(Ordering::SeqCst) == 0
     }
 }
@@ -86,6 +91,44 @@ impl InTurn {
 impl Gate for InTurn {
     fn pass(&self, batch: u64) {
         if self.passed.fetch_add(1, Ordering::SeqCst) != batch {
+            self.faults.fetch_add(1, Ordering::SeqCst);
+        }
+    }
+}
+
+/// A gate that holds the first of six batches until the last one has come, and the second until the first has come.
+#[derive(Drop)]
+struct LastFirst {
+    first: AtomicU64,
+    last: AtomicU64,
+    /// How often a batch didn't see the other one come.
+    faults: AtomicU64,
+}
+
+impl LastFirst {
+    fn new() -> LastFirst {
+        LastFirst {
+            first: AtomicU64::new(0),
+            last: AtomicU64::new(0),
+            faults: AtomicU64::new(0),
+        }
+    }
+
+    // Whether both batches saw the other one come.
+    fn was_held(&self) -> bool {
+        self.faults.load(Ordering::SeqCst) == 0
+    }
+}
+
+impl Gate for LastFirst {
+    fn pass(&self, batch: u64) {
+        let sees = match batch {
+            0 => meets(&self.first, &self.last),
+            1 => sees(&self.first),
+            5 => meets(&self.last, &self.first),
+            _ => true,
+        };
+        if !sees {
             self.faults.fetch_add(1, Ordering::SeqCst);
         }
     }
@@ -110,4 +153,16 @@ fn two_workers_have_a_batch_each_at_once(rt: HostRuntime) {
     let done = first_round(&rt, rt.alloc(), SENT, 2, &meeting, &[1]);
     holds(&rt, has_len(&done, 9, 9), "nine outcomes and entries");
     holds(&rt, meeting.was_held(), "each batch saw the other come");
+}
+
+// The second worker has the second, the fourth and the last batch. So while the first batch is held, two others are exchanged, the
+// latter of which wouldn't be before the first batch if that had its exchanges before its gate.
+#[test]
+fn a_batch_has_no_exchange_before_its_gate(rt: HostRuntime) {
+    const SIX: &[Sent] = &[V; 48];
+    const OTHERS: &[u64] = &[8, 9, 10, 11, 12, 13, 14, 15, 24, 25, 26, 27, 28, 29, 30, 31];
+    let last_first = LastFirst::new();
+    let done = first_round(&rt, rt.alloc(), SIX, 2, &last_first, &[1]);
+    holds(&rt, last_first.was_held(), "each batch saw the other come");
+    holds(&rt, begins_with_tags(&done, OTHERS), "the others first");
 }

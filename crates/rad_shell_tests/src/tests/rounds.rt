@@ -1,6 +1,6 @@
 use super::campus::CAMPUS;
 use super::datagrams::Sent::{Access, Account, Octets, Strange};
-use super::datagrams::{NEMO, START, STOP, Sent, starts};
+use super::datagrams::{NEMO, NEMO_ACCEPTED, START, STOP, Sent, starts};
 use super::holds;
 use super::serving::Wanted::{Accept, Busy, Dropped, Reject, Response};
 use super::serving::{
@@ -23,17 +23,8 @@ const SHORTER: Sent = Octets(
     b"\x01\x00\x00\x38\x0f\x40\x3f\x94\x73\x97\x80\x57\xbd\x83\xd5\xcb\x98\xf4\x22",
 );
 
-/// The Access-Accept of nemo in the first session, with the Message-Authenticator and the Response Authenticator.
-const ACCEPTED: Wanted = Wanted::Octets(
-    b"\
-    \x02\x00\x00\x46\
-    \xaa\x8b\x49\x5d\x82\x7f\x6e\x8b\x84\x5a\x63\x94\x35\x90\x31\x60\
-    \x50\x12\x4b\x9b\x7d\x66\xb7\x40\x49\xdd\x5d\xd7\x64\xf6\x7f\x03\x46\x1b\
-    \x06\x06\x00\x00\x00\x02\
-    \x07\x06\x00\x00\x00\x01\
-    \x08\x06\x0a\x00\x00\x01\
-    \x19\x0eRAP1\x00\x00\x00\x00\x00\x00\x00\x01",
-);
+/// The Access-Accept of nemo in the first session.
+const ACCEPTED: Wanted = Wanted::Octets(NEMO_ACCEPTED);
 
 /// A round: the moment, what is sent, the outcomes, the tags of the entries, the numbers of the sessions after it, and what it shows.
 /// No round has more than eight datagrams, so one worker has them all, and their order is known.

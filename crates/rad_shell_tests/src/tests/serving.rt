@@ -143,6 +143,21 @@ pub(crate) fn are_tags(done: &Option<Done>, wanted: &[u64]) -> bool {
     }
 }
 
+/// Whether the first entries of a round have these tags.
+pub(crate) fn begins_with_tags(done: &Option<Done>, wanted: &[u64]) -> bool {
+    match done {
+        Some(done) => {
+            done.history.len() >= wanted.len()
+                && done
+                    .history
+                    .iter()
+                    .zip(wanted)
+                    .all(|(entry, tag)| entry.tag == *tag)
+        }
+        None => false,
+    }
+}
+
 /// Whether a round has so many outcomes, each of which is as it must be, and so many entries.
 pub(crate) fn has_each(done: &Option<Done>, count: usize, wanted: Wanted) -> bool {
     match done {

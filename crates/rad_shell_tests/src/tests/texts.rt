@@ -51,6 +51,32 @@ fn sums_are_printed(rt: HostRuntime) -> Result<(), Fail> {
     Ok(())
 }
 
+#[test]
+fn sums_are_carried_on(rt: HostRuntime) {
+    const FIRST: Served = Served {
+        rounds: 1,
+        datagrams: 2,
+        replies: 3,
+        drops: 4,
+        busy: 5,
+        nomemory: 6,
+        failed: u64::MAX,
+    };
+    const BOTH: Served = Served {
+        rounds: 2,
+        datagrams: 4,
+        replies: 6,
+        drops: 8,
+        busy: 10,
+        nomemory: 12,
+        failed: u64::MAX,
+    };
+    let mut sums = Served::nothing();
+    sums.add(&FIRST);
+    sums.add(&FIRST);
+    holds(&rt, sums == BOTH, "twice the sums, or the last number");
+}
+
 // Whether the fault of a round is printed so.
 fn is_round_fault(alloc: Global, fault: RoundFault, text: &str) -> bool {
     match fault.to_string(alloc) {

@@ -1,6 +1,6 @@
 use Rattle.std.proofs.Common.{◌≡◌, ◌≤◌}
 use Rattle.rad_shell.specs.Serving.{AddUp, HasServed}
-use Rattle.rad_shell.proofs.serving.run_rounds.Given as goal
+use Rattle.rad_shell.proofs.turns.Turns.run.Given as goal
 
 abbrev pub invariant-loop : goal.invariant-loop
 invariant-loop g l =

@@ -4,7 +4,7 @@ use Rattle.rad_config.specs.Ranges.{IsConfiguration}
 use Rattle.rad_server.specs.Lawful.{IsLawful}
 use Rattle.rad_shell.proofs.ServingLemmas.{served_until}
 use Rattle.rad_shell.specs.Serving.{IsServed}
-use Rattle.rad_shell.proofs.serving.run_rounds.Goals as goal
+use Rattle.rad_shell.proofs.turns.Turns.run.Goals as goal
 
 pub returns-in_err-make_turn-clause-served : goal.returns-in_err-make_turn-clause-served
 returns-in_err-make_turn-clause-served g c =

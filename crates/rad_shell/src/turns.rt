@@ -1,0 +1,156 @@
+//! Turns: in each, datagrams are received, answered in a round, and their replies sent.
+ghost use Rattle.std.specs.Prelude.{◌≡◌, ◌≤◌, ◌<◌, IfErr, IfNone, IfOk, IfSome, IsSome, OnErr, vec_len};
+ghost use Rattle.rad_round.specs.Rounds.{workers_max};
+ghost use Rattle.rad_shell.specs.Serving.{AddUp, HasCause, IsRoundMade, IsServed, IsTurn, turns_max};
+
+use crate::ports::Ports;
+use crate::received::Received;
+use crate::serve_fault::ServeFault;
+use crate::served::Served;
+use rad_desk::Mismatch;
+use rad_round::{Done, Gate, RoundFault, Service};
+use rad_server::{runs_are_lawful, runs_repeat};
+use rand_core::Rng;
+use std::alloc::{AllocError, Global};
+use std::sync::Wait;
+use std::thread::Threads;
+
+/// The most workers of a turn's round. With more of them a round has taken longer.
+const WORKERS_THAT_PAY: u64 = 1;
+
+/// What turns have besides a service and its ports: the source of their draws, the gate of their rounds, and room for the datagrams of
+/// a turn, which each turn uses again.
+#[derive(Drop)]
+pub struct Turns<'a, D, G> {
+    random: &'a mut D,
+    gate: &'a G,
+    // None if its memory has been refused so far.
+    room: Option<Received>,
+}
+
+impl<'a, D: Rng, G: Gate + Sync> Turns<'a, D, G> {
+    /// Takes the room, so that no turn can be refused it.
+    pub fn open(
+        alloc: Global,
+        random: &'a mut D,
+        gate: &'a G,
+    ) -> Result<Turns<'a, D, G>, AllocError>
+        ensures { IfOk result (λ turns. IsSome turns.room) }
+    {
+        let room = Some(Received::new(alloc)?);
+        Ok(Turns { random, gate, room })
+    }
+
+    /// Turns whose first one takes the room. A turn that is refused it is lost, and the next one tries again.
+    pub(crate) fn without_room(random: &'a mut D, gate: &'a G) -> Turns<'a, D, G> {
+        Turns {
+            random,
+            gate,
+            room: None,
+        }
+    }
+
+    /// Answers the datagrams that come to ports, in so many turns, by at most so many workers, from 1 to `WORKERS_MAX`.
+    ///
+    /// A turn waits, receives until no datagram waits or there are `ARRIVALS_MAX`, takes 16 octets of the source for each datagram, in
+    /// order of arrival, makes a round of them, and sends the replies in that order. If memory is refused for a round, its datagrams
+    /// are lost, and after a pause the next turn goes on with the server as it was. A fault ends the turns: `ServeFault::Receive` or
+    /// `ServeFault::Send` if a port failed, `ServeFault::Mismatch` if a round did. The call may wait.
+    #[tactic(auto, using(crate::proofs::ServingLemmas::nothing_served, crate::proofs::ServingLemmas::one_more_turn, crate::proofs::ServingLemmas::served_all))]
+    pub fn run<R: Threads + Wait + Sync, P: Ports>(
+        &mut self,
+        rt: &R,
+        service: &mut Service,
+        ports: &mut P,
+        rounds: u32,
+        workers: u64,
+    ) -> Result<Served, ServeFault>
+        requires workers { (1 ≤ workers) × (workers ≤ workers_max) }
+        ensures served { IsServed rounds service.old result service.new }
+        ensures fault { IfErr result (HasCause (P.failures ports.old) (P.failures ports.new)) }
+        ensures counted { P.failures ports.old ≤ P.failures ports.new }
+    {
+        service.server().state_is_lawful();
+        runs_repeat();
+        runs_are_lawful();
+        let mut served = Served::nothing();
+        for _ in 0..rounds {
+            self.make_turn(rt, service, ports, workers, &mut served)?;
+        }
+        Ok(served)
+    }
+
+    // Makes a turn, and adds it to the sums.
+    #[tactic(auto, using(crate::proofs::ServingLemmas::lost_turn, crate::proofs::ServingLemmas::failed_turn, crate::proofs::ServingLemmas::made_turn, crate::proofs::ServingLemmas::unsent_turn))]
+    fn make_turn<R: Threads + Wait + Sync, P: Ports>(
+        &mut self,
+        rt: &R,
+        service: &mut Service,
+        ports: &mut P,
+        workers: u64,
+        served: &mut Served,
+    ) -> Result<(), ServeFault>
+        requires workers { (1 ≤ workers) × (workers ≤ workers_max) }
+        requires sums { AddUp served.old }
+        requires turns { served.old.rounds < turns_max }
+        ensures turn { IsTurn service.old served.old result service.new served.new }
+        ensures counted { P.failures ports.old ≤ P.failures ports.new }
+        ensures fault { IfErr result (HasCause (P.failures ports.old) (P.failures ports.new)) }
+    {
+        ports.wait(rt);
+        if self.room.is_none() {
+            self.room = Received::new(service.alloc()).ok();
+        }
+        let Turns { random, gate, room } = self;
+        let Some(received) = room else {
+            served.add_lost(0);
+            ports.pause();
+            return Ok(());
+        };
+        if received.receive(ports).is_err() {
+            return Err(ServeFault::Receive);
+        }
+        received.draw(*random);
+        let Ok(done) = answer(service, rt, received, *gate, workers) else {
+            return Err(ServeFault::Mismatch);
+        };
+        let Some(done) = done else {
+            served.add_lost(received.len());
+            ports.pause();
+            return Ok(());
+        };
+        served.add_outcomes(&done.outcomes);
+        if received.reply(ports, &done.outcomes).is_err() {
+            return Err(ServeFault::Send);
+        }
+        service.reuse(done);
+        Ok(())
+    }
+}
+
+// What a round of the received datagrams made; none if the round is lost.
+#[tactic(auto, using(crate::proofs::ServingLemmas::round_made))]
+fn answer<R: Threads + Wait + Sync, G: Gate + Sync>(
+    service: &mut Service,
+    rt: &R,
+    received: &Received,
+    gate: &G,
+    workers: u64,
+) -> Result<Option<Done>, Mismatch>
+    requires workers { (1 ≤ workers) × (workers ≤ workers_max) }
+    requires drawn { vec_len received.now.draws ≡ vec_len received.now.got }
+    ensures made { IfOk result (λ made. IfSome made (λ done.
+        IsRoundMade service.old done.outcomes.items service.new)) }
+    ensures lost { IfOk result (λ made. IfNone made (service.new ≡ service.old)) }
+    ensures unchanged { OnErr result (service.new ≡ service.old) }
+{
+    let Ok(arrivals) = received.arrivals(service.alloc()) else {
+        return Ok(None);
+    };
+    let workers = workers.min(WORKERS_THAT_PAY);
+    match service.round(rt, &arrivals, workers, gate) {
+        Ok(done) => Ok(Some(done)),
+        Err(RoundFault::Mismatch(mismatch)) => Err(mismatch),
+        Err(RoundFault::NoMemory | RoundFault::NoThread) => Ok(None),
+    }
+}
