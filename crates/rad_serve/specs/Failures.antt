@@ -8,18 +8,26 @@ use Rattle.rad_serve.specs.declared.failure.Failure.TheVariants.{WouldBlock, Dat
 abbrev pub would_block : ℕ
 would_block = 11
 
--- what concerns one datagram or one destination: EPERM, EINTR, ENOMEM, EACCES, EINVAL, ENONET, EMSGSIZE, ENETDOWN, ENETUNREACH,
--- ENOBUFS, ECONNREFUSED, EHOSTDOWN, EHOSTUNREACH
+-- what concerns one datagram: EINTR, ENOMEM, ENONET, ENETDOWN, ENETUNREACH, ENOBUFS, ECONNREFUSED, EHOSTDOWN, EHOSTUNREACH
 abbrev pub datagram_errors : List ℕ
-datagram_errors = 1 ∷ 4 ∷ 12 ∷ 13 ∷ 22 ∷ 64 ∷ 90 ∷ 100 ∷ 101 ∷ 105 ∷ 111 ∷ 112 ∷ 113 ∷ []
+datagram_errors = 4 ∷ 12 ∷ 64 ∷ 100 ∷ 101 ∷ 105 ∷ 111 ∷ 112 ∷ 113 ∷ []
 
-unfoldable pub failure_of_number : ℕ → Failure
-failure_of_number number =
+-- what concerns one destination, of a call that sends: EPERM, EACCES, EINVAL, EMSGSIZE
+abbrev pub destination_errors : List ℕ
+destination_errors = 1 ∷ 13 ∷ 22 ∷ 90 ∷ []
+
+unfoldable pub failure_of_receive : ℕ → Failure
+failure_of_receive number =
     if number == would_block then WouldBlock
     else if list_any (λ listed. listed == number) datagram_errors then Datagram
     else Socket
 
--- an error without a number isn't the system's
-unfoldable pub failure_of : Option ℤ → Failure
-failure_of None = Socket
-failure_of (Some number) = if int_lt number (pos 0) then Socket else failure_of_number (unsigned_abs number)
+unfoldable pub failure_of_send : ℕ → Failure
+failure_of_send number =
+    if list_any (λ listed. listed == number) destination_errors then Datagram
+    else failure_of_receive number
+
+-- what an error means whose number means this; one without a number isn't the system's
+unfoldable pub meaning : (ℕ → Failure) → Option ℤ → Failure
+meaning of_number None = Socket
+meaning of_number (Some number) = if int_lt number (pos 0) then Socket else of_number (unsigned_abs number)

@@ -1,7 +1,7 @@
 //! What a failed call on a socket means.
 ghost use Rattle.std.specs.Prelude.{◌≡◌};
 ghost use Rattle.std.specs.IoError.{raw_os_error};
-ghost use Rattle.rad_serve.specs.Failures.{failure_of, failure_of_number};
+ghost use Rattle.rad_serve.specs.Failures.{failure_of_receive, failure_of_send, meaning};
 
 use std::io;
 
@@ -16,33 +16,42 @@ pub enum Failure {
     Socket,
 }
 
-/// What the error of a call that receives or sends means.
+/// What the error of a call that receives means.
 ///
 /// Choice: docs/DECISIONS.md, "No datagram ends the server".
-#[tactic(auto, unfolding(crate::specs::Failures::failure_of))]
-pub fn failure_of(error: &io::Error) -> Failure
-    ensures { result ≡ failure_of (raw_os_error error.now) }
+#[tactic(auto, unfolding(crate::specs::Failures::meaning))]
+pub fn receive_failure(error: &io::Error) -> Failure
+    ensures { result ≡ meaning failure_of_receive (raw_os_error error.now) }
 {
     match error.raw_os_error() {
-        Some(number) if number >= 0 => failure_of_number(number.unsigned_abs()),
+        Some(number) if number >= 0 => failure_of_receive(number.unsigned_abs()),
         _ => Failure::Socket,
     }
 }
 
-// What an error number of Linux means.
-#[tactic(auto, unfolding(crate::specs::Failures::failure_of_number))]
-fn failure_of_number(number: u32) -> Failure
-    ensures { result ≡ failure_of_number number }
+/// What the error of a call that sends means.
+///
+/// Choice: docs/DECISIONS.md, "No datagram ends the server".
+#[tactic(auto, unfolding(crate::specs::Failures::meaning))]
+pub fn send_failure(error: &io::Error) -> Failure
+    ensures { result ≡ meaning failure_of_send (raw_os_error error.now) }
+{
+    match error.raw_os_error() {
+        Some(number) if number >= 0 => failure_of_send(number.unsigned_abs()),
+        _ => Failure::Socket,
+    }
+}
+
+// What an error number of Linux means to a call that receives.
+#[tactic(auto, unfolding(crate::specs::Failures::failure_of_receive))]
+fn failure_of_receive(number: u32) -> Failure
+    ensures { result ≡ failure_of_receive number }
 {
     match number {
         EAGAIN => Failure::WouldBlock,
-        EPERM
-        | EINTR
+        EINTR
         | ENOMEM
-        | EACCES
-        | EINVAL
         | ENONET
-        | EMSGSIZE
         | ENETDOWN
         | ENETUNREACH
         | ENOBUFS
@@ -50,6 +59,17 @@ fn failure_of_number(number: u32) -> Failure
         | EHOSTDOWN
         | EHOSTUNREACH => Failure::Datagram,
         _ => Failure::Socket,
+    }
+}
+
+// What it means to a call that sends, which may also fail for where it sends to.
+#[tactic(auto, unfolding(crate::specs::Failures::failure_of_send))]
+fn failure_of_send(number: u32) -> Failure
+    ensures { result ≡ failure_of_send number }
+{
+    match number {
+        EPERM | EACCES | EINVAL | EMSGSIZE => Failure::Datagram,
+        _ => failure_of_receive(number),
     }
 }
 

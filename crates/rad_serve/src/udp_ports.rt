@@ -3,7 +3,7 @@ ghost use Rattle.std.specs.Prelude.{◌≡◌, ◌≤◌, ◌<◌, IfErr, IfOk, 
 ghost use Rattle.rad_config.specs.Spans.{moment_max};
 ghost use Rattle.rad_shell.specs.Serving.{IsReceived};
 
-use crate::failure::{Failure, failure_of};
+use crate::failure::{Failure, receive_failure, send_failure};
 use crate::receive_buffer::ask_for_room;
 use mio::net::UdpSocket;
 use mio::{Events, Interest, Poll, Token};
@@ -51,7 +51,7 @@ impl From<io::Error> for BindFault {
 /// The two UDP sockets of a server, and the clock that tells when a datagram came.
 ///
 /// The authentication socket is emptied before the accounting socket. Each failed call is counted, except one that only would have
-/// to wait; those that concern one datagram aren't reported as faults (`failure_of`).
+/// to wait; those that concern one datagram aren't reported as faults (`receive_failure`, `send_failure`).
 #[derive(Drop)]
 pub struct UdpPorts<'r, C> {
     clock: &'r C,
@@ -117,11 +117,11 @@ impl<'r, C: Clock> UdpPorts<'r, C> {
     }
 
     // Counts a failed call, and reports it if the socket can't be used.
-    fn judge(&mut self, error: &io::Error) -> Result<(), PortFault>
+    fn judge(&mut self, failure: Failure) -> Result<(), PortFault>
         ensures counted { self.old.failures ≤ self.new.failures }
         ensures fault { IfErr result (λ _. self.old.failures < self.new.failures) }
     {
-        match failure_of(error) {
+        match failure {
             Failure::WouldBlock => Ok(()),
             Failure::Datagram => {
                 self.count();
@@ -164,10 +164,11 @@ impl<'r, C: Clock> UdpPorts<'r, C> {
             })),
             Ok(_) => Ok(None),
             Err(error) => {
-                if failure_of(&error) == Failure::WouldBlock {
+                let failure = receive_failure(&error);
+                if failure == Failure::WouldBlock {
                     self.set_may(door, false);
                 }
-                self.judge(&error)?;
+                self.judge(failure)?;
                 Ok(None)
             }
         }
@@ -222,7 +223,7 @@ impl<'r, C: Clock> Ports for UdpPorts<'r, C> {
         let to = SocketAddrV4::new(Ipv4Addr::from_bits(address), port);
         match self.socket(door).send_to(octets, SocketAddr::V4(to)) {
             Ok(_) => Ok(()),
-            Err(error) => self.judge(&error),
+            Err(error) => self.judge(send_failure(&error)),
         }
     }
 
