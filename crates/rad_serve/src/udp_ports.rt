@@ -1,5 +1,5 @@
 //! The authentication port and the accounting port as UDP sockets.
-ghost use Rattle.std.specs.Prelude.{◌≡◌, ◌≤◌, ◌<◌, IfErr, IfOk, IfSome, IsTrue};
+ghost use Rattle.std.specs.Prelude.{◌≡◌, ◌≤◌, ◌<◌, IfErr, IfOk, IfSome, IsTrue, true};
 ghost use Rattle.rad_config.specs.Spans.{moment_max};
 ghost use Rattle.rad_shell.specs.Serving.{IsReceived};
 
@@ -59,10 +59,14 @@ pub struct UdpPorts<'r, C> {
     events: Events,
     auth: UdpSocket,
     acct: UdpSocket,
+    auth_port: u16,
+    acct_port: u16,
     // Whether a socket may have a datagram. The system tells of a datagram once, so only a call that would block clears the mark:
     // with another rule a datagram that is left over would wait for the next one.
     auth_may: bool,
     acct_may: bool,
+    // Whether a datagram was received since the last wait. If none was, although a mark stands, a receive is refused again and again.
+    has_received: bool,
     failures: u64,
 }
 
@@ -74,18 +78,29 @@ impl<'r, C: Clock> UdpPorts<'r, C> {
     {
         let events = Events::with_capacity(rt.alloc(), 2)?;
         let poll = Poll::new(rt)?;
-        let auth = bind_socket(rt, &poll, AUTH, address, auth)?;
-        let acct = bind_socket(rt, &poll, ACCT, address, acct)?;
+        let (auth, auth_port) = bind_socket(rt, &poll, AUTH, address, auth)?;
+        let (acct, acct_port) = bind_socket(rt, &poll, ACCT, address, acct)?;
         Ok(UdpPorts {
             clock: rt,
             poll,
             events,
             auth,
             acct,
+            auth_port,
+            acct_port,
             auth_may: true,
             acct_may: true,
+            has_received: false,
             failures: 0,
         })
+    }
+
+    /// The port that a socket is bound to, which is never 0.
+    pub fn port(&self, door: Door) -> u16 {
+        match door {
+            Door::Auth => self.auth_port,
+            Door::Acct => self.acct_port,
+        }
     }
 
     fn socket(&self, door: Door) -> &UdpSocket {
@@ -132,11 +147,11 @@ impl<'r, C: Clock> UdpPorts<'r, C> {
         }
     }
 
-    // The moment, in milliseconds since 1970.
+    // The moment, in milliseconds by a clock that goes on whatever time it is set to. Its zero is the system's choice.
     fn moment(&self) -> u64
         ensures { result ≤ moment_max }
     {
-        match self.clock.since_1970() {
+        match self.clock.monotonic() {
             Ok(time) => u64::try_from(time.as_millis())
                 .unwrap_or(MOMENT_MAX)
                 .min(MOMENT_MAX),
@@ -151,17 +166,23 @@ impl<'r, C: Clock> UdpPorts<'r, C> {
         room: &mut [u8; RECEIVED_MAX],
     ) -> Result<Option<Got>, PortFault>
         ensures received { IfOk result (λ got. IfSome got IsReceived) }
+        ensures auth { IfOk result (λ got. IfSome got (λ _. self.new.auth_may ≡ self.old.auth_may)) }
+        ensures acct { IfOk result (λ got. IfSome got (λ _. self.new.acct_may ≡ self.old.acct_may)) }
+        ensures noted { IfOk result (λ got. IfSome got (λ _. self.new.has_received ≡ true)) }
         ensures counted { self.old.failures ≤ self.new.failures }
         ensures fault { IfErr result (λ _. self.old.failures < self.new.failures) }
     {
         match self.socket(door).recv_from(room) {
-            Ok((len, SocketAddr::V4(source))) => Ok(Some(Got {
-                source: source.ip().to_bits(),
-                port: source.port(),
-                door,
-                len,
-                moment: self.moment(),
-            })),
+            Ok((len, SocketAddr::V4(source))) => {
+                self.has_received = true;
+                Ok(Some(Got {
+                    source: source.ip().to_bits(),
+                    port: source.port(),
+                    door,
+                    len,
+                    moment: self.moment(),
+                }))
+            }
             Ok(_) => Ok(None),
             Err(error) => {
                 let failure = receive_failure(&error);
@@ -173,18 +194,17 @@ impl<'r, C: Clock> UdpPorts<'r, C> {
             }
         }
     }
-}
 
-impl<'r, C: Clock> Ports for UdpPorts<'r, C> {
-    ghost failures = { λ ports. ports.failures };
-
-    fn wait<R: Wait>(&mut self, _rt: &R) {
-        if self.auth_may || self.acct_may {
-            return;
-        }
+    // Waits for an event of a socket, for a second at most, and marks that socket. If the wait fails nobody knows what has come, so
+    // both are marked.
+    fn wait_for_event(&mut self)
+        ensures { self.old.failures ≤ self.new.failures }
+    {
         let second = Duration::from_secs(WAIT_SECONDS);
         if self.poll.poll(&mut self.events, Some(second)).is_err() {
             self.count();
+            self.auth_may = true;
+            self.acct_may = true;
             self.clock.sleep(second);
             return;
         }
@@ -194,6 +214,18 @@ impl<'r, C: Clock> Ports for UdpPorts<'r, C> {
             } else {
                 self.acct_may = true;
             }
+        }
+    }
+}
+
+impl<'r, C: Clock> Ports for UdpPorts<'r, C> {
+    ghost failures = { λ ports. ports.failures };
+
+    fn wait<R: Wait>(&mut self, _rt: &R) {
+        let may_have_more = self.has_received && (self.auth_may || self.acct_may);
+        self.has_received = false;
+        if !may_have_more {
+            self.wait_for_event();
         }
     }
 
@@ -232,18 +264,19 @@ impl<'r, C: Clock> Ports for UdpPorts<'r, C> {
     }
 }
 
-// A bound socket, of whose datagrams the poll tells.
+// A bound socket, of whose datagrams the poll tells, and its port.
 fn bind_socket<R: Net>(
     rt: &R,
     poll: &Poll,
     token: Token,
     address: u32,
     port: u16,
-) -> io::Result<UdpSocket> {
+) -> io::Result<(UdpSocket, u16)> {
     let address = SocketAddrV4::new(Ipv4Addr::from_bits(address), port);
     let mut socket = UdpSocket::bind(rt, SocketAddr::V4(address))?;
     poll.registry()
         .register(&mut socket, token, Interest::READABLE)?;
     ask_for_room(&socket);
-    Ok(socket)
+    let port = socket.local_addr()?.port();
+    Ok((socket, port))
 }

@@ -8,7 +8,8 @@ use std::net::{Net, UdpSocket};
 use std::process::Abort;
 use std::sync::Wait;
 use std::test::Fail;
-use std::time::Clock;
+use std::thread::sleep;
+use std::time::{Clock, Duration};
 
 // The door of the next datagram, and how long it is.
 fn received(got: Result<Option<Got>, PortFault>) -> Option<(Door, usize)> {
@@ -41,6 +42,110 @@ fn the_authentication_port_is_first(rt: HostRuntime) -> Result<(), Fail> {
     let client = client(&rt)?;
     let mut ports = UdpPorts::bind(&rt, LOOPBACK, 18124, 18125)?;
     empties_auth_first(&rt, &mut ports, &client);
+    Ok(())
+}
+
+// After each wait that an event ends, the socket that has the datagram is looked at, and then the other one, until both are empty.
+fn wakes_up<R: Abort + Wait, P: Ports>(
+    rt: &R,
+    ports: &mut P,
+    client: &UdpSocket,
+    auth: u16,
+    acct: u16,
+) {
+    for (port, door) in [(acct, Door::Acct), (auth, Door::Auth), (acct, Door::Acct)].iter() {
+        holds(rt, sends(client, *port, b"woken"), "a datagram to a port");
+        ports.wait(rt);
+        next_is(rt, ports, Some((*door, 5)), "from that port");
+        next_is(rt, ports, None, "no other");
+    }
+    holds(rt, ports.faults() == 0, "nothing has failed");
+}
+
+#[test]
+fn each_port_wakes_an_idle_server_up(rt: HostRuntime) -> Result<(), Fail> {
+    let client = client(&rt)?;
+    let mut ports = UdpPorts::bind(&rt, LOOPBACK, 0, 0)?;
+    let (auth, acct) = (ports.port(Door::Auth), ports.port(Door::Acct));
+    holds(&rt, auth != 0 && acct != 0, "the system's ports");
+    wakes_up(&rt, &mut ports, &client, auth, acct);
+    Ok(())
+}
+
+// The moment of the next datagram.
+fn moment<R: Wait, P: Ports>(rt: &R, ports: &mut P) -> Option<u64> {
+    let mut room = [0; RECEIVED_MAX];
+    ports.wait(rt);
+    match ports.receive(&mut room) {
+        Ok(Some(got)) => Some(got.moment),
+        _ => None,
+    }
+}
+
+// How many milliseconds lie between two datagrams, the second of which is sent 20 after the first was received.
+fn between<R: Clock + Wait, P: Ports>(
+    rt: &R,
+    ports: &mut P,
+    client: &UdpSocket,
+    auth: u16,
+) -> Option<u64> {
+    if !sends(client, auth, b"first") {
+        return None;
+    }
+    let first = moment(rt, ports)?;
+    sleep(rt, Duration::from_millis(20));
+    if !sends(client, auth, b"second") {
+        return None;
+    }
+    moment(rt, ports)?.checked_sub(first)
+}
+
+#[test]
+fn moments_are_milliseconds(rt: HostRuntime) -> Result<(), Fail> {
+    let client = client(&rt)?;
+    let mut ports = UdpPorts::bind(&rt, LOOPBACK, 0, 0)?;
+    let auth = ports.port(Door::Auth);
+    let between = between(&rt, &mut ports, &client, auth);
+    holds(
+        &rt,
+        between.is_some_and(|span| span >= 15 && span <= 5_000),
+        "some 20 milliseconds",
+    );
+    Ok(())
+}
+
+// How many milliseconds a wait takes, after one of two datagrams was received; then, how many a pause takes.
+fn wait_and_pause<R: Clock + Wait, P: Ports>(
+    rt: &R,
+    ports: &mut P,
+    client: &UdpSocket,
+    auth: u16,
+) -> Option<(u128, u128)> {
+    if !sends(client, auth, b"first") || !sends(client, auth, b"second") {
+        return None;
+    }
+    moment(rt, ports)?;
+    let begin = rt.monotonic().ok()?;
+    ports.wait(rt);
+    let middle = rt.monotonic().ok()?;
+    ports.pause();
+    let end = rt.monotonic().ok()?;
+    let waited = middle.checked_sub(begin)?.as_millis();
+    Some((waited, end.checked_sub(middle)?.as_millis()))
+}
+
+// What is left over is received without a wait.
+#[test]
+fn a_wait_is_short_and_a_pause_long(rt: HostRuntime) -> Result<(), Fail> {
+    let client = client(&rt)?;
+    let mut ports = UdpPorts::bind(&rt, LOOPBACK, 0, 0)?;
+    let auth = ports.port(Door::Auth);
+    let took = wait_and_pause(&rt, &mut ports, &client, auth);
+    holds(
+        &rt,
+        took.is_some_and(|(waited, paused)| waited < 500 && paused >= 900),
+        "no wait, and a pause of a second",
+    );
     Ok(())
 }
 
