@@ -19,8 +19,8 @@ pub struct Options {
     /// The accounting port.
     pub acct: u16,
     pub workers: Workers,
-    /// The turns to make.
-    pub rounds: u32,
+    /// The turns to make; without it serving goes on.
+    pub rounds: Option<u32>,
 }
 
 /// How many threads answer a round at most, from 1 to `WORKERS_MAX`. Contracts see the number.

@@ -74,8 +74,8 @@ const SERVE_OPTIONS: &[Valued] = &[
     Valued {
         name: "rounds",
         value: "N",
-        help: "The turns to make, 1 to 4294967295, each of which waits a second at most",
-        absent: Absent::Value("4294967295"),
+        help: "The turns to make, 1 to 4294967295, each of which waits a second at most [default: no end]",
+        absent: Absent::Nothing,
         parser: ValueParser::Unsigned(1, 4_294_967_295),
     },
 ];
@@ -89,7 +89,7 @@ pub struct Serve<'a> {
     auth: u16,
     acct: u16,
     workers: u64,
-    rounds: u32,
+    rounds: Option<u32>,
 }
 
 impl<'a> Serve<'a> {
@@ -102,7 +102,7 @@ impl<'a> Serve<'a> {
             auth: found.get_one::<u16>("auth")?,
             acct: found.get_one::<u16>("acct")?,
             workers: found.get_one::<u64>("workers")?,
-            rounds: found.get_one::<u32>("rounds")?,
+            rounds: found.get_one::<u32>("rounds"),
         })
     }
 

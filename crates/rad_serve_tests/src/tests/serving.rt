@@ -42,7 +42,7 @@ fn options(alloc: Global, config: &str, seed: &str, auth: u16) -> Option<Options
         auth,
         acct: auth.saturating_add(1),
         workers: Workers::new(1)?,
-        rounds: 1,
+        rounds: Some(1),
     })
 }
 
