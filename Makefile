@@ -24,13 +24,14 @@ refused-memory: demo
 	cd crates/refused_rounds && rt run > /dev/null
 	trials/refused_memory/run
 
-# Sends requests over loopback to the program that `make demo` leaves. It needs Python 3.
-udp:
+# Serves over loopback with radpool, and judges what it answers and prints, also where the system refuses calls. It needs Python 3
+# and cc.
+udp: demo
 	trials/udp/run
 
 # Proves everything from nothing, tries the must-fail edits, and runs the tests and the programs. The run of radpool is the
 # example, and the list in docs/PROVED.md is the one that docs/definitions makes. Then the executables are tried: radpool with many
-# command lines, and radpool make, refused_memory and refused_rounds with each of their allocations refused in turn.
+# command lines and over UDP, and radpool make, refused_memory and refused_rounds with each of their allocations refused in turn.
 test:
 	@cmp examples/requests.txt crates/radpool/stdin
 	@cmp examples/requests.expected crates/radpool/stdout
@@ -38,3 +39,4 @@ test:
 	@rt ci
 	@trials/command/run > /dev/null
 	@trials/refused_memory/run > /dev/null
+	@trials/udp/run
