@@ -20,7 +20,7 @@ enum {
     AUTH = 18130,
     ACCT = 18131,
     SOCKETS = 8,
-    SOME = 128,     // requests that wait for a reply: fewer than a turn of two workers has
+    SOME = 128,     // requests that wait for a reply
     SLOTS = 512,    // the most
     BLOCK = 16,
     HEADER = 20,
@@ -262,22 +262,22 @@ static void write_file(const char *name, const char *octets, size_t len) {
     }
 }
 
-// A server with so many workers; with none, the responder.
-static pid_t begin_server(const char *radpool, const char *workers) {
+// A server; without a path of one, the responder.
+static pid_t begin_server(const char *radpool) {
     pid_t child = fork();
     if (child != 0) {
         return child;
     }
     prctl(PR_SET_PDEATHSIG, SIGKILL);
     alarm(120);
-    if (!workers) {
+    if (!radpool) {
         run_responder();
     }
     if (!freopen("/dev/null", "w", stdout)) {
         _exit(1);
     }
     execl(radpool, radpool, "serve", "--config", in_folder("toml"), "--seed", in_folder("seed"), "--auth", "18130", "--acct", "18131",
-          "--workers", workers, (char *)NULL);
+          (char *)NULL);
     _exit(1);
 }
 
@@ -311,9 +311,9 @@ struct figures {
     double one_p50, one_p99, a_second, p50, p99, processor, most_a_second;
 };
 
-static struct figures measure(const char *radpool, const char *workers, uint32_t sessions, int count) {
+static struct figures measure(const char *radpool, uint32_t sessions, int count) {
     struct figures found;
-    pid_t server = begin_server(radpool, workers);
+    pid_t server = begin_server(radpool);
     wait_for_server();
     grant(sessions);
     load(WARM, SLOTS);
@@ -343,11 +343,9 @@ static void print_row(const char *name, uint32_t sessions, struct figures f, str
 }
 
 static void print_rows(const char *radpool, uint32_t sessions, int count) {
-    struct figures null = measure(radpool, NULL, 0, MOST);
+    struct figures null = measure(NULL, 0, MOST);
     print_row("responder", 0, null, null);
-    print_row("radpool, 1 worker", sessions, measure(radpool, "1", sessions, count), null);
-    print_row("radpool, 2 workers", sessions, measure(radpool, "2", sessions, count), null);
-    print_row("radpool, 4 workers", sessions, measure(radpool, "4", sessions, count), null);
+    print_row("radpool", sessions, measure(radpool, sessions, count), null);
 }
 
 int main(int argc, char **argv) {
