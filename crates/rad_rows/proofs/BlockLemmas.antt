@@ -1,0 +1,75 @@
+use Rattle.std.proofs.Common.{zero, suc, true, false, cond, remove, subst, sym, Result, Ok, Err, OnOk, ◌≡◌, ℕ, ◌+◌, ◌≤◌, ◌<◌, List, [], ◌∷◌, ◌++◌, Bool, arith, refl, ap, ◌∙◌, filter, take, get_or, length, set, ltb}
+use Rattle.std.specs.List.{All, FoldsTo}
+use Rattle.std.proofs.lemmas.List.{take_more, take_all}
+use Rattle.std.proofs.lemmas.List.Sums.{length-filter, count_by-le-length}
+use Rattle.std.proofs.lemmas.List.Elements.{All-weaker, All-head, All-tail, All-push, All-set}
+use Rattle.std.proofs.lemmas.Bool.{lt-ltb}
+use Rattle.rad_rows.specs.Blocks.{LivesUntil, SeenBlock, with_rows}
+use Rattle.rad_rows.specs.Rows.{is_dead, moment_max}
+
+module _ {T S : Type 0} (live : S → ℕ → T → Bool) (spans : S) where
+  -- what lives to a moment lives to an earlier one
+  pub lives_less : (late early : ℕ) (row : T) → early ≤ late → LivesUntil live spans late row → LivesUntil live spans early row
+  lives_less late early row le h = record { lives = λ now lt small. h.lives now (omega arith) small }
+
+  pub all_lives_less : (late early : ℕ) (rows : List T) → early ≤ late → All (LivesUntil live spans late) rows → All (LivesUntil live spans early) rows
+  all_lives_less late early rows le h = All-weaker (LivesUntil live spans late) (LivesUntil live spans early) (λ row k. lives_less late early row le k) rows h
+
+  -- nothing goes where all rows are live
+  pub filter_live : (bound now : ℕ) (rows : List T) → now < bound → now ≤ moment_max → All (LivesUntil live spans bound) rows → filter (live spans now) rows ≡ rows
+  filter_live bound now [] lt small h = refl
+  filter_live bound now (row ∷ rows) lt small h =
+      rw ((All-head (LivesUntil live spans bound) row rows h).lives now lt small) (ap (λ xs. row ∷ xs) (filter_live bound now rows lt small (All-tail (LivesUntil live spans bound) row rows h)))
+
+  -- and nothing is told
+  pub none_dead : (bound now : ℕ) (rows : List T) → now < bound → now ≤ moment_max → All (LivesUntil live spans bound) rows → filter (is_dead live spans now) rows ≡ []
+  none_dead bound now [] lt small h = refl
+  none_dead bound now (row ∷ rows) lt small h =
+      rw ((All-head (LivesUntil live spans bound) row rows h).lives now lt small) (none_dead bound now rows lt small (All-tail (LivesUntil live spans bound) row rows h))
+
+  -- one more row, and an earlier moment
+  pub lives_more : (bound last early : ℕ) (rows : List T) (row : T) → early ≤ bound → early ≤ last → All (LivesUntil live spans bound) rows → LivesUntil live spans last row → All (LivesUntil live spans early) (rows ++ row ∷ [])
+  lives_more bound last early rows row le le' h k =
+      All-push (LivesUntil live spans early) rows row (all_lives_less bound early rows le h) (lives_less last early row le' k)
+
+  pub rows_more : (bound last early : ℕ) (xs : List T) (i : ℕ) (d : T) → i < length xs → early ≤ bound → early ≤ last → All (LivesUntil live spans bound) (take i xs) → LivesUntil live spans last (get_or xs i d) → All (LivesUntil live spans early) (take (i + 1) xs)
+  rows_more bound last early xs i d lt le le' h k = rw (take_more xs i d lt) (lives_more bound last early (take i xs) (get_or xs i d) le le' h k)
+
+  -- a row in the place of another, and an earlier moment
+  pub lives_set : (bound early : ℕ) (xs : List T) (i : ℕ) (row : T) → early ≤ bound → All (LivesUntil live spans bound) xs → LivesUntil live spans early row → All (LivesUntil live spans early) (set xs i row)
+  lives_set bound early xs i row le h k = All-set (LivesUntil live spans early) xs i row k (all_lives_less bound early xs le h)
+
+pub all_at_end : {X : Type 0} (P : X → Type 0) (xs : List X) (i : ℕ) → length xs ≤ i → All P (take i xs) → All P xs
+all_at_end P xs i le h = rw (take_all i xs le) at h
+
+pub same_rows : {T S : Type 0} (block : SeenBlock T S) (xs : List T) → xs ≡ block.rows → block ≡ with_rows block xs
+same_rows block xs e = rw e refl
+
+-- a row lives until its end
+pub lives_to_end : {T S : Type 0} (live : S → ℕ → T → Bool) (spans : S) (bound : ℕ) (row : T) → ((now : ℕ) → now ≤ moment_max → live spans now row ≡ ltb now bound) → LivesUntil live spans bound row
+lives_to_end live spans bound row h = record { lives = λ now lt small. h now small ∙ lt-ltb now bound lt }
+
+-- what an `Ok` says more
+pub on_ok : {X E : Type 0} {P Q : Type 0} (r : Result X E) → (P → Q) → OnOk r P → OnOk r Q
+on_ok (Ok x) f h = f h
+on_ok (Err e) f h = tt
+
+-- told of some, and then of others
+pub folds_join : {G T : Type 0} (step : G → T → G → Type 0) (xs ys : List T) (p q r : G) → FoldsTo step p xs q → FoldsTo step q ys r → FoldsTo step p (xs ++ ys) r
+folds_join step [] ys p q r h k = subst (λ g. FoldsTo step g ys r) (sym h) k
+folds_join step (x ∷ xs) ys p q r h k = (h.0, h.1, folds_join step xs ys h.0 q r h.2 k)
+
+-- a row goes that doesn't pass
+pub filter_removed : {T : Type 0} (q : T → Bool) (xs : List T) (i : ℕ) (x : T) → i < length xs → x ≡ get_or xs i x → q x ≡ false → filter q (remove xs i) ≡ filter q xs
+filter_removed q [] i x lt is fails = absurd (omega arith)
+filter_removed q (y ∷ ys) zero x lt is fails = sym (ap (λ b. cond b (y ∷ filter q ys) (filter q ys)) (ap q (sym is) ∙ fails))
+filter_removed q (y ∷ ys) (suc i) x lt is fails = λ j. cond (q y) (y ∷ filter_removed q ys i x (omega arith) is fails j) (filter_removed q ys i x (omega arith) is fails j)
+
+-- where as many are left, all are left
+pub all_left : {T : Type 0} (p : T → Bool) (xs : List T) → length (filter p xs) ≡ length xs → filter p xs ≡ xs
+all_left p [] e = refl
+all_left p (x ∷ xs) e = by_test (p x) refl (all_left p xs)
+  where
+    by_test : (b : Bool) → p x ≡ b → (length (filter p xs) ≡ length xs → filter p xs ≡ xs) → filter p (x ∷ xs) ≡ x ∷ xs
+    by_test true is rest = rw (is) (ap (λ l. x ∷ l) (rest (omega (arith, rw (is) at e))))
+    by_test false is rest = absurd (omega (arith, rw (is) at e, length-filter p xs, count_by-le-length p xs))

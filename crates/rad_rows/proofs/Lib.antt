@@ -1,0 +1,6 @@
+pub mod BlockLemmas
+pub mod EntryLemmas
+pub mod PlaceLemmas
+pub mod LastLemmas
+pub mod RowsLemmas
+pub mod OrderLemmas

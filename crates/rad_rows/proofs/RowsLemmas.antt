@@ -1,0 +1,225 @@
+use Rattle.std.proofs.Common.{◌≡◌, ℕ, ◌+◌, ◌-◌, ◌≤◌, ◌<◌, List, [], ◌∷◌, ◌++◌, Bool, true, false, arith, refl, ap, ◌∙◌, sym, filter, map, subst, length, eqb, ltb, cond, ◌&&◌, Option, Some, None, slice_get, get_or}
+use Rattle.std.specs.List.{All, FoldsTo}
+use Rattle.std.specs.Map.{keys_of}
+use Rattle.std.specs.Option.{option_map}
+use Rattle.std.proofs.lemmas.Bool.{eqb-true, ltb-true, lt-ltb}
+use Rattle.std.proofs.lemmas.List.{get_or-map, map-append, length-map}
+use Rattle.std.proofs.lemmas.List.Elements.{All-weaker, All-head, All-tail, All-push, All-filter, All-map, filter-append}
+use Rattle.std.proofs.lemmas.List.Quantifiers.{all_pairs_push}
+use Rattle.std.proofs.lemmas.List.Kept.{AllPairs-filter}
+use Rattle.std.proofs.lemmas.List.Sums.{length-filter, count_by-le-length}
+use Rattle.std.proofs.lemmas.Option.{slice_get-map}
+use Rattle.rad_rows.specs.Blocks.{LivesUntil, SeenBlock, block_changed, block_without, cut_block}
+use Rattle.rad_rows.specs.Entries.{Ascends, BelongsTo, EntryLives, HasSpans, IsConsistent, IsPlaced, IsSound, IsUpTo, all_rows, has_room_at, has_rows, is_roomy, key_of, on_block, on_blocks}
+use Rattle.rad_rows.specs.Rows.{IsBefore, IsGiven, IsRising, Tells, change_row, has_other, is_dead, moment_max}
+use Rattle.rad_rows.proofs.BlockLemmas.{filter_live, none_dead}
+
+changed_number : {T : Type 0} (number : T → ℕ) (n : ℕ) (to : T → T) → ((row : T) → number (to row) ≡ number row) → (row : T) → number (change_row number n to row) ≡ number row
+changed_number number n to keeps row = elim (eqb (number row) n) as (λ b. number (cond b (to row) row) ≡ number row) [ true ↦ keeps row | false ↦ refl ]
+
+pub placed_changed : {T : Type 0} (number : T → ℕ) (n : ℕ) (to : T → T) → ((row : T) → number (to row) ≡ number row) → (key : ℕ) (rows : List T) → All (BelongsTo number key) rows → All (BelongsTo number key) (map (change_row number n to) rows)
+placed_changed number n to keeps key rows h =
+    All-map (BelongsTo number key) (change_row number n to) rows (All-weaker (BelongsTo number key) (λ row. BelongsTo number key (change_row number n to row))
+    (λ row k. record { belongs = ap key_of (changed_number number n to keeps row) ∙ k.belongs }) rows h)
+
+-- ---- the order of the rows
+
+pub rising_filter : {T : Type 0} (number : T → ℕ) (last : ℕ) (p : T → Bool) (rows : List T) → IsRising number last rows → IsRising number last (filter p rows)
+rising_filter number last p rows h = record { given = All-filter p (IsGiven number last) rows h.given; rising = AllPairs-filter (IsBefore number) p rows h.rising }
+
+pub rising_later : {T : Type 0} (number : T → ℕ) (last late : ℕ) (rows : List T) → last ≤ late → IsRising number last rows → IsRising number late rows
+rising_later number last late rows le h = record { given = All-weaker (IsGiven number last) (IsGiven number late) (λ row k. record { one = k.one; le = omega (arith, k.le, le) }) rows h.given; rising = h.rising }
+
+pub rising_changed : {T : Type 0} (number : T → ℕ) (last n : ℕ) (to : T → T) → ((row : T) → number (to row) ≡ number row) → (rows : List T) → IsRising number last rows → IsRising number last (map (change_row number n to) rows)
+rising_changed number last n to same rows h = record {
+  given = All-map (IsGiven number last) (change_row number n to) rows
+      (All-weaker (IsGiven number last) (λ row. IsGiven number last (change_row number n to row)) (λ row k. record { one = omega (arith, k.one, changed_number number n to same row); le = omega (arith, k.le, changed_number number n to same row) }) rows h.given);
+  rising = λ i j d lt within.
+      let f = change_row number n to in
+      let short : j < length rows = omega (arith, length-map rows f) in
+      let row = get_or rows i d in
+      let other = get_or rows j d in
+      let one : get_or (map f rows) i d ≡ f row = get_or-map f rows i d d (omega arith) in
+      let two : get_or (map f rows) j d ≡ f other = get_or-map f rows j d d short in
+      record { lt = omega (arith, (h.rising i j d lt short).lt, ap number one, ap number two, changed_number number n to same row, changed_number number n to same other) };
+}
+
+pub rising_push : {T : Type 0} (number : T → ℕ) (last : ℕ) (rows : List T) (row : T) → number row ≡ last + 1 → IsRising number last rows → IsRising number (last + 1) (rows ++ row ∷ [])
+rising_push number last rows row is h = record {
+  given = All-push (IsGiven number (last + 1)) rows row (rising_later number last (last + 1) rows (omega arith) h).given (record { one = omega arith; le = omega arith });
+  rising = all_pairs_push (IsBefore number) rows row h.rising (λ k d lt. record { lt = omega (arith, (h.given k d lt).le, is) });
+}
+
+pub ascends_less : (low lower : ℕ) (keys : List ℕ) → lower ≤ low → Ascends low keys → Ascends lower keys
+ascends_less low lower [] le a = a
+ascends_less low lower (k ∷ ks) le a = (omega (arith, a.0, le), a.1)
+
+module _ {T S : Type 0} where
+  -- ---- the rows after a change of each block
+
+  pub keys_on : (f : SeenBlock T S → SeenBlock T S) (es : List (ℕ × SeenBlock T S)) → keys_of (on_blocks f es) ≡ keys_of es
+  keys_on f [] = refl
+  keys_on f (e ∷ es) = ap (λ l. e.0 ∷ l) (keys_on f es)
+
+  pub rows_cut : (live : S → ℕ → T → Bool) (spans : S) (now : ℕ) (es : List (ℕ × SeenBlock T S)) → All (HasSpans spans) es → all_rows (on_blocks (cut_block live now) es) ≡ filter (live spans now) (all_rows es)
+  rows_cut live spans now [] h = refl
+  rows_cut live spans now (e ∷ es) h =
+      let same : e.1.spans ≡ spans = (All-head (HasSpans spans) e es h).same in
+      ap (λ s. filter (live s now) e.1.rows ++ all_rows (on_blocks (cut_block live now) es)) same
+      ∙ ap (λ l. filter (live spans now) e.1.rows ++ l) (rows_cut live spans now es (All-tail (HasSpans spans) e es h))
+      ∙ sym (filter-append (live spans now) e.1.rows (all_rows es))
+
+  pub rows_without : (number : T → ℕ) (n : ℕ) (es : List (ℕ × SeenBlock T S)) → all_rows (on_blocks (block_without number n) es) ≡ filter (has_other number n) (all_rows es)
+  rows_without number n [] = refl
+  rows_without number n (e ∷ es) = ap (λ l. filter (has_other number n) e.1.rows ++ l) (rows_without number n es) ∙ sym (filter-append (has_other number n) e.1.rows (all_rows es))
+
+  pub rows_changed : (number : T → ℕ) (n : ℕ) (to : T → T) (es : List (ℕ × SeenBlock T S)) → all_rows (on_blocks (block_changed number n to) es) ≡ map (change_row number n to) (all_rows es)
+  rows_changed number n to [] = refl
+  rows_changed number n to (e ∷ es) = ap (λ l. map (change_row number n to) e.1.rows ++ l) (rows_changed number n to es) ∙ sym (map-append (change_row number n to) e.1.rows (all_rows es))
+
+  -- ---- what stays sound
+
+  pub sound_on : (number : T → ℕ) (live : S → ℕ → T → Bool) (spans : S) (bound late top : ℕ) (f : SeenBlock T S → SeenBlock T S) (es : List (ℕ × SeenBlock T S))
+      → IsSound number live spans bound top es → ((b : SeenBlock T S) → (f b).spans ≡ b.spans) → ((key : ℕ) (b : SeenBlock T S) → All (BelongsTo number key) b.rows → All (BelongsTo number key) (f b).rows)
+      → All (EntryLives live late) (on_blocks f es) → IsSound number live spans late top (on_blocks f es)
+  sound_on number live spans bound late top f es s same placed lives = record {
+    spanned = All-map (HasSpans spans) (on_block f) es (All-weaker (HasSpans spans) (λ e. HasSpans spans (on_block f e)) (λ e h. record { same = same e.1 ∙ h.same }) es s.spanned);
+    placed = All-map (IsPlaced number) (on_block f) es (All-weaker (IsPlaced number) (λ e. IsPlaced number (on_block f e)) (λ e h. record { rows = placed e.0 e.1 h.rows }) es s.placed);
+    ascends = subst (Ascends 0) (sym (keys_on f es)) s.ascends;
+    limited = All-map (IsUpTo top) (on_block f) es (All-weaker (IsUpTo top) (λ e. IsUpTo top (on_block f e)) (λ e h. record { le = h.le }) es s.limited);
+    lives = lives;
+  }
+
+  pub lives_without : (number : T → ℕ) (n : ℕ) (live : S → ℕ → T → Bool) (bound : ℕ) (es : List (ℕ × SeenBlock T S)) → All (EntryLives live bound) es → All (EntryLives live bound) (on_blocks (block_without number n) es)
+  lives_without number n live bound es h =
+      All-map (EntryLives live bound) (on_block (block_without number n)) es
+      (All-weaker (EntryLives live bound) (λ e. EntryLives live bound (on_block (block_without number n) e))
+      (λ e k. record { block = record { rows = All-filter (has_other number n) (LivesUntil live e.1.spans bound) e.1.rows k.block.rows } }) es h)
+
+  -- a table may give more numbers
+  pub sound_later : (number : T → ℕ) (live : S → ℕ → T → Bool) (spans : S) (bound top late : ℕ) (es : List (ℕ × SeenBlock T S)) → top ≤ late → IsSound number live spans bound top es → IsSound number live spans bound late es
+  sound_later number live spans bound top late es le s = record {
+    spanned = s.spanned;
+    placed = s.placed;
+    ascends = s.ascends;
+    lives = s.lives;
+    limited = All-weaker (IsUpTo top) (IsUpTo late) (λ e h. record { le = omega (arith, h.le, le) }) es s.limited;
+  }
+
+  -- ---- room
+
+  pub room_on : (f : SeenBlock T S → SeenBlock T S) (key : ℕ) (es : List (ℕ × SeenBlock T S)) → ((b : SeenBlock T S) → (f b).capacity ≡ b.capacity) → ((b : SeenBlock T S) → length (f b).rows ≤ length b.rows) → has_room_at key es ≡ true → has_room_at key (on_blocks f es) ≡ true
+  room_on f key es same fewer h =
+      ap (λ n. is_roomy key (slice_get (on_blocks f es) (n - 1))) (length-map es (on_block f)) ∙ ap (is_roomy key) (slice_get-map (on_block f) es (length es - 1)) ∙ still (slice_get es (length es - 1)) h
+    where
+      still : (o : Option (ℕ × SeenBlock T S)) → is_roomy key o ≡ true → is_roomy key (option_map (on_block f) o) ≡ true
+      still None h = h
+      still (Some e) h = both (eqb e.0 key) (ltb (length e.1.rows) e.1.capacity) (ltb (length (f e.1).rows) (f e.1).capacity) h
+          (λ k. lt-ltb (length (f e.1).rows) (f e.1).capacity (omega (arith, ltb-true (length e.1.rows) e.1.capacity k, same e.1, fewer e.1)))
+        where
+          both : (a b c : Bool) → (a && b) ≡ true → (b ≡ true → c ≡ true) → (a && c) ≡ true
+          both true b c h k = k h
+          both false b c h k = h
+
+  -- ---- without blocks that have no row
+
+  pub ascends_filter : (p : ℕ × SeenBlock T S → Bool) (low : ℕ) (es : List (ℕ × SeenBlock T S)) → Ascends low (keys_of es) → Ascends low (keys_of (filter p es))
+  ascends_filter p low [] a = a
+  ascends_filter p low (e ∷ es) a = by_test (p e) refl (ascends_filter p (e.0 + 1) es a.1)
+    where
+      by_test : (b : Bool) → p e ≡ b → Ascends (e.0 + 1) (keys_of (filter p es)) → Ascends low (keys_of (filter p (e ∷ es)))
+      by_test true is more = rw (is) (a.0, more)
+      by_test false is more = rw (is) (ascends_less (e.0 + 1) low (keys_of (filter p es)) (omega (arith, a.0)) more)
+
+  pub sound_filter : (number : T → ℕ) (live : S → ℕ → T → Bool) (spans : S) (bound top : ℕ) (p : ℕ × SeenBlock T S → Bool) (es : List (ℕ × SeenBlock T S)) → IsSound number live spans bound top es → IsSound number live spans bound top (filter p es)
+  sound_filter number live spans bound top p es s = record {
+    spanned = All-filter p (HasSpans spans) es s.spanned;
+    placed = All-filter p (IsPlaced number) es s.placed;
+    ascends = ascends_filter p 0 es s.ascends;
+    limited = All-filter p (IsUpTo top) es s.limited;
+    lives = All-filter p (EntryLives live bound) es s.lives;
+  }
+
+  pub rows_with_rows : (es : List (ℕ × SeenBlock T S)) → all_rows (filter has_rows es) ≡ all_rows es
+  rows_with_rows [] = refl
+  rows_with_rows (e ∷ es) = by_test (eqb (length e.1.rows) 0) refl (rows_with_rows es)
+    where
+      nothing : (rows : List T) → eqb (length rows) 0 ≡ true → rows ≡ []
+      nothing [] h = refl
+      nothing (row ∷ rows) h = absurd (omega (arith, eqb-true (length (row ∷ rows)) 0 h))
+
+      by_test : (b : Bool) → eqb (length e.1.rows) 0 ≡ b → all_rows (filter has_rows es) ≡ all_rows es → all_rows (filter has_rows (e ∷ es)) ≡ all_rows (e ∷ es)
+      by_test true is more = rw (is) (more ∙ ap (λ l. l ++ all_rows es) (sym (nothing e.1.rows is)))
+      by_test false is more = rw (is) (ap (λ l. e.1.rows ++ l) more)
+
+  -- ---- before the moment when all rows live
+
+  pub rows_kept : (live : S → ℕ → T → Bool) (spans : S) (bound now : ℕ) (es : List (ℕ × SeenBlock T S)) → now < bound → now ≤ moment_max → All (HasSpans spans) es → All (EntryLives live bound) es
+      → filter (live spans now) (all_rows es) ≡ all_rows es
+  rows_kept live spans bound now [] lt small h k = refl
+  rows_kept live spans bound now (e ∷ es) lt small h k =
+      let same : e.1.spans ≡ spans = (All-head (HasSpans spans) e es h).same in
+      let here : filter (live spans now) e.1.rows ≡ e.1.rows = filter_live live spans bound now e.1.rows lt small
+      (subst (λ s. All (LivesUntil live s bound) e.1.rows) same (All-head (EntryLives live bound) e es k).block.rows) in
+      filter-append (live spans now) e.1.rows (all_rows es) ∙ ap (λ l. l ++ filter (live spans now) (all_rows es)) here
+      ∙ ap (λ l. e.1.rows ++ l) (rows_kept live spans bound now es lt small (All-tail (HasSpans spans) e es h) (All-tail (EntryLives live bound) e es k))
+
+  pub none_told : {G : Type 0} (step : G → T → G → Type 0) (live : S → ℕ → T → Bool) (spans : S) (bound now : ℕ) (es : List (ℕ × SeenBlock T S)) (tally : G) → now < bound → now ≤ moment_max → All (HasSpans spans) es → All (EntryLives live bound) es
+      → Tells step live spans now (all_rows es) tally tally
+  none_told step live spans bound now es tally lt small h k = subst (λ l. FoldsTo step tally l tally) (sym (none es h k)) refl
+    where
+      none : (es : List (ℕ × SeenBlock T S)) → All (HasSpans spans) es → All (EntryLives live bound) es → filter (is_dead live spans now) (all_rows es) ≡ []
+      none [] h k = refl
+      none (e ∷ es) h k =
+          let same : e.1.spans ≡ spans = (All-head (HasSpans spans) e es h).same in
+          let here : filter (is_dead live spans now) e.1.rows ≡ [] = none_dead live spans bound now e.1.rows lt small
+          (subst (λ s. All (LivesUntil live s bound) e.1.rows) same (All-head (EntryLives live bound) e es k).block.rows) in
+          filter-append (is_dead live spans now) e.1.rows (all_rows es) ∙ ap (λ l. l ++ filter (is_dead live spans now) (all_rows es)) here
+          ∙ none es (All-tail (HasSpans spans) e es h) (All-tail (EntryLives live bound) e es k)
+
+  -- ---- what is kept after each call
+
+  module _ (number : T → ℕ) (live : S → ℕ → T → Bool) (spans : S) where
+    pub room_cut : (now key : ℕ) (es : List (ℕ × SeenBlock T S)) → has_room_at key es ≡ true → has_room_at key (on_blocks (cut_block live now) es) ≡ true
+    room_cut now key es h = room_on (cut_block live now) key es (λ b. refl) (λ b. omega (arith, length-filter (live b.spans now) b.rows, count_by-le-length (live b.spans now) b.rows)) h
+
+    pub room_without : (n key : ℕ) (es : List (ℕ × SeenBlock T S)) → has_room_at key es ≡ true → has_room_at key (on_blocks (block_without number n) es) ≡ true
+    room_without n key es h = room_on (block_without number n) key es (λ b. refl) (λ b. omega (arith, length-filter (has_other number n) b.rows, count_by-le-length (has_other number n) b.rows)) h
+
+    pub room_changed : (n key : ℕ) (to : T → T) (es : List (ℕ × SeenBlock T S)) → has_room_at key es ≡ true → has_room_at key (on_blocks (block_changed number n to) es) ≡ true
+    room_changed n key to es h = room_on (block_changed number n to) key es (λ b. refl) (λ b. omega (arith, length-map b.rows (change_row number n to))) h
+
+    pub consistent_without : (n last len left bound : ℕ) (ready : Bool) (es new : List (ℕ × SeenBlock T S)) → IsConsistent number live es spans last len bound ready → new ≡ on_blocks (block_without number n) es → left ≡ length (all_rows new)
+        → IsConsistent number live new spans last left bound ready
+    consistent_without n last len left bound ready es new k is count = record {
+      sound = subst (IsSound number live spans bound (key_of (last + 1))) (sym is)
+          (sound_on number live spans bound bound (key_of (last + 1)) (block_without number n) es k.sound (λ b. refl) (λ key b h. All-filter (has_other number n) (BelongsTo number key) b.rows h)
+          (lives_without number n live bound es k.sound.lives));
+      count = count;
+      order = subst (IsRising number last) (sym (ap all_rows is ∙ rows_without number n es)) (rising_filter number last (has_other number n) (all_rows es) k.order);
+      room = λ is_ready. ap (has_room_at (key_of (last + 1))) is ∙ room_without n (key_of (last + 1)) es (k.room is_ready);
+    }
+
+    pub consistent_changed : (n last len bound late : ℕ) (ready : Bool) (to : T → T) (es new : List (ℕ × SeenBlock T S)) → ((row : T) → number (to row) ≡ number row) → IsConsistent number live es spans last len bound ready
+        → new ≡ on_blocks (block_changed number n to) es → All (EntryLives live late) new → IsConsistent number live new spans last len late ready
+    consistent_changed n last len bound late ready to es new same k is lives =
+        let rows : all_rows new ≡ map (change_row number n to) (all_rows es) = ap all_rows is ∙ rows_changed number n to es in
+        record {
+          sound = subst (IsSound number live spans late (key_of (last + 1))) (sym is)
+              (sound_on number live spans bound late (key_of (last + 1)) (block_changed number n to) es k.sound (λ b. refl) (λ key b h. placed_changed number n to same key b.rows h)
+              (subst (All (EntryLives live late)) is lives));
+          count = k.count ∙ sym (ap length rows ∙ length-map (all_rows es) (change_row number n to));
+          order = subst (IsRising number last) (sym rows) (rising_changed number last n to same (all_rows es) k.order);
+          room = λ is_ready. ap (has_room_at (key_of (last + 1))) is ∙ room_changed n (key_of (last + 1)) to es (k.room is_ready);
+        }
+
+    pub consistent_cut : (now last len left bound late : ℕ) (ready : Bool) (es new : List (ℕ × SeenBlock T S)) → IsConsistent number live es spans last len bound ready → new ≡ on_blocks (cut_block live now) es → left ≡ length (all_rows new)
+        → All (EntryLives live late) new → IsConsistent number live new spans last left late ready
+    consistent_cut now last len left bound late ready es new k is count lives = record {
+      sound = subst (IsSound number live spans late (key_of (last + 1))) (sym is)
+          (sound_on number live spans bound late (key_of (last + 1)) (cut_block live now) es k.sound (λ b. refl) (λ key b h. All-filter (live b.spans now) (BelongsTo number key) b.rows h)
+          (subst (All (EntryLives live late)) is lives));
+      count = count;
+      order = subst (IsRising number last) (sym (ap all_rows is ∙ rows_cut live spans now es k.sound.spanned)) (rising_filter number last (live spans now) (all_rows es) k.order);
+      room = λ is_ready. ap (has_room_at (key_of (last + 1))) is ∙ room_cut now (key_of (last + 1)) es (k.room is_ready);
+    }

@@ -1,0 +1,16 @@
+use Rattle.std.proofs.Common.{refl, arith}
+use Rattle.rad_rows.proofs.BlockLemmas.{lives_to_end}
+use Rattle.rad_rows.proofs.LastLemmas.{sound_push_at}
+use Rattle.rad_rows.proofs.blocks.push.Goals as goal
+
+pub returns-clause-sound : goal.returns-clause-sound
+returns-clause-sound g c =
+    (sound_push_at g.T.Row.number g.T.Row.is_live c.args.spans.now c.args.bound c.min.result c.ends-end.result _ c.len-at.result c.args.blocks.now.entries c.index_mut-block.result.now c.push.new.self c.args.row
+    c.len-at.ensures.len (omega arith) (omega arith) (lives_to_end g.T.Row.is_live c.args.spans.now c.ends-end.result c.args.row c.ends-end.ensures) refl
+    c.requires.sound c.requires.room c.index_mut-block.ensures.value c.push.ensures.rows c.push.ensures.spans).0
+
+pub returns-clause-rows : goal.returns-clause-rows
+returns-clause-rows g c =
+    (sound_push_at g.T.Row.number g.T.Row.is_live c.args.spans.now c.args.bound c.min.result c.ends-end.result _ c.len-at.result c.args.blocks.now.entries c.index_mut-block.result.now c.push.new.self c.args.row
+    c.len-at.ensures.len (omega arith) (omega arith) (lives_to_end g.T.Row.is_live c.args.spans.now c.ends-end.result c.args.row c.ends-end.ensures) refl
+    c.requires.sound c.requires.room c.index_mut-block.ensures.value c.push.ensures.rows c.push.ensures.spans).1

@@ -1,0 +1,260 @@
+//! What is done to all blocks, or to the one that a number belongs to.
+ghost use Rattle.std.specs.Prelude.{◌≡◌, ◌≤◌, ◌-◌, ◌++◌, ◌∷◌, [], All, OnOk, false, filter, find, length, option_copied, slice_get, true};
+ghost use Rattle.indexmap.specs.IndexMap.{keys};
+ghost use Rattle.rad_rows.specs.Blocks.{block_changed, block_without, cut_block};
+ghost use Rattle.rad_rows.specs.Entries.{Ascends, EntryLives, HasSpans, IsPlaced, IsSound, all_rows, has_room_at, has_rows, is_at_key, key_of, on_blocks};
+ghost use Rattle.rad_rows.specs.Rows.{Tells, has_number, moment_max};
+
+use crate::block::{BLOCK, Block};
+use crate::row::{Change, Row, Tally};
+use indexmap::IndexMap;
+use std::alloc::AllocError;
+
+/// So many blocks may stand whether or not they have rows.
+pub(crate) const BLOCKS_MIN: usize = 16;
+
+/// What is known of the rows after a sweep.
+#[derive(Clone, Copy)]
+pub(crate) struct Swept {
+    pub(crate) count: usize,
+    /// A moment before which each row lives.
+    pub(crate) bound: u64,
+}
+
+/// The row of this number.
+pub(crate) fn find<T: Row<S>, S: Copy>(
+    blocks: &IndexMap<u64, Block<T, S>>,
+    number: u64,
+) -> Option<&T>
+    requires placed { All (IsPlaced T.number) blocks.now.entries }
+    requires ascends { Ascends 0 (keys blocks.now) }
+    ensures { option_copied result
+        ≡ find (has_number T.number number) (all_rows blocks.now.entries) }
+{
+    let key = number / BLOCK;
+    let Some(at) = blocks.get_index_of(&key) else {
+        return None;
+    };
+    blocks[at].find(number)
+}
+
+/// Removes the row of this number, and returns how many of the `count` rows are left.
+pub(crate) fn remove<T: Row<S>, S: Copy>(
+    blocks: &mut IndexMap<u64, Block<T, S>>,
+    number: u64,
+    count: usize,
+) -> usize
+    requires placed { All (IsPlaced T.number) blocks.old.entries }
+    requires ascends { Ascends 0 (keys blocks.old) }
+    requires count { count ≡ length (all_rows blocks.old.entries) }
+    ensures entries { blocks.new.entries
+        ≡ on_blocks (block_without T.number number) blocks.old.entries }
+    ensures count { result ≡ length (all_rows blocks.new.entries) }
+{
+    let key = number / BLOCK;
+    let Some(at) = blocks.get_index_of(&key) else {
+        return count;
+    };
+    let block = &mut blocks[at];
+    let before = block.len();
+    block.remove(number);
+    let after = block.len();
+    count - (before - after)
+}
+
+/// Changes the row of this number, and returns a bound, where `bound` was one before.
+pub(crate) fn change<T: Row<S>, S: Copy, C: Change<T>>(
+    blocks: &mut IndexMap<u64, Block<T, S>>,
+    number: u64,
+    by: &C,
+    bound: u64,
+) -> u64
+    requires placed { All (IsPlaced T.number) blocks.old.entries }
+    requires ascends { Ascends 0 (keys blocks.old) }
+    requires lives { All (EntryLives T.is_live bound) blocks.old.entries }
+    ensures entries { blocks.new.entries
+        ≡ on_blocks (block_changed T.number number (C.to by.now)) blocks.old.entries }
+    ensures lives { All (EntryLives T.is_live result) blocks.new.entries }
+{
+    let key = number / BLOCK;
+    let Some(at) = blocks.get_index_of(&key) else {
+        return bound;
+    };
+    let block = &mut blocks[at];
+    block.change(number, by);
+    bound.min(block.bound())
+}
+
+/// Puts a row last, and returns a bound, where `bound` was one before.
+pub(crate) fn push<T: Row<S>, S: Copy>(
+    blocks: &mut IndexMap<u64, Block<T, S>>,
+    spans: &S,
+    row: T,
+    bound: u64,
+) -> u64
+    requires sound { IsSound T.number T.is_live spans.now
+        bound (key_of (T.number row)) blocks.old.entries }
+    requires room { has_room_at (key_of (T.number row)) blocks.old.entries ≡ true }
+    ensures sound { IsSound T.number T.is_live spans.now
+        result (key_of (T.number row)) blocks.new.entries }
+    ensures rows { all_rows blocks.new.entries ≡ all_rows blocks.old.entries ++ row ∷ [] }
+{
+    let end = row.ends(spans);
+    let at = blocks.len() - 1;
+    let block = &mut blocks[at];
+    block.push(row);
+    bound.min(end)
+}
+
+/// Makes the block of this key the last, with memory for one more row.
+pub(crate) fn make_room<T: Row<S>, S: Copy>(
+    blocks: &mut IndexMap<u64, Block<T, S>>,
+    spans: &S,
+    key: u64,
+    bound: u64,
+) -> Result<(), AllocError>
+    requires { IsSound T.number T.is_live spans.now bound key blocks.old.entries }
+    ensures sound { IsSound T.number T.is_live spans.now bound key blocks.new.entries }
+    ensures rows { all_rows blocks.new.entries ≡ all_rows blocks.old.entries }
+    ensures ready { OnOk result (has_room_at key blocks.new.entries ≡ true) }
+{
+    if is_last(blocks, key) {
+        reserve(blocks, spans, key, bound)
+    } else {
+        add(blocks, spans, key, bound)
+    }
+}
+
+// Whether the last block is that of this key.
+fn is_last<T: Row<S>, S: Copy>(blocks: &IndexMap<u64, Block<T, S>>, key: u64) -> bool
+    ensures { result
+        ≡ is_at_key key (slice_get blocks.now.entries (length blocks.now.entries - 1)) }
+{
+    match blocks.last() {
+        Some((last, _)) => *last == key,
+        None => false,
+    }
+}
+
+// Makes memory ready for one more row in the last block, which is that of this key.
+fn reserve<T: Row<S>, S: Copy>(
+    blocks: &mut IndexMap<u64, Block<T, S>>,
+    spans: &S,
+    key: u64,
+    bound: u64,
+) -> Result<(), AllocError>
+    requires sound { IsSound T.number T.is_live spans.now bound key blocks.old.entries }
+    requires last { is_at_key key
+        (slice_get blocks.old.entries (length blocks.old.entries - 1)) ≡ true }
+    ensures { IsSound T.number T.is_live spans.now bound key blocks.new.entries
+        × (all_rows blocks.new.entries ≡ all_rows blocks.old.entries)
+        × OnOk result (has_room_at key blocks.new.entries ≡ true) }
+{
+    let at = blocks.len() - 1;
+    let block = &mut blocks[at];
+    block.reserve()
+}
+
+// Puts an empty block of this key last.
+fn add<T: Row<S>, S: Copy>(
+    blocks: &mut IndexMap<u64, Block<T, S>>,
+    spans: &S,
+    key: u64,
+    bound: u64,
+) -> Result<(), AllocError>
+    requires sound { IsSound T.number T.is_live spans.now bound key blocks.old.entries }
+    requires last { is_at_key key
+        (slice_get blocks.old.entries (length blocks.old.entries - 1)) ≡ false }
+    ensures { IsSound T.number T.is_live spans.now bound key blocks.new.entries
+        × (all_rows blocks.new.entries ≡ all_rows blocks.old.entries)
+        × OnOk result (has_room_at key blocks.new.entries ≡ true) }
+{
+    let block = Block::open(*blocks.allocator(), *spans)?;
+    match blocks.insert(key, block) {
+        Ok(_) => Ok(()),
+        Err(_) => Err(AllocError),
+    }
+}
+
+/// Takes out the blocks without rows where there are more than `limit` blocks, and returns the next limit.
+///
+/// Above the limit half of the blocks may have no row. So a call costs as much as the blocks that came since the last walk.
+pub(crate) fn compact<T: Row<S>, S: Copy>(
+    blocks: &mut IndexMap<u64, Block<T, S>>,
+    spans: &S,
+    key: u64,
+    bound: u64,
+    limit: usize,
+) -> usize
+    requires { IsSound T.number T.is_live spans.now bound key blocks.old.entries }
+    ensures sound { IsSound T.number T.is_live spans.now bound key blocks.new.entries }
+    ensures rows { all_rows blocks.new.entries ≡ all_rows blocks.old.entries }
+{
+    if blocks.len() <= limit {
+        return limit;
+    }
+    keep_with_rows(blocks);
+    blocks.len().saturating_mul(2).max(BLOCKS_MIN)
+}
+
+// Keeps the blocks with rows alone, in their order.
+fn keep_with_rows<T: Row<S>, S: Copy>(blocks: &mut IndexMap<u64, Block<T, S>>)
+    ensures { blocks.new.entries ≡ filter has_rows blocks.old.entries }
+{
+    blocks.retain(
+        |_key: &u64, block: &mut Block<T, S>| -> bool
+            ensures { (result ≡ has_rows (_key.now, block.old)) × (block.new ≡ block.old) }
+        { block.len() != 0 },
+    );
+}
+
+/// How many rows are live at a moment, of `count` rows.
+pub(crate) fn count_live<T: Row<S>, S: Copy>(
+    blocks: &IndexMap<u64, Block<T, S>>,
+    spans: &S,
+    now: u64,
+    count: usize,
+) -> usize
+    requires now { now ≤ moment_max }
+    requires spans { All (HasSpans spans.now) blocks.now.entries }
+    requires count { count ≡ length (all_rows blocks.now.entries) }
+    ensures { result ≡ length (filter (T.is_live spans.now now) (all_rows blocks.now.entries)) }
+{
+    let mut live: usize = 0;
+    for at in 0..blocks.len() {
+        live += blocks[at].count_live(now);
+    }
+    live
+}
+
+/// Removes the rows that aren't live at a moment, of `count` rows, and tells the tally of each.
+pub(crate) fn sweep<T: Row<S>, S: Copy, G: Tally<T>>(
+    blocks: &mut IndexMap<u64, Block<T, S>>,
+    spans: &S,
+    tally: &mut G,
+    now: u64,
+    count: usize,
+) -> Swept
+    requires now { now ≤ moment_max }
+    requires spans { All (HasSpans spans.now) blocks.old.entries }
+    requires count { count ≡ length (all_rows blocks.old.entries) }
+    ensures entries { blocks.new.entries
+        ≡ on_blocks (cut_block T.is_live now) blocks.old.entries }
+    ensures told { Tells G.told T.is_live spans.now now
+        (all_rows blocks.old.entries) tally.old tally.new }
+    ensures count { result.count ≡ length (all_rows blocks.new.entries) }
+    ensures bound { All (EntryLives T.is_live result.bound) blocks.new.entries }
+{
+    let mut count = count;
+    let mut bound: u64 = u64::MAX;
+    for at in 0..blocks.len() {
+        let block = &mut blocks[at];
+        let before = block.len();
+        block.sweep(tally, now);
+        let after = block.len();
+        let until = block.bound();
+        count -= before - after;
+        bound = bound.min(until);
+    }
+    Swept { count, bound }
+}

@@ -1,0 +1,28 @@
+//! Rows under rising numbers, each found by its number and each removed when its time is over.
+//!
+//! `Rows` stands on an `IndexMap` of blocks: a block has the rows of `BLOCK` consecutive numbers, under the key that these numbers
+//! divided by `BLOCK` give. Keys rise along the map, so the rows are in the order of their numbers, oldest first; a row is found,
+//! changed or removed by one look-up of a key and a walk over one block.
+//!
+//! A bound is a moment before which each row lives: each block has one, and there is one of all. A bound may be too early, never
+//! too late. Before the bound of all, `expire` is one comparison. From then on it goes over the bounds of the blocks, looks at the
+//! rows of those blocks alone whose bound has come, and sets the bounds anew. Nothing rests on moments that rise.
+//!
+//! `room` and `copy` are the calls that take memory. `room` puts an empty block under the key of the next number, by the map's
+//! insert, and `push` fills the block in place: nothing leans on a reserve of the map. Blocks without rows are taken out by `room`,
+//! once they may be half of all.
+//!
+//! Other crates rest on this: contracts see the rows as a list, and each call does to the list what its clauses say
+//! (`specs/Rows.antt`). Blocks and bounds are known to this crate alone.
+#![tactic(auto)]
+
+mod block;
+mod blocks;
+mod iter;
+mod plain;
+mod row;
+mod rows;
+
+pub use iter::Iter;
+pub use row::{Change, Row, Tally};
+pub use rows::Rows;

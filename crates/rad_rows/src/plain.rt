@@ -1,0 +1,164 @@
+//! Rows as a plain list: each question walks over all of it.
+ghost use Rattle.std.specs.Prelude.{◌≡◌, ◌≤◌, ◌<◌, ◌↔◌, All, IsTrue, filter, find, length, map, option_copied, remove, vec_len, IfNone, IfSome};
+ghost use Rattle.std.specs.Vec.{vec_capacity};
+ghost use Rattle.rad_rows.specs.Blocks.{LivesUntil};
+ghost use Rattle.rad_rows.specs.Rows.{Tells, change_row, has_number, has_other, moment_max};
+
+use crate::row::{Change, Row, Tally};
+
+// Whether a row is live at a moment.
+fn is_live<T: Row<S>, S>(row: &T, spans: &S, now: u64) -> bool
+    requires { now ≤ moment_max }
+    ensures { result ≡ T.is_live spans.now now row.now }
+{
+    now < row.ends(spans)
+}
+
+/// How many rows are live at a moment.
+pub(crate) fn count_live<T: Row<S>, S>(rows: &[T], spans: &S, now: u64) -> usize
+    requires { now ≤ moment_max }
+    ensures { result ≡ length (filter (T.is_live spans.now now) rows.now) }
+{
+    let mut count: usize = 0;
+    for row in rows {
+        if is_live(row, spans, now) {
+            count += 1;
+        }
+    }
+    count
+}
+
+/// Removes the rows that aren't live at a moment, tells the tally of each, and returns a bound of the others.
+pub(crate) fn sweep<T: Row<S>, S, G: Tally<T>>(
+    rows: &mut Vec<T>,
+    spans: &S,
+    tally: &mut G,
+    now: u64,
+) -> u64
+    requires { now ≤ moment_max }
+    ensures items { rows.new.items ≡ filter (T.is_live spans.now now) rows.old.items }
+    ensures told { Tells G.told T.is_live spans.now now rows.old.items tally.old tally.new }
+    ensures bound { All (LivesUntil T.is_live spans.now result) rows.new.items }
+    ensures capacity { vec_capacity rows.new ≡ vec_capacity rows.old }
+{
+    tell(rows, spans, tally, now);
+    keep_live(rows, spans, now);
+    earliest(rows, spans)
+}
+
+// Tells the tally of each row that isn't live at a moment.
+fn tell<T: Row<S>, S, G: Tally<T>>(rows: &[T], spans: &S, tally: &mut G, now: u64)
+    requires { now ≤ moment_max }
+    ensures { Tells G.told T.is_live spans.now now rows.now tally.old tally.new }
+{
+    for row in rows {
+        if !is_live(row, spans, now) {
+            tally.leave(row);
+        }
+    }
+}
+
+// Keeps the live rows alone, in their order.
+fn keep_live<T: Row<S>, S>(rows: &mut Vec<T>, spans: &S, now: u64)
+    requires { now ≤ moment_max }
+    ensures items { rows.new.items ≡ filter (T.is_live spans.now now) rows.old.items }
+    ensures len { vec_len rows.new ≤ vec_len rows.old }
+    ensures capacity { vec_capacity rows.new ≡ vec_capacity rows.old }
+{
+    rows.retain(
+        |row|
+            requires { now ≤ moment_max }
+        { is_live(row, spans, now) },
+    );
+}
+
+// The moment at which the first row ends, which is the latest bound of them all.
+fn earliest<T: Row<S>, S>(rows: &[T], spans: &S) -> u64
+    ensures { All (LivesUntil T.is_live spans.now result) rows.now }
+{
+    let mut bound: u64 = u64::MAX;
+    for row in rows {
+        bound = bound.min(row.ends(spans));
+    }
+    bound
+}
+
+/// The row of this number.
+pub(crate) fn find<T: Row<S>, S>(rows: &[T], number: u64) -> Option<&T>
+    ensures { option_copied result ≡ find (has_number T.number number) rows.now }
+{
+    for row in rows {
+        if row.number() == number {
+            return Some(row);
+        }
+    }
+    None
+}
+
+/// Removes the row of this number.
+pub(crate) fn remove<T: Row<S>, S>(rows: &mut Vec<T>, number: u64)
+    ensures items { rows.new.items ≡ filter (has_other T.number number) rows.old.items }
+    ensures len { vec_len rows.new ≤ vec_len rows.old }
+    ensures capacity { vec_capacity rows.new ≡ vec_capacity rows.old }
+{
+    while let Some(at) = position(rows, number) {
+        rows.remove(at);
+    }
+}
+
+// The place of the first row of this number.
+fn position<T: Row<S>, S>(rows: &[T], number: u64) -> Option<usize>
+    ensures found { IfSome result (λ at. (at < length rows.now) ×
+        (filter (has_other T.number number) (remove rows.now at)
+        ≡ filter (has_other T.number number) rows.now)) }
+    ensures none { IfNone result (filter (has_other T.number number) rows.now ≡ rows.now) }
+{
+    for (at, row) in rows.iter().enumerate() {
+        if row.number() == number {
+            return Some(at);
+        }
+    }
+    None
+}
+
+/// Changes the row of this number, and returns a bound, where `bound` was one before.
+pub(crate) fn change<T: Row<S>, S, C: Change<T>>(
+    rows: &mut Vec<T>,
+    spans: &S,
+    number: u64,
+    by: &C,
+    bound: u64,
+) -> u64
+    requires { All (LivesUntil T.is_live spans.now bound) rows.old.items }
+    ensures items { rows.new.items
+        ≡ map (change_row T.number number (C.to by.now)) rows.old.items }
+    ensures bound { All (LivesUntil T.is_live spans.now result) rows.new.items }
+    ensures len { vec_len rows.new ≡ vec_len rows.old }
+    ensures capacity { vec_capacity rows.new ≡ vec_capacity rows.old }
+{
+    let mut bound = bound;
+    for row in rows.iter_mut() {
+        bound = change_one(row, spans, number, by, bound);
+    }
+    bound
+}
+
+// Changes the row if it has this number, and returns a bound of it that is no later than `bound`, which was one before.
+fn change_one<T: Row<S>, S, C: Change<T>>(
+    row: &mut T,
+    spans: &S,
+    number: u64,
+    by: &C,
+    bound: u64,
+) -> u64
+    requires { LivesUntil T.is_live spans.now bound row.old }
+    ensures row { row.new ≡ change_row T.number number (C.to by.now) row.old }
+    ensures bound { LivesUntil T.is_live spans.now result row.new }
+    ensures earlier { result ≤ bound }
+{
+    if row.number() != number {
+        return bound;
+    }
+    by.change(row);
+    bound.min(row.ends(spans))
+}

@@ -1,0 +1,46 @@
+mod entry;
+mod pair;
+
+use pair::Pair;
+use std::alloc::Global;
+use std::process::Abort;
+
+/// The mean number of rows, and so whether they stand in one block or in many, goes with how long rows live.
+const SPANS: [u64; 3] = [20, 200, 2_000];
+
+// Asserts once, of `what`.
+fn holds(rt: &impl Abort, is_so: bool, what: &str) {
+    assert!(rt; is_so, "{what}");
+}
+
+// The next of some random numbers.
+fn next_draw(draw: u64) -> u64 {
+    draw.wrapping_mul(6_364_136_223_846_793_005)
+        .wrapping_add(1_442_695_040_888_963_407)
+}
+
+#[test]
+fn rows_do_what_a_plain_list_does(rt: HostRuntime) {
+    for span in SPANS.iter() {
+        holds(
+            &rt,
+            agree_for(rt.alloc(), *span, 4_000),
+            "each call answers as on a plain list",
+        );
+    }
+}
+
+// Whether so many random calls answer on rows as on a plain list, also where an allocation is refused. A row lives for `span`.
+fn agree_for(alloc: Global, span: u64, calls: u64) -> bool {
+    let mut pair = Pair::open(alloc, span);
+    let mut draw = span;
+    for call in 0..calls {
+        draw = next_draw(draw);
+        // Moments rise in the mean, but not from call to call.
+        let now = (call / 2 + (draw >> 32) % 8) % 100_000;
+        if !pair.call(draw >> 40, now) {
+            return false;
+        }
+    }
+    true
+}
