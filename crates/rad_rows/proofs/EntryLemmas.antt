@@ -104,11 +104,11 @@ module _ {T S : Type 0} where
         (λ key. record { block = record { rows = all_lives_less live w.spans last early w.rows le' b.rows } }))
 
     -- told of the i-th block, and then of those after it
-    pub told_step : {G : Type 0} (step : G → T → G → Type 0) (spans : S) (now : ℕ) (es : List (ℕ × SeenBlock T S)) (i : ℕ) (v : SeenBlock T S) (first tally next : G) → slice_get (values_of es) i ≡ Some v → v.spans ≡ spans
+    pub told_step : {G : Type 0} (step : G → T → G → Type 0) (spans : S) (now : ℕ) (es : List (ℕ × SeenBlock T S)) (i : ℕ) (v : SeenBlock T S) (whole : List T) (first tally next : G) → slice_get (values_of es) i ≡ Some v → v.spans ≡ spans
         → Tells step live v.spans now v.rows tally next
-        → ((last : G) → Tells step live spans now (all_rows (drop i es)) tally last → Tells step live spans now (all_rows es) first last)
-        → (last : G) → Tells step live spans now (all_rows (drop (i + 1) es)) next last → Tells step live spans now (all_rows es) first last
-    told_step {G} step spans now es i v first tally next h same is before last more =
+        → ((last : G) → Tells step live spans now (all_rows (drop i es)) tally last → Tells step live spans now whole first last)
+        → (last : G) → Tells step live spans now (all_rows (drop (i + 1) es)) next last → Tells step live spans now whole first last
+    told_step {G} step spans now es i v whole first tally next h same is before last more =
         before last (subst (λ rows. Tells step live spans now rows tally last) (sym (rows_from es i v h))
         (subst (λ rows. FoldsTo step tally rows last) (sym (filter-append (is_dead live spans now) v.rows (all_rows (drop (suc i) es))))
         (folds_join step (filter (is_dead live spans now) v.rows) (filter (is_dead live spans now) (all_rows (drop (suc i) es))) tally next last

@@ -4,3 +4,4 @@ pub mod PlaceLemmas
 pub mod LastLemmas
 pub mod RowsLemmas
 pub mod OrderLemmas
+pub mod GroupLemmas

@@ -10,9 +10,10 @@ use Rattle.std.proofs.lemmas.List.Kept.{AllPairs-filter}
 use Rattle.std.proofs.lemmas.List.Sums.{length-filter, count_by-le-length}
 use Rattle.std.proofs.lemmas.Option.{slice_get-map}
 use Rattle.rad_rows.specs.Blocks.{LivesUntil, SeenBlock, block_changed, block_without, cut_block}
-use Rattle.rad_rows.specs.Entries.{Ascends, BelongsTo, EntryLives, HasSpans, IsConsistent, IsPlaced, IsSound, IsUpTo, all_rows, has_room_at, has_rows, is_roomy, key_of, on_block, on_blocks}
+use Rattle.rad_rows.specs.Entries.{Ascends, BelongsTo, EntryLives, HasSpans, IsConsistent, IsGrouped, IsPlaced, IsSound, IsUpTo, all_rows, has_room_at, has_rows, is_roomy, key_of, on_block, on_blocks}
 use Rattle.rad_rows.specs.Rows.{IsBefore, IsGiven, IsRising, Tells, change_row, has_other, is_dead, moment_max}
 use Rattle.rad_rows.proofs.BlockLemmas.{filter_live, none_dead}
+use Rattle.rad_rows.proofs.GroupLemmas.{grouped_without}
 
 changed_number : {T : Type 0} (number : T → ℕ) (n : ℕ) (to : T → T) → ((row : T) → number (to row) ≡ number row) → (row : T) → number (change_row number n to row) ≡ number row
 changed_number number n to keeps row = elim (eqb (number row) n) as (λ b. number (cond b (to row) row) ≡ number row) [ true ↦ keeps row | false ↦ refl ]
@@ -189,9 +190,10 @@ module _ {T S : Type 0} where
     pub room_changed : (n key : ℕ) (to : T → T) (es : List (ℕ × SeenBlock T S)) → has_room_at key es ≡ true → has_room_at key (on_blocks (block_changed number n to) es) ≡ true
     room_changed n key to es h = room_on (block_changed number n to) key es (λ b. refl) (λ b. omega (arith, length-map b.rows (change_row number n to))) h
 
-    pub consistent_without : (n last len left bound : ℕ) (ready : Bool) (es new : List (ℕ × SeenBlock T S)) → IsConsistent number live es spans last len bound ready → new ≡ on_blocks (block_without number n) es → left ≡ length (all_rows new)
-        → IsConsistent number live new spans last left bound ready
-    consistent_without n last len left bound ready es new k is count = record {
+    pub consistent_without : (n last len left bound : ℕ) (bounds : List ℕ) (ready : Bool) (es new : List (ℕ × SeenBlock T S)) → IsConsistent number live es bounds spans last len bound ready → new ≡ on_blocks (block_without number n) es → left ≡ length (all_rows new)
+        → IsConsistent number live new bounds spans last left bound ready
+    consistent_without n last len left bound bounds ready es new k is count = record {
+      grouped = subst (IsGrouped live bounds) (sym is) (grouped_without live number n bounds es k.grouped);
       sound = subst (IsSound number live spans bound (key_of (last + 1))) (sym is)
           (sound_on number live spans bound bound (key_of (last + 1)) (block_without number n) es k.sound (λ b. refl) (λ key b h. All-filter (has_other number n) (BelongsTo number key) b.rows h)
           (lives_without number n live bound es k.sound.lives));
@@ -200,11 +202,12 @@ module _ {T S : Type 0} where
       room = λ is_ready. ap (has_room_at (key_of (last + 1))) is ∙ room_without n (key_of (last + 1)) es (k.room is_ready);
     }
 
-    pub consistent_changed : (n last len bound late : ℕ) (ready : Bool) (to : T → T) (es new : List (ℕ × SeenBlock T S)) → ((row : T) → number (to row) ≡ number row) → IsConsistent number live es spans last len bound ready
-        → new ≡ on_blocks (block_changed number n to) es → All (EntryLives live late) new → IsConsistent number live new spans last len late ready
-    consistent_changed n last len bound late ready to es new same k is lives =
+    pub consistent_changed : (n last len bound late : ℕ) (bounds lower : List ℕ) (ready : Bool) (to : T → T) (es new : List (ℕ × SeenBlock T S)) → ((row : T) → number (to row) ≡ number row) → IsConsistent number live es bounds spans last len bound ready
+        → new ≡ on_blocks (block_changed number n to) es → All (EntryLives live late) new → IsGrouped live lower new → IsConsistent number live new lower spans last len late ready
+    consistent_changed n last len bound late bounds lower ready to es new same k is lives grouped =
         let rows : all_rows new ≡ map (change_row number n to) (all_rows es) = ap all_rows is ∙ rows_changed number n to es in
         record {
+          grouped = grouped;
           sound = subst (IsSound number live spans late (key_of (last + 1))) (sym is)
               (sound_on number live spans bound late (key_of (last + 1)) (block_changed number n to) es k.sound (λ b. refl) (λ key b h. placed_changed number n to same key b.rows h)
               (subst (All (EntryLives live late)) is lives));
@@ -213,9 +216,10 @@ module _ {T S : Type 0} where
           room = λ is_ready. ap (has_room_at (key_of (last + 1))) is ∙ room_changed n (key_of (last + 1)) to es (k.room is_ready);
         }
 
-    pub consistent_cut : (now last len left bound late : ℕ) (ready : Bool) (es new : List (ℕ × SeenBlock T S)) → IsConsistent number live es spans last len bound ready → new ≡ on_blocks (cut_block live now) es → left ≡ length (all_rows new)
-        → All (EntryLives live late) new → IsConsistent number live new spans last left late ready
-    consistent_cut now last len left bound late ready es new k is count lives = record {
+    pub consistent_cut : (now last len left bound late : ℕ) (bounds renewed : List ℕ) (ready : Bool) (es new : List (ℕ × SeenBlock T S)) → IsConsistent number live es bounds spans last len bound ready → new ≡ on_blocks (cut_block live now) es → left ≡ length (all_rows new)
+        → All (EntryLives live late) new → IsGrouped live renewed new → IsConsistent number live new renewed spans last left late ready
+    consistent_cut now last len left bound late bounds renewed ready es new k is count lives grouped = record {
+      grouped = grouped;
       sound = subst (IsSound number live spans late (key_of (last + 1))) (sym is)
           (sound_on number live spans bound late (key_of (last + 1)) (cut_block live now) es k.sound (λ b. refl) (λ key b h. All-filter (live b.spans now) (BelongsTo number key) b.rows h)
           (subst (All (EntryLives live late)) is lives));

@@ -1,9 +1,9 @@
 -- The blocks of a table, each under its key, the lowest key first.
-use Rattle.std.specs.Prelude.{◌≡◌, ℕ, ◌+◌, ◌-◌, ◌≤◌, ◌/◌, ◌==◌, ◌&&◌, nat_lt, Bool, true, false, not, List, [], ◌∷◌, All, map, length, slice_get, Option, None, Some}
+use Rattle.std.specs.Prelude.{◌≡◌, ℕ, zero, suc, ◌+◌, ◌-◌, ◌*◌, ◌<◌, ◌≤◌, ◌/◌, ◌==◌, ◌&&◌, nat_lt, Bool, true, false, not, List, [], ◌∷◌, All, drop, map, length, slice_get, slice_index, slice_index_or, Option, None, Some}
 use Rattle.std.specs.List.{flat_map}
 use Rattle.std.specs.Map.{keys_of}
 use Rattle.rad_rows.specs.Blocks.{BlockLives, SeenBlock}
-use Rattle.rad_rows.specs.Rows.{IsRising}
+use Rattle.rad_rows.specs.Rows.{IsRising, Tells}
 
 -- the key of the block that a number belongs to
 abbrev pub key_of : ℕ → ℕ
@@ -24,6 +24,14 @@ module _ {T S : Type 0} where
   -- the entries with each block changed
   abbrev pub on_blocks : (SeenBlock T S → SeenBlock T S) → List (ℕ × SeenBlock T S) → List (ℕ × SeenBlock T S)
   on_blocks f entries = map (on_block f) entries
+
+  -- the entries with the blocks at some places changed: so many from a place on
+  abbrev pub on_some : (SeenBlock T S → SeenBlock T S) → (from count : ℕ) → List (ℕ × SeenBlock T S) → List (ℕ × SeenBlock T S)
+  on_some f zero zero entries = entries
+  on_some f zero (suc count) [] = []
+  on_some f zero (suc count) (entry ∷ entries) = on_block f entry ∷ on_some f zero count entries
+  on_some f (suc from) count [] = []
+  on_some f (suc from) count (entry ∷ entries) = entry ∷ on_some f from count entries
 
   -- whether an entry's block has rows
   abbrev pub has_rows : ℕ × SeenBlock T S → Bool
@@ -77,9 +85,23 @@ module _ {T S : Type 0} where
     pub limited : All (IsUpTo top) entries
     pub lives : All (EntryLives live bound) entries
 
+  -- each row of the blocks from a place up to another is live before this moment
+  pub record BlocksLive (live : S → ℕ → T → Bool) (bound from to : ℕ) (entries : List (ℕ × SeenBlock T S)) : Type 0 where
+    pub lives : (place : ℕ) (d : ℕ × SeenBlock T S) → from ≤ place → place < to → place < length entries → EntryLives live bound (slice_index_or entries place d)
+
+  -- there is a bound of each 64 neighbouring blocks, before which each of their rows is live
+  pub record IsGrouped (live : S → ℕ → T → Bool) (bounds : List ℕ) (entries : List (ℕ × SeenBlock T S)) : Type 0 where
+    pub enough : length entries ≤ 64 * length bounds
+    pub lives : (place : ℕ) (d : ℕ × SeenBlock T S) → place < length entries → EntryLives live (slice_index bounds (place / 64)) (slice_index_or entries place d)
+
+  -- a tally that is told of the rows from a place up to another: whoever is then told of the others, was told of all from the first on
+  abbrev pub TellsOn : {G : Type 0} → (G → T → G → Type 0) → (S → ℕ → T → Bool) → S → ℕ → (from to : ℕ) → List (ℕ × SeenBlock T S) → G → G → Type 0
+  TellsOn {G} told live spans now from to entries old new = (last : G) → Tells told live spans now (all_rows (drop to entries)) new last → Tells told live spans now (all_rows (drop from entries)) old last
+
   -- what the fields of a table keep; where memory is ready, it is in the block of the next number
-  pub record IsConsistent (number : T → ℕ) (live : S → ℕ → T → Bool) (entries : List (ℕ × SeenBlock T S)) (spans : S) (last len bound : ℕ) (ready : Bool) : Type 0 where
+  pub record IsConsistent (number : T → ℕ) (live : S → ℕ → T → Bool) (entries : List (ℕ × SeenBlock T S)) (bounds : List ℕ) (spans : S) (last len bound : ℕ) (ready : Bool) : Type 0 where
     pub sound : IsSound number live spans bound (key_of (last + 1)) entries
+    pub grouped : IsGrouped live bounds entries
     pub count : len ≡ length (all_rows entries)
     pub order : IsRising number last (all_rows entries)
     pub room : ready ≡ true → has_room_at (key_of (last + 1)) entries ≡ true

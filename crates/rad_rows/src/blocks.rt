@@ -1,25 +1,18 @@
-//! What is done to all blocks, or to the one that a number belongs to.
-ghost use Rattle.std.specs.Prelude.{◌≡◌, ◌≤◌, ◌-◌, ◌++◌, ◌∷◌, [], All, OnOk, false, filter, find, length, option_copied, slice_get, true};
+//! What is done to the block that a number belongs to, and to the row of blocks.
+ghost use Rattle.std.specs.Prelude.{◌≡◌, ◌≤◌, ◌<◌, ◌-◌, ◌*◌, ◌++◌, ◌∷◌, [], All, OnOk, false, filter, find, length, option_copied, slice_get, true};
 ghost use Rattle.indexmap.specs.IndexMap.{keys};
-ghost use Rattle.rad_rows.specs.Blocks.{block_changed, block_without, cut_block};
-ghost use Rattle.rad_rows.specs.Entries.{Ascends, EntryLives, HasSpans, IsPlaced, IsSound, all_rows, has_room_at, has_rows, is_at_key, key_of, on_blocks};
-ghost use Rattle.rad_rows.specs.Rows.{Tells, has_number, moment_max};
+ghost use Rattle.rad_rows.specs.Blocks.{block_changed, block_without};
+ghost use Rattle.rad_rows.specs.Entries.{Ascends, EntryLives, HasSpans, IsGrouped, IsPlaced, IsSound, all_rows, has_room_at, has_rows, is_at_key, key_of, on_blocks};
+ghost use Rattle.rad_rows.specs.Rows.{has_number, moment_max};
 
 use crate::block::{BLOCK, Block};
-use crate::row::{Change, Row, Tally};
+use crate::groups::{self, GROUP};
+use crate::row::{Change, Row};
 use indexmap::IndexMap;
 use std::alloc::AllocError;
 
 /// So many blocks may stand whether or not they have rows.
 pub(crate) const BLOCKS_MIN: usize = 16;
-
-/// What is known of the rows after a sweep.
-#[derive(Clone, Copy)]
-pub(crate) struct Swept {
-    pub(crate) count: usize,
-    /// A moment before which each row lives.
-    pub(crate) bound: u64,
-}
 
 /// The row of this number.
 pub(crate) fn find<T: Row<S>, S: Copy>(
@@ -65,6 +58,7 @@ pub(crate) fn remove<T: Row<S>, S: Copy>(
 /// Changes the row of this number, and returns a bound, where `bound` was one before.
 pub(crate) fn change<T: Row<S>, S: Copy, C: Change<T>>(
     blocks: &mut IndexMap<u64, Block<T, S>>,
+    bounds: &mut Vec<u64>,
     number: u64,
     by: &C,
     bound: u64,
@@ -72,9 +66,11 @@ pub(crate) fn change<T: Row<S>, S: Copy, C: Change<T>>(
     requires placed { All (IsPlaced T.number) blocks.old.entries }
     requires ascends { Ascends 0 (keys blocks.old) }
     requires lives { All (EntryLives T.is_live bound) blocks.old.entries }
+    requires grouped { IsGrouped T.is_live bounds.old.items blocks.old.entries }
     ensures entries { blocks.new.entries
         ≡ on_blocks (block_changed T.number number (C.to by.now)) blocks.old.entries }
     ensures lives { All (EntryLives T.is_live result) blocks.new.entries }
+    ensures grouped { IsGrouped T.is_live bounds.new.items blocks.new.entries }
 {
     let key = number / BLOCK;
     let Some(at) = blocks.get_index_of(&key) else {
@@ -82,12 +78,15 @@ pub(crate) fn change<T: Row<S>, S: Copy, C: Change<T>>(
     };
     let block = &mut blocks[at];
     block.change(number, by);
-    bound.min(block.bound())
+    let until = block.bound();
+    groups::lower(bounds, at / GROUP, until);
+    bound.min(until)
 }
 
 /// Puts a row last, and returns a bound, where `bound` was one before.
 pub(crate) fn push<T: Row<S>, S: Copy>(
     blocks: &mut IndexMap<u64, Block<T, S>>,
+    bounds: &mut Vec<u64>,
     spans: &S,
     row: T,
     bound: u64,
@@ -95,33 +94,41 @@ pub(crate) fn push<T: Row<S>, S: Copy>(
     requires sound { IsSound T.number T.is_live spans.now
         bound (key_of (T.number row)) blocks.old.entries }
     requires room { has_room_at (key_of (T.number row)) blocks.old.entries ≡ true }
+    requires grouped { IsGrouped T.is_live bounds.old.items blocks.old.entries }
     ensures sound { IsSound T.number T.is_live spans.now
         result (key_of (T.number row)) blocks.new.entries }
     ensures rows { all_rows blocks.new.entries ≡ all_rows blocks.old.entries ++ row ∷ [] }
+    ensures grouped { IsGrouped T.is_live bounds.new.items blocks.new.entries }
 {
     let end = row.ends(spans);
     let at = blocks.len() - 1;
     let block = &mut blocks[at];
     block.push(row);
+    let until = block.bound();
+    groups::lower(bounds, at / GROUP, until);
     bound.min(end)
 }
 
 /// Makes the block of this key the last, with memory for one more row.
 pub(crate) fn make_room<T: Row<S>, S: Copy>(
     blocks: &mut IndexMap<u64, Block<T, S>>,
+    bounds: &mut Vec<u64>,
     spans: &S,
     key: u64,
     bound: u64,
 ) -> Result<(), AllocError>
-    requires { IsSound T.number T.is_live spans.now bound key blocks.old.entries }
+    requires sound { IsSound T.number T.is_live spans.now bound key blocks.old.entries }
+    requires grouped { IsGrouped T.is_live bounds.old.items blocks.old.entries }
     ensures sound { IsSound T.number T.is_live spans.now bound key blocks.new.entries }
+    ensures grouped { IsGrouped T.is_live bounds.new.items blocks.new.entries }
     ensures rows { all_rows blocks.new.entries ≡ all_rows blocks.old.entries }
     ensures ready { OnOk result (has_room_at key blocks.new.entries ≡ true) }
 {
+    groups::grow(bounds, blocks.len())?;
     if is_last(blocks, key) {
-        reserve(blocks, spans, key, bound)
+        reserve(blocks, bounds, spans, key, bound)
     } else {
-        add(blocks, spans, key, bound)
+        add(blocks, bounds, spans, key, bound)
     }
 }
 
@@ -139,6 +146,7 @@ fn is_last<T: Row<S>, S: Copy>(blocks: &IndexMap<u64, Block<T, S>>, key: u64) ->
 // Makes memory ready for one more row in the last block, which is that of this key.
 fn reserve<T: Row<S>, S: Copy>(
     blocks: &mut IndexMap<u64, Block<T, S>>,
+    bounds: &[u64],
     spans: &S,
     key: u64,
     bound: u64,
@@ -146,8 +154,10 @@ fn reserve<T: Row<S>, S: Copy>(
     requires sound { IsSound T.number T.is_live spans.now bound key blocks.old.entries }
     requires last { is_at_key key
         (slice_get blocks.old.entries (length blocks.old.entries - 1)) ≡ true }
+    requires grouped { IsGrouped T.is_live bounds.now blocks.old.entries }
     ensures { IsSound T.number T.is_live spans.now bound key blocks.new.entries
         × (all_rows blocks.new.entries ≡ all_rows blocks.old.entries)
+        × IsGrouped T.is_live bounds.now blocks.new.entries
         × OnOk result (has_room_at key blocks.new.entries ≡ true) }
 {
     let at = blocks.len() - 1;
@@ -158,6 +168,7 @@ fn reserve<T: Row<S>, S: Copy>(
 // Puts an empty block of this key last.
 fn add<T: Row<S>, S: Copy>(
     blocks: &mut IndexMap<u64, Block<T, S>>,
+    bounds: &[u64],
     spans: &S,
     key: u64,
     bound: u64,
@@ -165,8 +176,11 @@ fn add<T: Row<S>, S: Copy>(
     requires sound { IsSound T.number T.is_live spans.now bound key blocks.old.entries }
     requires last { is_at_key key
         (slice_get blocks.old.entries (length blocks.old.entries - 1)) ≡ false }
+    requires grouped { IsGrouped T.is_live bounds.now blocks.old.entries }
+    requires enough { length blocks.old.entries < 64 * length bounds.now }
     ensures { IsSound T.number T.is_live spans.now bound key blocks.new.entries
         × (all_rows blocks.new.entries ≡ all_rows blocks.old.entries)
+        × IsGrouped T.is_live bounds.now blocks.new.entries
         × OnOk result (has_room_at key blocks.new.entries ≡ true) }
 {
     let block = Block::open(*blocks.allocator(), *spans)?;
@@ -178,22 +192,28 @@ fn add<T: Row<S>, S: Copy>(
 
 /// Takes out the blocks without rows where there are more than `limit` blocks, and returns the next limit.
 ///
-/// Above the limit half of the blocks may have no row. So a call costs as much as the blocks that came since the last walk.
+/// Above the limit, which is twice the blocks that the last walk left, half may have no row. So the walks cost each block that comes
+/// the same, however many there are.
 pub(crate) fn compact<T: Row<S>, S: Copy>(
     blocks: &mut IndexMap<u64, Block<T, S>>,
+    bounds: &mut Vec<u64>,
     spans: &S,
     key: u64,
     bound: u64,
     limit: usize,
 ) -> usize
-    requires { IsSound T.number T.is_live spans.now bound key blocks.old.entries }
+    requires sound { IsSound T.number T.is_live spans.now bound key blocks.old.entries }
+    requires grouped { IsGrouped T.is_live bounds.old.items blocks.old.entries }
     ensures sound { IsSound T.number T.is_live spans.now bound key blocks.new.entries }
+    ensures grouped { IsGrouped T.is_live bounds.new.items blocks.new.entries }
     ensures rows { all_rows blocks.new.entries ≡ all_rows blocks.old.entries }
 {
     if blocks.len() <= limit {
         return limit;
     }
     keep_with_rows(blocks);
+    // Blocks have other places now. The next sweep finds the bounds of the groups anew.
+    bounds.fill(0);
     blocks.len().saturating_mul(2).max(BLOCKS_MIN)
 }
 
@@ -225,36 +245,4 @@ pub(crate) fn count_live<T: Row<S>, S: Copy>(
         live += blocks[at].count_live(now);
     }
     live
-}
-
-/// Removes the rows that aren't live at a moment, of `count` rows, and tells the tally of each.
-pub(crate) fn sweep<T: Row<S>, S: Copy, G: Tally<T>>(
-    blocks: &mut IndexMap<u64, Block<T, S>>,
-    spans: &S,
-    tally: &mut G,
-    now: u64,
-    count: usize,
-) -> Swept
-    requires now { now ≤ moment_max }
-    requires spans { All (HasSpans spans.now) blocks.old.entries }
-    requires count { count ≡ length (all_rows blocks.old.entries) }
-    ensures entries { blocks.new.entries
-        ≡ on_blocks (cut_block T.is_live now) blocks.old.entries }
-    ensures told { Tells G.told T.is_live spans.now now
-        (all_rows blocks.old.entries) tally.old tally.new }
-    ensures count { result.count ≡ length (all_rows blocks.new.entries) }
-    ensures bound { All (EntryLives T.is_live result.bound) blocks.new.entries }
-{
-    let mut count = count;
-    let mut bound: u64 = u64::MAX;
-    for at in 0..blocks.len() {
-        let block = &mut blocks[at];
-        let before = block.len();
-        block.sweep(tally, now);
-        let after = block.len();
-        let until = block.bound();
-        count -= before - after;
-        bound = bound.min(until);
-    }
-    Swept { count, bound }
 }

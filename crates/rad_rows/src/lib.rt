@@ -4,9 +4,10 @@
 //! divided by `BLOCK` give. Keys rise along the map, so the rows are in the order of their numbers, oldest first; a row is found,
 //! changed or removed by one look-up of a key and a walk over one block.
 //!
-//! A bound is a moment before which each row lives: each block has one, and there is one of all. A bound may be too early, never
-//! too late. Before the bound of all, `expire` is one comparison. From then on it goes over the bounds of the blocks, looks at the
-//! rows of those blocks alone whose bound has come, and sets the bounds anew. Nothing rests on moments that rise.
+//! A bound is a moment before which each row lives. Each block has one, each 64 neighbouring blocks have one, and there is one of
+//! all. A bound may be too early, never too late. Before the bound of all, `expire` is one comparison. From then on it goes over the
+//! bounds of the groups, into the groups whose bound has come, and there into the blocks whose bound has come; the bounds that it
+//! passes are found anew. Nothing rests on moments that rise.
 //!
 //! `room` and `copy` are the calls that take memory. `room` puts an empty block under the key of the next number, by the map's
 //! insert, and `push` fills the block in place: nothing leans on a reserve of the map. Blocks without rows are taken out by `room`,
@@ -18,6 +19,7 @@
 
 mod block;
 mod blocks;
+mod groups;
 mod iter;
 mod plain;
 mod row;

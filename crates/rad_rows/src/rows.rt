@@ -5,6 +5,7 @@ ghost use Rattle.rad_rows.specs.Rows.{AreSame, IsRising, Tells, change_row, has_
 
 use crate::block::{BLOCK, Block};
 use crate::blocks::{self, BLOCKS_MIN};
+use crate::groups;
 use crate::iter::Iter;
 use crate::row::{Change, Row, Tally};
 use indexmap::IndexMap;
@@ -19,6 +20,8 @@ use std::marker::Model;
 pub struct Rows<T: Row<S>, S: Copy> {
     // Each block under the number of each of its rows, divided by `BLOCK`.
     blocks: IndexMap<u64, Block<T, S>>,
+    // A bound of each `GROUP` neighbouring blocks.
+    bounds: Vec<u64>,
     // With more blocks than this, some are looked for that have no row.
     limit: usize,
     spans: S,
@@ -46,7 +49,7 @@ impl<T: Row<S>, S: Copy> Model for Rows<T, S> {
     } };
 
     ghost invariant = { λ rows. IsConsistent T.number T.is_live
-        rows.blocks.entries rows.spans rows.last rows.count rows.bound rows.ready };
+        rows.blocks.entries rows.bounds.items rows.spans rows.last rows.count rows.bound rows.ready };
 }
 
 impl<T: Row<S>, S: Copy> Rows<T, S> {
@@ -59,6 +62,7 @@ impl<T: Row<S>, S: Copy> Rows<T, S> {
     {
         Rows {
             blocks: IndexMap::new(alloc),
+            bounds: Vec::new(alloc),
             limit: BLOCKS_MIN,
             spans,
             last: 0,
@@ -143,13 +147,14 @@ impl<T: Row<S>, S: Copy> Rows<T, S> {
         let key = next_key(self.last);
         let Rows {
             blocks,
+            bounds,
             limit,
             spans,
             bound,
             ..
         } = self;
-        *limit = blocks::compact(blocks, spans, key, *bound, *limit);
-        blocks::make_room(blocks, spans, key, *bound)?;
+        *limit = blocks::compact(blocks, bounds, spans, key, *bound, *limit);
+        blocks::make_room(blocks, bounds, spans, key, *bound)?;
         self.ready = true;
         Ok(())
     }
@@ -164,7 +169,13 @@ impl<T: Row<S>, S: Copy> Rows<T, S> {
         ensures room { self.new.has_room ≡ false }
     {
         let number = row.number();
-        let bound = blocks::push(&mut self.blocks, &self.spans, row, self.bound);
+        let bound = blocks::push(
+            &mut self.blocks,
+            &mut self.bounds,
+            &self.spans,
+            row,
+            self.bound,
+        );
         self.last = number;
         self.count += 1;
         self.bound = bound;
@@ -191,7 +202,7 @@ impl<T: Row<S>, S: Copy> Rows<T, S> {
         ensures spans { self.new.spans ≡ self.old.spans }
         ensures room { self.new.has_room ≡ self.old.has_room }
     {
-        let bound = blocks::change(&mut self.blocks, number, by, self.bound);
+        let bound = blocks::change(&mut self.blocks, &mut self.bounds, number, by, self.bound);
         self.bound = bound;
     }
 
@@ -208,7 +219,14 @@ impl<T: Row<S>, S: Copy> Rows<T, S> {
         if now < self.bound {
             return;
         }
-        let swept = blocks::sweep(&mut self.blocks, &self.spans, tally, now, self.count);
+        let Rows {
+            blocks,
+            bounds,
+            spans,
+            count,
+            ..
+        } = self;
+        let swept = groups::sweep(blocks, bounds, spans, tally, now, *count);
         self.count = swept.count;
         self.bound = swept.bound;
     }

@@ -1,6 +1,7 @@
 use Rattle.std.proofs.Common.{sym, arith}
 use Rattle.rad_rows.specs.Blocks.{block_changed}
 use Rattle.rad_rows.proofs.EntryLemmas.{entries_live_set, no_some}
+use Rattle.rad_rows.proofs.GroupLemmas.{get_value, grouped_set}
 use Rattle.rad_rows.proofs.PlaceLemmas.{entry_at_key, none_touched, one_touched, skip_changed}
 use Rattle.rad_rows.proofs.blocks.change.Goals as goal
 
@@ -19,4 +20,13 @@ returns-clause-entries g c =
 
 pub returns-clause-lives : goal.returns-clause-lives
 returns-clause-lives g c =
-    entries_live_set g.T.Row.is_live c.args.bound c.bound.result c.min.result c.args.blocks.now.entries c.in-Some.at c.change.new.self (omega arith) (omega arith) c.requires.lives c.bound.ensures
+    entries_live_set g.T.Row.is_live c.args.bound c.bound-until.result c.min.result c.args.blocks.now.entries c.in-Some.at c.change.new.self (omega arith) (omega arith) c.requires.lives c.bound-until.ensures
+
+pub lower-requires : goal.lower-requires
+lower-requires g c =
+    omega (arith, c.requires.grouped.enough, (get_value c.args.blocks.now.entries c.in-Some.at c.index_mut-block.result.now (0, c.index_mut-block.result.now) c.index_mut-block.ensures.value).0)
+
+pub returns-clause-grouped : goal.returns-clause-grouped
+returns-clause-grouped g c =
+    grouped_set g.T.Row.is_live c.args.bounds.now.items c.lower.new.bounds.items c.bound-until.result c.args.blocks.now.entries c.in-Some.at c.change.new.self c.requires.grouped
+    c.lower.ensures.len c.lower.ensures.earlier c.lower.ensures.here c.bound-until.ensures

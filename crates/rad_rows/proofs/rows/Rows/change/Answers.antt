@@ -5,8 +5,8 @@ use Rattle.rad_rows.proofs.rows.Rows.change.Goals as goal
 
 pub invariant_of-self : goal.invariant_of-self
 invariant_of-self g c =
-    consistent_changed g.T.Row.number g.T.Row.is_live c.self.inside.spans c.args.number c.self.inside.last c.self.inside.count c.self.inside.bound c.change-bound.result c.self.inside.ready
-    (g.C.Change.to c.args.by.now) c.self.inside.blocks.entries c.change-bound.new.blocks.entries c.requires c.self.invariant c.change-bound.ensures.entries c.change-bound.ensures.lives
+    consistent_changed g.T.Row.number g.T.Row.is_live c.self.inside.spans c.args.number c.self.inside.last c.self.inside.count c.self.inside.bound c.change-bound.result c.self.inside.bounds.items c.change-bound.new.bounds.items c.self.inside.ready
+    (g.C.Change.to c.args.by.now) c.self.inside.blocks.entries c.change-bound.new.blocks.entries c.requires c.self.invariant c.change-bound.ensures.entries c.change-bound.ensures.lives c.change-bound.ensures.grouped
 
 pub returns-clause-rows : goal.returns-clause-rows
 returns-clause-rows g c =

@@ -13,8 +13,8 @@ returns-then-now-self-clause-told g c = rw (← c.self.view_is)
 
 pub invariant_of-self : goal.invariant_of-self
 invariant_of-self g c =
-    consistent_cut g.T.Row.number g.T.Row.is_live c.self.inside.spans c.args.now c.self.inside.last c.self.inside.count c.sweep-swept.result.count c.self.inside.bound c.sweep-swept.result.bound c.self.inside.ready
-    c.self.inside.blocks.entries c.sweep-swept.new.blocks.entries c.self.invariant c.sweep-swept.ensures.entries c.sweep-swept.ensures.count c.sweep-swept.ensures.bound
+    consistent_cut g.T.Row.number g.T.Row.is_live c.self.inside.spans c.args.now c.self.inside.last c.self.inside.count c.sweep-swept.result.count c.self.inside.bound c.sweep-swept.result.bound c.self.inside.bounds.items c.sweep-swept.new.bounds.items c.self.inside.ready
+    c.self.inside.blocks.entries c.sweep-swept.new.blocks.entries c.self.invariant c.sweep-swept.ensures.entries c.sweep-swept.ensures.count c.sweep-swept.ensures.bound c.sweep-swept.ensures.grouped
 
 pub returns-clause-rows : goal.returns-clause-rows
 returns-clause-rows g c = rw (← c.self.view_is)
