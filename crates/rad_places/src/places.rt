@@ -159,8 +159,10 @@ impl Places {
 // So many places from 0 on, each marked, and no other.
 fn all_marked(alloc: Global, count: u32) -> Result<Marks, AllocError>
     ensures enough { IfOk result (λ marks. count ≤ 64 * length marks) }
-    ensures within { IfOk result (λ marks. (place : ℕ) → place < count → marked marks place ≡ 1) }
-    ensures others { IfOk result (λ marks. (place : ℕ) → count ≤ place → marked marks place ≡ 0) }
+    ensures within { IfOk result (λ marks.
+        (place : ℕ) → place < count → marked marks place ≡ 1) }
+    ensures others { IfOk result (λ marks.
+        (place : ℕ) → count ≤ place → marked marks place ≡ 0) }
 {
     let mut marks = Marks::open(alloc, count)?;
     for place in 0..count {
