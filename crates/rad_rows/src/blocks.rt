@@ -11,7 +11,7 @@ use crate::row::{Change, Row};
 use indexmap::IndexMap;
 use std::alloc::AllocError;
 
-/// So many blocks may stand whether or not they have rows.
+/// So many blocks may come before those without rows are looked for.
 pub(crate) const BLOCKS_MIN: usize = 16;
 
 /// The row of this number.
@@ -192,8 +192,8 @@ fn add<T: Row<S>, S: Copy>(
 
 /// Takes out the blocks without rows where there are more than `limit` blocks, and returns the next limit.
 ///
-/// Above the limit, which is twice the blocks that the last walk left, half may have no row. So the walks cost each block that comes
-/// the same, however many there are.
+/// The limit is an eighth more than the blocks that the last walk left. So the walks cost each block that comes the same, however many
+/// there are, and no walk frees more than a ninth of them.
 pub(crate) fn compact<T: Row<S>, S: Copy>(
     blocks: &mut IndexMap<u64, Block<T, S>>,
     bounds: &mut Vec<u64>,
@@ -214,7 +214,8 @@ pub(crate) fn compact<T: Row<S>, S: Copy>(
     keep_with_rows(blocks);
     // Blocks have other places now. The next sweep finds the bounds of the groups anew.
     bounds.fill(0);
-    blocks.len().saturating_mul(2).max(BLOCKS_MIN)
+    let len = blocks.len();
+    len.saturating_add(len / 8).saturating_add(BLOCKS_MIN)
 }
 
 // Keeps the blocks with rows alone, in their order.

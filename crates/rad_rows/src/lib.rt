@@ -10,8 +10,8 @@
 //! passes are found anew. Nothing rests on moments that rise.
 //!
 //! `room` and `copy` are the calls that take memory. `room` puts an empty block under the key of the next number, by the map's
-//! insert, and `push` fills the block in place: nothing leans on a reserve of the map. Blocks without rows are taken out by `room`,
-//! once they may be half of all.
+//! insert, and `push` fills the block in place: nothing leans on a reserve of the map. Now and then `room` takes out the blocks
+//! without rows.
 //!
 //! Other crates rest on this: contracts see the rows as a list, and each call does to the list what its clauses say
 //! (`specs/Rows.antt`). Blocks and bounds are known to this crate alone.
