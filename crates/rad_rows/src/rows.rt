@@ -238,13 +238,13 @@ impl<T: Row<S>, S: Copy> Rows<T, S> {
         ensures spans { IfOk result (λ copy. copy.spans ≡ self.now.spans) }
         ensures room { IfOk result (λ copy. copy.has_room ≡ false) }
     {
-        let _last = self.last();
+        let last = self.last();
         let mut copy = Rows::open(*self.blocks.allocator(), self.spans);
         let mut rest = self.iter();
         while let Some(row) = rest.next() {
             copy.push_copy(row)?;
         }
-        copy.skip(self.last);
+        copy.skip(last);
         Ok(copy)
     }
 
