@@ -1,5 +1,5 @@
 use Rattle.std.proofs.Common.{◌≡◌, ◌≢◌, ℕ, zero, suc, ◌+◌, ◌*◌, ◌/◌, ◌≤◌, ◌<◌, List, [], ◌∷◌, ◌++◌, Bool, arith, refl, ap, ◌∙◌, sym, filter, subst, take, drop, length, get_or, replicate, set, inl, inr, Some, slice_get}
-use Rattle.std.specs.List.{All}
+use Rattle.std.specs.List.{All, FoldsTo}
 use Rattle.std.specs.Map.{values_of}
 use Rattle.std.proofs.lemmas.Bool.{cases_lt}
 use Rattle.std.proofs.lemmas.Grind.{get_or-set_at}
@@ -7,9 +7,9 @@ use Rattle.std.proofs.lemmas.List.{length-replicate, get_or-map, get_or-set_othe
 use Rattle.std.proofs.lemmas.List.Elements.{All-filter, filter-append}
 use Rattle.indexmap.specs.IndexMap.{set_value_at}
 use Rattle.rad_rows.specs.Blocks.{BlockLives, LivesUntil, SeenBlock, block_without, cut_block, with_rows}
-use Rattle.rad_rows.specs.Entries.{BlocksLive, EntryLives, HasSpans, IsGrouped, all_rows, on_block, on_blocks, on_some}
+use Rattle.rad_rows.specs.Entries.{BlocksLive, EntryLives, HasSpans, IsGrouped, TellsOn, all_rows, on_block, on_blocks, on_some}
 use Rattle.rad_rows.specs.Rows.{has_other, is_dead, moment_max}
-use Rattle.rad_rows.proofs.BlockLemmas.{filter_live}
+use Rattle.rad_rows.proofs.BlockLemmas.{filter_live, none_dead}
 use Rattle.rad_rows.proofs.EntryLemmas.{entry_lives_less, not_none, some_is}
 
 module _ {T S : Type 0} where
@@ -243,8 +243,8 @@ module _ {T S : Type 0} where
         let e = get_or es place d in
         ap (λ rows. (e.0, with_rows e.1 rows)) (filter_live live e.1.spans bound now e.1.rows early small (h.lives place d a b c).block.rows))
 
-    -- and nothing is told
-    pub group_untold : (spans : S) (now : ℕ) (es : List (ℕ × SeenBlock T S)) (k n m : ℕ) → m ≡ k + n
+    -- blocks without dead rows have nothing to tell
+    group_untold : (spans : S) (now : ℕ) (es : List (ℕ × SeenBlock T S)) (k n m : ℕ) → m ≡ k + n
         → ((place : ℕ) (d : ℕ × SeenBlock T S) → k ≤ place → place < m → place < length es → filter (is_dead live spans now) (get_or es place d).1.rows ≡ [])
         → filter (is_dead live spans now) (all_rows (drop k es)) ≡ filter (is_dead live spans now) (all_rows (drop m es))
     group_untold spans now es zero zero zero is h = refl
@@ -258,6 +258,15 @@ module _ {T S : Type 0} where
     group_untold spans now [] (suc k) n (suc m) is h = refl
     group_untold spans now (e ∷ es) (suc k) n (suc m) is h =
         group_untold spans now es k n m (omega (arith, is)) (λ place d a b c. h (suc place) d (omega (arith, a)) (omega (arith, b)) (omega (arith, c)))
+
+    -- nothing is told before a group's bound
+    pub group_passed : {G : Type 0} (told : G → T → G → Type 0) (spans : S) (bound now k n : ℕ) (es : List (ℕ × SeenBlock T S)) (tally : G) → now < bound → now ≤ moment_max → All (HasSpans spans) es → BlocksLive live bound k (k + n) es
+        → TellsOn told live spans now k (k + n) es tally tally
+    group_passed told spans bound now k n es tally early small same h = λ last rest.
+        subst (λ rows. FoldsTo told tally rows last)
+        (sym (group_untold spans now es k n (k + n) refl (λ place d low high within.
+        none_dead live spans bound now (get_or es place d).1.rows early small
+        (subst (λ s. All (LivesUntil live s bound) (get_or es place d).1.rows) (same place d within).same (h.lives place d low high within).block.rows)))) rest
 
     pub front_kept : (bound now k n : ℕ) (es : List (ℕ × SeenBlock T S)) → BlocksLive live bound 0 k es → BlocksLive live bound 0 k (on_some (cut_block live now) k n es)
     front_kept bound now k n es h = record {

@@ -131,6 +131,17 @@ impl<T: Row<S>, S: Copy> Block<T, S> {
         plain::count_live(&self.rows, &self.spans, now)
     }
 
+    /// Tells the tally of each row that isn't live at a moment. The rows stay.
+    pub fn tell_dead<G: Tally<T>>(&self, tally: &mut G, now: u64)
+        requires { now ≤ moment_max }
+        ensures { Tells G.told T.is_live self.now.spans now self.now.rows tally.old tally.new }
+    {
+        if now < self.bound {
+            return;
+        }
+        plain::tell(&self.rows, &self.spans, tally, now);
+    }
+
     /// Removes the rows that aren't live at a moment, and tells the tally of each.
     pub fn sweep<G: Tally<T>>(&mut self, tally: &mut G, now: u64)
         requires { now ≤ moment_max }

@@ -47,6 +47,52 @@ pub(crate) fn grow(bounds: &mut Vec<u64>, len: usize) -> Result<(), AllocError>
     Ok(())
 }
 
+/// Tells the tally of each row that isn't live at a moment. The rows stay.
+pub(crate) fn tell_dead<T: Row<S>, S: Copy, G: Tally<T>>(
+    blocks: &IndexMap<u64, Block<T, S>>,
+    bounds: &[u64],
+    spans: &S,
+    tally: &mut G,
+    now: u64,
+)
+    requires now { now ≤ moment_max }
+    requires spans { All (HasSpans spans.now) blocks.now.entries }
+    requires grouped { IsGrouped T.is_live bounds.now blocks.now.entries }
+    ensures { Tells G.told T.is_live spans.now now
+        (all_rows blocks.now.entries) tally.old tally.new }
+{
+    for group in 0..blocks.len().div_ceil(GROUP) {
+        tell_group(blocks, spans, tally, now, group, bounds[group]);
+    }
+}
+
+// Tells the tally of each row of a group that isn't live at a moment. Each row of the group lives before `bound`.
+fn tell_group<T: Row<S>, S: Copy, G: Tally<T>>(
+    blocks: &IndexMap<u64, Block<T, S>>,
+    spans: &S,
+    tally: &mut G,
+    now: u64,
+    group: usize,
+    bound: u64,
+)
+    requires now { now ≤ moment_max }
+    requires within { 64 * group < length blocks.now.entries }
+    requires spans { All (HasSpans spans.now) blocks.now.entries }
+    requires lives { BlocksLive T.is_live bound
+        (64 * group) (64 * group + 64) blocks.now.entries }
+    ensures { TellsOn G.told T.is_live spans.now now
+        (64 * group) (64 * group + 64) blocks.now.entries tally.old tally.new }
+{
+    if now < bound {
+        return;
+    }
+    let len = blocks.len();
+    let from = group * GROUP;
+    for step in 0..GROUP.min(len - from) {
+        blocks[from + step].tell_dead(tally, now);
+    }
+}
+
 /// Removes the rows that aren't live at a moment, of `count` rows, and tells the tally of each.
 pub(crate) fn sweep<T: Row<S>, S: Copy, G: Tally<T>>(
     blocks: &mut IndexMap<u64, Block<T, S>>,

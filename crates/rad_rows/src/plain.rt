@@ -46,8 +46,8 @@ pub(crate) fn sweep<T: Row<S>, S, G: Tally<T>>(
     earliest(rows, spans)
 }
 
-// Tells the tally of each row that isn't live at a moment.
-fn tell<T: Row<S>, S, G: Tally<T>>(rows: &[T], spans: &S, tally: &mut G, now: u64)
+/// Tells the tally of each row that isn't live at a moment.
+pub(crate) fn tell<T: Row<S>, S, G: Tally<T>>(rows: &[T], spans: &S, tally: &mut G, now: u64)
     requires { now ≤ moment_max }
     ensures { Tells G.told T.is_live spans.now now rows.now tally.old tally.new }
 {

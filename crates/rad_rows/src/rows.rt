@@ -89,11 +89,12 @@ impl<T: Row<S>, S: Copy> Rows<T, S> {
         self.count
     }
 
-    /// The last number that was given, or 0.
+    /// The last number that was given, or 0. There are no more rows than that.
     pub fn last(&self) -> u64
         ensures last { result ≡ self.now.last }
         // Numbers rise from row to row, the first is 1 or more, and none is above the last that was given.
         ensures rising { IsRising T.number self.now.last self.now.rows }
+        ensures few { length self.now.rows ≤ self.now.last }
     {
         self.last
     }
@@ -204,6 +205,17 @@ impl<T: Row<S>, S: Copy> Rows<T, S> {
     {
         let bound = blocks::change(&mut self.blocks, &mut self.bounds, number, by, self.bound);
         self.bound = bound;
+    }
+
+    /// Tells the tally of each row that isn't live at a moment, oldest first. The rows stay.
+    pub fn tell_dead<G: Tally<T>>(&self, tally: &mut G, now: u64)
+        requires { now ≤ moment_max }
+        ensures { Tells G.told T.is_live self.now.spans now self.now.rows tally.old tally.new }
+    {
+        if now < self.bound {
+            return;
+        }
+        groups::tell_dead(&self.blocks, &self.bounds, &self.spans, tally, now);
     }
 
     /// Removes the rows that aren't live at a moment, and tells the tally of each, oldest first.

@@ -1,3 +1,5 @@
+ghost use Rattle.std.specs.Prelude.{◌≤◌};
+
 mod entry;
 mod pair;
 
@@ -24,20 +26,32 @@ fn rows_do_what_a_plain_list_does(rt: HostRuntime) {
     for span in SPANS.iter() {
         holds(
             &rt,
-            agree_for(rt.alloc(), *span, 4_000),
+            agree_for(rt.alloc(), *span, 8, 4_000),
             "each call answers as on a plain list",
         );
     }
 }
 
-// Whether so many random calls answer on rows as on a plain list, also where an allocation is refused. A row lives for `span`.
-fn agree_for(alloc: Global, span: u64, calls: u64) -> bool {
+#[test]
+fn rows_in_two_groups_of_blocks_do_what_a_plain_list_does(rt: HostRuntime) {
+    holds(
+        &rt,
+        agree_for(rt.alloc(), 18_000, 20_000, 14_000),
+        "each call answers as on a plain list, also where rows of any age go",
+    );
+}
+
+// Whether so many random calls answer on rows as on a plain list, also where an allocation is refused. A row lives for `span`, and
+// the moments of neighbouring calls lie up to `spread` apart.
+fn agree_for(alloc: Global, span: u64, spread: u64, calls: u64) -> bool
+    requires { 1 ≤ spread }
+{
     let mut pair = Pair::open(alloc, span);
     let mut draw = span;
     for call in 0..calls {
         draw = next_draw(draw);
         // Moments rise in the mean, but not from call to call.
-        let now = (call / 2 + (draw >> 32) % 8) % 100_000;
+        let now = (call / 2 + (draw >> 32) % spread) % 100_000;
         if !pair.call(draw >> 40, now) {
             return false;
         }

@@ -49,13 +49,20 @@ impl Change<Entry> for Renewal {
 }
 
 /// The numbers of the rows that went, in their order.
-#[derive(Clone, Copy)]
+#[derive(Clone, Copy, PartialEq, Eq)]
 pub struct Gone {
     pub count: u64,
     pub digest: u64,
 }
 
 impl Gone {
+    pub fn none() -> Gone {
+        Gone {
+            count: 0,
+            digest: 0,
+        }
+    }
+
     pub fn add(&mut self, number: u64) {
         self.count = self.count.wrapping_add(1);
         self.digest = self.digest.wrapping_mul(31).wrapping_add(number);

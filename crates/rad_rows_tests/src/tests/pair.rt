@@ -69,20 +69,20 @@ impl Pair {
         true
     }
 
-    // The same rows go, in the same order.
+    // The same rows go, in the same order. Before they go a tally is told of the same rows, and they stay.
     fn expire(&mut self, now: u64) -> bool
         requires { now ≤ moment_max }
     {
-        let mut gone = Gone {
-            count: 0,
-            digest: 0,
-        };
+        let mut told = Gone::none();
+        self.rows.tell_dead(&mut told, now);
+        let stay = self.has_same_rows();
+        let mut gone = Gone::none();
         self.rows.expire(&mut gone, now);
         let span = self.span;
         let expected = dead(&self.plain, span, now);
         self.plain
             .retain(|entry| now < entry.made.saturating_add(span));
-        gone.count == expected.count && gone.digest == expected.digest
+        stay && told == gone && gone == expected
     }
 
     fn counts(&self, now: u64) -> bool
@@ -128,10 +128,7 @@ impl Pair {
 
 // The rows that aren't live.
 fn dead(plain: &[Entry], span: u64, now: u64) -> Gone {
-    let mut gone = Gone {
-        count: 0,
-        digest: 0,
-    };
+    let mut gone = Gone::none();
     for entry in plain {
         if entry.made.saturating_add(span) <= now {
             gone.add(entry.number);
