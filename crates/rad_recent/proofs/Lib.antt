@@ -1,1 +1,7 @@
 mod RecentLemmas
+mod IndexLemmas
+mod NumberedLemmas
+mod HoldLemmas
+mod FindLemmas
+mod ChallengeLemmas
+mod LawfulLemmas

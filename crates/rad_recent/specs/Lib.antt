@@ -1,2 +1,5 @@
 pub mod Challenges
+pub mod Index
+pub mod Lawful
+pub mod Numbers
 pub mod Recent

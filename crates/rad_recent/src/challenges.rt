@@ -1,12 +1,13 @@
 //! The table of challenges.
-ghost use Rattle.std.specs.Prelude.{◌≡◌, ◌≤◌, ◌↔◌, IfOk, IsErrOf, IsOk, IsTrue, OnOk, option_map, true};
+ghost use Rattle.std.specs.Prelude.{◌≡◌, ◌≤◌, ◌↔◌, IfOk, IsErrOf, IsOk, IsTrue, OnOk, false, option_map, true};
 ghost use Rattle.std.specs.Iterator.{YieldsFirst, item_count};
 ghost use Rattle.rad_config.specs.Spans.{moment_max, spans_of};
-ghost use Rattle.rad_recent.specs.Challenges.{AreSame, IsIssued, answered, cut_challenges, next_number, opening, without_answered};
+ghost use Rattle.rad_recent.specs.Challenges.{AreSame, IsIssued, answered, cut_challenges, next_number, opening, with_challenge, without_answered};
 
-use crate::challenge::Challenge;
-use crate::challenge_rows;
+use crate::answers;
+use crate::challenge::{Challenge, Nobody};
 use rad_config::Config;
+use rad_rows::{Iter, Rows};
 use std::alloc::{AllocError, Global};
 use std::marker::Model;
 use thiserror::Error;
@@ -31,22 +32,22 @@ pub enum IssueFault {
 /// milliseconds, at most `MOMENT_MAX`, and need not rise.
 #[derive(Drop)]
 pub struct Challenges {
-    rows: Vec<Challenge>,
-    // The last number that was given, or 0.
-    last: u64,
-    hold: u64,
+    rows: Rows<Challenge, u64>,
 }
 
 impl Model for Challenges {
-    ghost use Rattle.std.specs.Prelude.{◌+◌, nat_lt, vec_len};
-    ghost use Rattle.std.specs.Vec.{vec_capacity};
+    ghost use Rattle.std.specs.Prelude.{◌+◌};
     ghost use Rattle.rad_recent.specs.Challenges.{SeenWaiting};
 
     ghost Value = { SeenWaiting };
 
     ghost view = { λ challenges. record {
-      table = record { challenges = challenges.rows.items; next = challenges.last + 1; hold = challenges.hold };
-      has_room = nat_lt (vec_len challenges.rows) (vec_capacity challenges.rows);
+      table = record {
+        challenges = challenges.rows.rows;
+        next = challenges.rows.last + 1;
+        hold = challenges.rows.spans;
+      };
+      has_room = challenges.rows.has_room;
     } };
 }
 
@@ -56,9 +57,7 @@ impl Challenges {
         ensures { IfOk result (λ challenges. challenges.table ≡ opening (spans_of config.now).hold) }
     {
         Ok(Challenges {
-            rows: Vec::new(alloc),
-            last: 0,
-            hold: config.spans().hold,
+            rows: Rows::open(alloc, config.spans().hold),
         })
     }
 
@@ -66,7 +65,9 @@ impl Challenges {
     pub fn rows(&self) -> ChallengeRows<'_>
         ensures { result ≡ self.now.table.challenges }
     {
-        ChallengeRows { rest: &self.rows }
+        ChallengeRows {
+            rest: self.rows.iter(),
+        }
     }
 
     /// Removes the challenges that are no longer live.
@@ -77,8 +78,7 @@ impl Challenges {
         ensures settled { cut_challenges now self.new.table ≡ self.new.table }
         ensures room { self.old.has_room ≡ true → self.new.has_room ≡ true }
     {
-        let hold = self.hold;
-        challenge_rows::keep_live(&mut self.rows, hold, now);
+        self.rows.expire(&mut Nobody {}, now);
     }
 
     /// What `issue` would answer at this moment if there is memory.
@@ -89,11 +89,11 @@ impl Challenges {
         ensures number { IfOk result (λ number. number ≡ self.now.table.next) }
         ensures memory { IsErrOf result IssueFault.NoMemory → ⊥ }
     {
-        let Challenges { rows, last, hold } = self;
-        if CHALLENGES_MAX <= challenge_rows::count_live(rows, *hold, now) || *last == u64::MAX {
+        let last = self.rows.last();
+        if CHALLENGES_MAX <= self.rows.count_live(now) || last == u64::MAX {
             return Err(IssueFault::Full);
         }
-        Ok(*last + 1)
+        Ok(last + 1)
     }
 
     /// Makes memory ready for one more challenge.
@@ -102,8 +102,7 @@ impl Challenges {
         ensures ready { OnOk result (self.new.has_room ≡ true) }
         ensures still { self.old.has_room ≡ true → IsOk result }
     {
-        self.rows.reserve(1)?;
-        Ok(())
+        self.rows.room()
     }
 
     /// Removes the challenges that are no longer live, and adds one, with the next number, sent to the client at place `client` for
@@ -127,18 +126,26 @@ impl Challenges {
             return Err(IssueFault::NoMemory);
         }
         self.expire(now);
-        let challenge = Challenge {
+        self.add(client, user, draw, now);
+        Ok(number)
+    }
+
+    /// Adds a challenge, with the next number, sent to the client at place `client` for the user at place `user`. One more may wait,
+    /// and memory was made ready for it.
+    #[tactic(auto, unfolding(crate::specs::Challenges::next_number))]
+    pub fn add(&mut self, client: u32, user: u32, draw: &[u8; 16], now: u64)
+        requires room { self.old.has_room ≡ true }
+        requires number { IsOk (next_number self.old.table) }
+        ensures table { self.new.table ≡ with_challenge client user draw.now now self.old.table }
+    {
+        let number = self.rows.last() + 1;
+        self.rows.push(Challenge {
             number,
             draw: *draw,
             client,
             user,
             made: now,
-        };
-        if self.rows.push(challenge).is_err() {
-            return Err(IssueFault::NoMemory);
-        }
-        self.last = number;
-        Ok(number)
+        });
     }
 
     /// Removes the challenges that are no longer live, and the one that the client at place `client` answers with this State, which
@@ -154,10 +161,9 @@ impl Challenges {
         ensures settled { cut_challenges now self.new.table ≡ self.new.table }
         ensures room { self.old.has_room ≡ true → self.new.has_room ≡ true }
     {
-        let hold = self.hold;
-        let taken = challenge_rows::find(&self.rows, hold, now, state, client);
-        challenge_rows::keep_live(&mut self.rows, hold, now);
-        challenge_rows::remove_answered(&mut self.rows, state, client);
+        let taken = answers::find(&self.rows, state, client, now);
+        self.rows.expire(&mut Nobody {}, now);
+        answers::remove(&mut self.rows, state, client, taken);
         taken
     }
 
@@ -167,34 +173,31 @@ impl Challenges {
         ensures { result ≡ option_map (λ challenge. challenge.user)
             (answered state.now client (cut_challenges now self.now.table)) }
     {
-        let challenge = challenge_rows::find(&self.rows, self.hold, now, state, client)?;
+        let challenge = answers::find(&self.rows, state, client, now)?;
         Some(challenge.user)
     }
 
-    /// An equal table.
+    /// An equal table. No memory is ready for one more.
     pub fn copy(&self) -> Result<Challenges, AllocError>
-        ensures { IfOk result (λ copy. copy.table ≡ self.now.table) }
+        ensures table { IfOk result (λ copy. copy.table ≡ self.now.table) }
+        ensures room { IfOk result (λ copy. copy.has_room ≡ false) }
     {
-        let rows = self.rows.clone()?;
-        Ok(Challenges {
-            rows,
-            last: self.last,
-            hold: self.hold,
-        })
+        let rows = self.rows.copy()?;
+        Ok(Challenges { rows })
     }
 
     /// Whether the other table has the same challenges and the same next number.
     pub fn same(&self, other: &Challenges) -> bool
         ensures { IsTrue result ↔ AreSame self.now.table other.now.table }
     {
-        self.last == other.last && challenge_rows::same(&self.rows, &other.rows)
+        self.rows.same(&other.rows)
     }
 }
 
 /// The challenges that are left, oldest first. Contracts see them as a list.
 #[derive(Drop)]
 pub struct ChallengeRows<'a> {
-    rest: &'a [Challenge],
+    rest: Iter<'a, Challenge, u64>,
 }
 
 impl<'a> Model for ChallengeRows<'a> {
@@ -203,7 +206,7 @@ impl<'a> Model for ChallengeRows<'a> {
 
     ghost Value = { List Challenge };
 
-    ghost view = { λ rows. rows.rest.now };
+    ghost view = { λ rows. rows.rest };
 }
 
 impl<'a> Iterator for ChallengeRows<'a> {
@@ -214,8 +217,7 @@ impl<'a> Iterator for ChallengeRows<'a> {
     ghost remaining = { item_count (λ s. s) };
 
     fn next(&mut self) -> Option<Challenge> {
-        let (first, rest) = self.rest.split_first()?;
-        self.rest = rest;
-        Some(*first)
+        let row = self.rest.next()?;
+        Some(*row)
     }
 }

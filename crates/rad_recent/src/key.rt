@@ -8,11 +8,14 @@ use rad_auth::Door;
 ///
 /// Source: RFC 2865, section 3; RFC 5080, section 2.2.2.
 #[derive(Clone, Copy, Debug, PartialEq, Eq)]
+#[derive_where(Hash)]
 pub struct Key {
     /// The source address, most significant octet first.
     pub source: u32,
     /// The source port.
     pub port: u16,
+    // A `Door` has no hash, so two keys that differ in it alone share one.
+    #[derive_where(skip(Hash))]
     pub door: Door,
     /// The Identifier.
     pub id: u8,

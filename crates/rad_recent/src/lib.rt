@@ -3,21 +3,31 @@
 //!
 //! `Recent` and `Challenges` are two bounded tables of one shape: `expire` removes the rows that are no longer live, questions
 //! change nothing, and `room` makes memory ready, so that memory isn't refused when the row is added. They use `rad_packet`,
-//! `rad_auth` and `rad_config`.
+//! `rad_auth`, `rad_config` and `rad_rows`.
 //!
-//! Other crates rest on this: each call does to a list, oldest first, what `specs/Recent.antt` and `specs/Challenges.antt` say.
+//! Both stand on `rad_rows`, which finds a row by its number. The number of a challenge is in its State. That of a kept reply is
+//! in an index by key, which `expire` tells of each row that goes.
+//!
+//! Other crates rest on this: each call does to a list, oldest first, what `specs/Recent.antt` and `specs/Challenges.antt` say, and
+//! `lawful_replies` and `lawful_challenges` say what these calls keep true of a lawful table (`specs/Lawful.antt`).
 #![tactic(auto)]
 
+mod answers;
 mod challenge;
-mod challenge_rows;
 mod challenges;
+mod index;
+mod indexed;
 mod kept;
-mod kept_rows;
 mod key;
+mod lawful;
+mod numbered;
+mod others;
 mod recent;
+mod tally;
 
 pub use challenge::{Challenge, state_value};
 pub use challenges::{CHALLENGES_MAX, ChallengeRows, Challenges, IssueFault};
 pub use kept::Kept;
 pub use key::Key;
+pub use lawful::{lawful_challenges, lawful_replies};
 pub use recent::{KEPT_MAX, KeepFault, KeptRows, Recent};

@@ -1,15 +1,19 @@
 //! The table of kept replies.
-ghost use Rattle.std.specs.Prelude.{◌≡◌, ◌≤◌, ◌↔◌, IfOk, IsErrOf, IsTrue, OnErr, OnOk, None, Some, option_copied, option_map, true};
+ghost use Rattle.std.specs.Prelude.{◌≡◌, ◌≤◌, ◌↔◌, IfOk, IsErrOf, IsOk, IsTrue, OnErr, OnOk, None, Some, option_copied, option_map, true};
 ghost use Rattle.std.specs.Iterator.{YieldsFirstBy, item_count};
 ghost use Rattle.rad_packet.specs.Ladders.{refuse_if};
 ghost use Rattle.rad_config.specs.Spans.{moment_max, spans_of};
-ghost use Rattle.rad_recent.specs.Recent.{IsKept, beside, cut_replies, is_full, opening, reply_to};
+ghost use Rattle.rad_recent.specs.Recent.{IsKept, beside, cut_replies, is_full, opening, reply_to, with_reply, without_key};
 
+use crate::index::Index;
 use crate::kept::Kept;
-use crate::kept_rows;
 use crate::key::Key;
+use crate::numbered::{self, Numbered};
+use crate::{indexed, others};
+use indexmap::IndexMap;
 use rad_config::Config;
 use rad_packet::{Body, Octets};
+use rad_rows::{Iter, Rows};
 use std::alloc::{AllocError, Global};
 use std::marker::Model;
 use thiserror::Error;
@@ -34,25 +38,23 @@ pub enum KeepFault {
 /// `MOMENT_MAX`, and need not rise.
 #[derive(Drop)]
 pub struct Recent {
-    rows: Vec<Kept>,
-    window: u64,
-    // The key for which `room` made memory ready.
-    ready: Option<Key>,
+    rows: Rows<Numbered, u64>,
+    index: Index,
 }
 
 impl Model for Recent {
-    ghost use Rattle.std.specs.Prelude.{◌≡◌, ◌<◌, is_some, true, vec_len};
-    ghost use Rattle.std.specs.Vec.{vec_capacity};
+    ghost use Rattle.rad_recent.specs.Index.{HoldsIndex, replies_of};
     ghost use Rattle.rad_recent.specs.Recent.{SeenReplies};
 
     ghost Value = { SeenReplies };
 
     ghost view = { λ recent. record {
-      table = record { kept = recent.rows.items; window = recent.window };
-      ready = recent.ready;
+      table = record { kept = replies_of recent.rows.rows; window = recent.rows.spans };
+      ready = recent.index.ready;
     } };
 
-    ghost invariant = { λ recent. is_some recent.ready ≡ true → vec_len recent.rows < vec_capacity recent.rows };
+    ghost invariant = { λ recent.
+        HoldsIndex recent.rows.rows recent.rows.last recent.rows.has_room recent.index };
 }
 
 impl Recent {
@@ -64,9 +66,11 @@ impl Recent {
         ensures ready { IfOk result (λ recent. recent.ready ≡ None) }
     {
         Ok(Recent {
-            rows: Vec::new(alloc),
-            window: config.spans().window,
-            ready: None,
+            rows: Rows::open(alloc, config.spans().window),
+            index: Index {
+                map: IndexMap::new(alloc),
+                ready: None,
+            },
         })
     }
 
@@ -74,7 +78,9 @@ impl Recent {
     pub fn rows(&self) -> KeptRows<'_>
         ensures { result ≡ self.now.table.kept }
     {
-        KeptRows { rest: &self.rows }
+        KeptRows {
+            rest: self.rows.iter(),
+        }
     }
 
     /// Removes the replies that are no longer live.
@@ -85,8 +91,8 @@ impl Recent {
         ensures settled { cut_replies now self.new.table ≡ self.new.table }
         ensures ready { self.new.ready ≡ self.old.ready }
     {
-        let window = self.window;
-        kept_rows::keep_live(&mut self.rows, window, now);
+        let _last = self.rows.last();
+        self.rows.expire(&mut self.index, now);
     }
 
     /// The body of the live reply to a request with this key and these octets up to Length.
@@ -97,7 +103,8 @@ impl Recent {
         ensures { option_copied result ≡ option_map (λ reply. reply.body)
             (reply_to key.now octets.now (cut_replies now self.now.table)) }
     {
-        kept_rows::look(&self.rows, self.window, now, key, octets)
+        let row = indexed::find(&self.rows, &self.index, key, octets, now)?;
+        Some(&row.kept.body)
     }
 
     /// What `keep` would answer at this moment for a request with this key if there is memory.
@@ -106,7 +113,7 @@ impl Recent {
         ensures answer { result ≡ refuse_if (is_full (beside key.now now self.now.table)) Full }
         ensures memory { IsErrOf result NoMemory → ⊥ }
     {
-        if KEPT_MAX <= kept_rows::count_others(&self.rows, self.window, now, key) {
+        if others::are_many(&self.rows, &self.index.map, now, key, KEPT_MAX) {
             return Err(KeepFault::Full);
         }
         Ok(())
@@ -123,9 +130,26 @@ impl Recent {
         ensures unready { OnErr result (self.new.ready ≡ self.old.ready) }
     {
         self.peek(key, now)?;
-        self.rows.reserve(1).map_err(|_| KeepFault::NoMemory)?;
-        self.ready = Some(*key);
-        Ok(())
+        self.make_ready(key).map_err(|_| KeepFault::NoMemory)
+    }
+
+    /// Makes memory ready for the reply to a request with this key.
+    pub fn make_ready(&mut self, key: &Key) -> Result<(), AllocError>
+        ensures unchanged { self.new.table ≡ self.old.table }
+        ensures ready { OnOk result (self.new.ready ≡ Some key.now) }
+        ensures still { self.old.ready ≡ Some key.now → IsOk result }
+        ensures unready { OnErr result (self.new.ready ≡ self.old.ready) }
+    {
+        indexed::make_room(&mut self.rows, &mut self.index, key)
+    }
+
+    /// Keeps a reply as the last, in place of one to a request with its key. Memory was made ready for it.
+    pub fn put(&mut self, reply: Kept)
+        requires { self.old.ready ≡ Some reply.key }
+        ensures table { self.new.table ≡ with_reply reply (without_key reply.key self.old.table) }
+        ensures ready { self.new.ready ≡ None }
+    {
+        indexed::push(&mut self.rows, &mut self.index, reply);
     }
 
     /// Removes the replies that are no longer live and the one to a request with this key, and keeps a new one as the last.
@@ -159,19 +183,13 @@ impl Recent {
         ensures unready { IsErrOf result Full → self.new.ready ≡ self.old.ready }
     {
         self.room(&key, now)?;
-        let window = self.window;
-        kept_rows::keep_live(&mut self.rows, window, now);
-        kept_rows::remove_key(&mut self.rows, &key);
-        self.ready = None;
-        let reply = Kept {
+        self.expire(now);
+        self.put(Kept {
             key,
             octets,
             body,
             made: now,
-        };
-        if self.rows.push(reply).is_err() {
-            return Err(KeepFault::NoMemory);
-        }
+        });
         Ok(())
     }
 
@@ -180,35 +198,36 @@ impl Recent {
         ensures table { IfOk result (λ copy. copy.table ≡ self.now.table) }
         ensures ready { IfOk result (λ copy. copy.ready ≡ None) }
     {
-        let rows = kept_rows::copy(&self.rows)?;
-        Ok(Recent {
-            rows,
-            window: self.window,
-            ready: None,
-        })
+        let rows = self.rows.copy()?;
+        let map = self.index.map.clone()?;
+        let mut index = Index { map, ready: None };
+        indexed::forget_vacant(&rows, &mut index, self.index.ready);
+        Ok(Recent { rows, index })
     }
 
     /// Whether the other table has the same replies.
     pub fn same(&self, other: &Recent) -> bool
         ensures { IsTrue result ↔ (self.now.table.kept ≡ other.now.table.kept) }
     {
-        kept_rows::same(&self.rows, &other.rows)
+        self.rows.len() == other.rows.len()
+            && numbered::same_replies(self.rows.iter(), other.rows.iter())
     }
 }
 
 /// The kept replies that are left, oldest first. Contracts see them as a list.
 #[derive(Drop)]
 pub struct KeptRows<'a> {
-    rest: &'a [Kept],
+    rest: Iter<'a, Numbered, u64>,
 }
 
 impl<'a> Model for KeptRows<'a> {
     ghost use Rattle.std.specs.Prelude.{List};
     ghost use Rattle.rad_recent.specs.declared.kept.Kept.{Kept};
+    ghost use Rattle.rad_recent.specs.Index.{replies_of};
 
     ghost Value = { List Kept };
 
-    ghost view = { λ rows. rows.rest.now };
+    ghost view = { λ rows. replies_of rows.rest };
 }
 
 impl<'a> Iterator for KeptRows<'a> {
@@ -219,8 +238,7 @@ impl<'a> Iterator for KeptRows<'a> {
     ghost remaining = { item_count (λ s. s) };
 
     fn next(&mut self) -> Option<&'a Kept> {
-        let (first, rest) = self.rest.split_first()?;
-        self.rest = rest;
-        Some(first)
+        let row = self.rest.next()?;
+        Some(&row.kept)
     }
 }

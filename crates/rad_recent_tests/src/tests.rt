@@ -1,5 +1,8 @@
+mod challenge_pair;
 mod challenges;
+mod pairs;
 mod replies;
+mod reply_pair;
 
 use std::process::Abort;
 

@@ -1,0 +1,89 @@
+-- The laws of kept replies and of challenges: what holds of each table with no rows, and is kept when rows go and when one is added
+-- where there is room, while moments don't fall. `lawful_replies` and `lawful_challenges` say so.
+use Rattle.std.specs.Prelude.{◌≡◌, ℕ, ◌+◌, ◌≤◌, ◌<◌, false, List, length, All, AllPairs, IsOk}
+use Rattle.std.specs.Int.{IsInRange}
+use Rattle.rad_recent.specs.Challenges.{Waiting, challenges_max, cut_challenges, last_challenge, next_number, with_challenge, without_answered}
+use Rattle.rad_recent.specs.Challenges as challenges
+use Rattle.rad_recent.specs.Recent.{Replies, cut_replies, is_full, kept_max, same_key, with_reply, without_key}
+use Rattle.rad_recent.specs.Recent as replies
+use Rattle.rad_recent.specs.declared.challenge.Challenge.{Challenge}
+use Rattle.rad_recent.specs.declared.kept.Kept.{Kept}
+use Rattle.rad_recent.specs.declared.key.Key.{Key}
+
+-- ---- kept replies
+
+-- two kept replies are to requests with different keys
+abbrev pub HaveDifferentKeys : Kept → Kept → Type 0
+HaveDifferentKeys earlier later = same_key earlier.key later.key ≡ false
+
+-- what holds of the kept replies when the clock shows a moment
+pub record AreLawfulReplies (clock : ℕ) (table : Replies) : Type 0 where
+  -- there are no more than there may be
+  pub few : length table.kept ≤ kept_max
+  -- no two are to requests with one key
+  pub keys : AllPairs HaveDifferentKeys table.kept
+  -- none was made after the clock
+  pub made : All (λ reply. reply.made ≤ clock) table.kept
+
+-- ---- challenges
+
+-- what holds of each lawful challenge, when the number of the next one is given
+pub record IsLawfulChallenge (clock next : ℕ) (challenge : Challenge) : Type 0 where
+  -- its number counts from 1, and the next one is greater
+  pub number : (1 ≤ challenge.number) × (challenge.number < next)
+  -- it was not made after the clock
+  pub made : challenge.made ≤ clock
+
+-- the earlier of two challenges has the smaller number
+abbrev pub IsNumberedBefore : Challenge → Challenge → Type 0
+IsNumberedBefore earlier later = earlier.number < later.number
+
+-- what holds of the challenges when the clock shows a moment
+pub record AreLawfulChallenges (clock : ℕ) (table : Waiting) : Type 0 where
+  -- the next number counts from 1; after the last number there is only one more
+  pub next : IsInRange 1 (last_challenge + 1) table.next
+  -- there are no more than there may be
+  pub few : length table.challenges ≤ challenges_max
+  -- numbers rise along the list, so no two challenges have the same
+  pub rising : AllPairs IsNumberedBefore table.challenges
+  -- each is lawful
+  pub each : All (IsLawfulChallenge clock table.next) table.challenges
+
+-- ---- what keeps the law of kept replies
+
+abbrev pub OpeningRepliesAreLawful : Type 0
+OpeningRepliesAreLawful = (clock window : ℕ) → AreLawfulReplies clock (replies.opening window)
+
+-- moments don't fall
+abbrev pub ExpiryLeavesLawfulReplies : Type 0
+ExpiryLeavesLawfulReplies = (clock now : ℕ) (table : Replies) → clock ≤ now
+    → AreLawfulReplies clock table → AreLawfulReplies now (cut_replies now table)
+
+abbrev pub RemovalLeavesLawfulReplies : Type 0
+RemovalLeavesLawfulReplies = (clock : ℕ) (key : Key) (table : Replies)
+    → AreLawfulReplies clock table → AreLawfulReplies clock (without_key key table)
+
+-- the reply takes the place of one with its key, there is room for it, and it was not made after the clock
+abbrev pub KeepingLeavesLawfulReplies : Type 0
+KeepingLeavesLawfulReplies = (clock : ℕ) (reply : Kept) (table : Replies)
+    → is_full (without_key reply.key table) ≡ false → reply.made ≤ clock
+    → AreLawfulReplies clock table → AreLawfulReplies clock (with_reply reply (without_key reply.key table))
+
+-- ---- what keeps the law of challenges
+
+abbrev pub OpeningChallengesAreLawful : Type 0
+OpeningChallengesAreLawful = (clock hold : ℕ) → AreLawfulChallenges clock (challenges.opening hold)
+
+-- moments don't fall
+abbrev pub ExpiryLeavesLawfulChallenges : Type 0
+ExpiryLeavesLawfulChallenges = (clock now : ℕ) (table : Waiting) → clock ≤ now
+    → AreLawfulChallenges clock table → AreLawfulChallenges now (cut_challenges now table)
+
+abbrev pub AnswerLeavesLawfulChallenges : Type 0
+AnswerLeavesLawfulChallenges = (clock client : ℕ) (value : List ℕ) (table : Waiting)
+    → AreLawfulChallenges clock table → AreLawfulChallenges clock (without_answered value client table)
+
+-- one more challenge may wait, and there is a number for it
+abbrev pub IssueLeavesLawfulChallenges : Type 0
+IssueLeavesLawfulChallenges = (client user now : ℕ) (draw : List ℕ) (table : Waiting) → IsOk (next_number table)
+    → AreLawfulChallenges now table → AreLawfulChallenges now (with_challenge client user draw now table)

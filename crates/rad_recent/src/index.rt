@@ -1,0 +1,56 @@
+//! Which row a key has.
+ghost use Rattle.std.specs.Prelude.{◌≡◌, cond, None, OnErr, OnOk, Some};
+ghost use Rattle.rad_recent.specs.Numbers.{is_for, number_at};
+ghost use Rattle.rad_recent.specs.Recent.{same_key};
+
+use crate::key::Key;
+use indexmap::IndexMap;
+use std::alloc::AllocError;
+
+/// The number of each key's row, and the key for which memory is ready.
+#[derive(Drop)]
+pub(crate) struct Index {
+    // The key for which memory is ready may have a number without a row.
+    pub(crate) map: IndexMap<Key, u64>,
+    pub(crate) ready: Option<Key>,
+}
+
+impl Index {
+    /// Whether memory is ready for this key.
+    pub(crate) fn is_ready(&self, key: &Key) -> bool
+        ensures { result ≡ is_for key.now self.now.ready }
+    {
+        match self.ready {
+            Some(ready) => key.is(&ready),
+            None => false,
+        }
+    }
+}
+
+/// The number that a key has.
+pub(crate) fn find(map: &IndexMap<Key, u64>, key: &Key) -> Option<u64>
+    ensures { result ≡ number_at map.now.entries key.now }
+{
+    map.get(key).copied()
+}
+
+/// Gives a key this number.
+pub(crate) fn note(map: &mut IndexMap<Key, u64>, key: Key, number: u64) -> Result<(), AllocError>
+    ensures noted { OnOk result ((other : Key) → number_at map.new.entries other
+        ≡ cond (same_key key other) (Some number) (number_at map.old.entries other)) }
+    ensures same { OnErr result (map.new.entries ≡ map.old.entries) }
+    ensures absent { OnErr result (number_at map.old.entries key ≡ None) }
+{
+    match map.insert(key, number) {
+        Ok(_) => Ok(()),
+        Err(_) => Err(AllocError),
+    }
+}
+
+/// Takes a key out.
+pub(crate) fn forget(map: &mut IndexMap<Key, u64>, key: &Key)
+    ensures { (other : Key) → number_at map.new.entries other
+        ≡ cond (same_key key.now other) None (number_at map.old.entries other) }
+{
+    map.swap_remove(key);
+}

@@ -1,0 +1,146 @@
+//! Rows of kept replies, and the index that finds them.
+ghost use Rattle.std.specs.Prelude.{◌≡◌, ◌≤◌, ◌&&◌, ◌++◌, ◌∷◌, [], All, false, filter, find, length, not, option_copied, option_map, IsOk, IsSome, None, OnErr, OnOk, Some};
+ghost use Rattle.rad_config.specs.Spans.{moment_max};
+ghost use Rattle.rad_recent.specs.Index.{HoldsIndex, IsIndexed, is_row_live, replies_of};
+ghost use Rattle.rad_recent.specs.Numbers.{number_at};
+ghost use Rattle.rad_recent.specs.Recent.{is_reply_live, is_reply_to, same_key};
+
+use crate::index::{self, Index};
+use crate::kept::Kept;
+use crate::key::Key;
+use crate::numbered::{self, Numbered};
+use rad_rows::Rows;
+use std::alloc::AllocError;
+
+/// The row of the live reply to a request with this key and these octets.
+pub(crate) fn find<'a>(
+    rows: &'a Rows<Numbered, u64>,
+    index: &Index,
+    key: &Key,
+    octets: &[u8],
+    now: u64,
+) -> Option<&'a Numbered>
+    requires moment { now ≤ moment_max }
+    requires indexed { All (IsIndexed index.now.map.entries) rows.now.rows }
+    ensures { option_map (λ row. row.kept) (option_copied result)
+        ≡ find (is_reply_to key.now octets.now)
+        (filter (is_reply_live rows.now.spans now) (replies_of rows.now.rows)) }
+{
+    let _last = rows.last();
+    let Some(number) = index::find(&index.map, key) else {
+        return None;
+    };
+    let Some(row) = rows.get(number) else {
+        return None;
+    };
+    if !is_reply_to(row, key, octets, rows.spans(), now) {
+        return None;
+    }
+    Some(row)
+}
+
+// Whether this is the live reply to a request with this key and these octets.
+fn is_reply_to(row: &Numbered, key: &Key, octets: &[u8], window: u64, now: u64) -> bool
+    requires { now ≤ moment_max }
+    ensures { result ≡ (is_row_live window now row.now
+        && is_reply_to key.now octets.now row.now.kept) }
+{
+    numbered::is_live(row, window, now)
+        && key.is(&row.kept.key)
+        && octets == row.kept.octets.octets()
+}
+
+/// Makes memory ready for the row of a key.
+pub(crate) fn make_room(
+    rows: &mut Rows<Numbered, u64>,
+    index: &mut Index,
+    key: &Key,
+) -> Result<(), AllocError>
+    requires { HoldsIndex rows.old.rows rows.old.last rows.old.has_room index.old }
+    ensures holds { HoldsIndex rows.new.rows rows.new.last rows.new.has_room index.new }
+    ensures rows { rows.new.rows ≡ rows.old.rows }
+    ensures spans { rows.new.spans ≡ rows.old.spans }
+    ensures ready { OnOk result (index.new.ready ≡ Some key.now) }
+    ensures still { index.old.ready ≡ Some key.now → IsOk result }
+    ensures unready { OnErr result (index.new.ready ≡ index.old.ready) }
+{
+    if rows.last() == u64::MAX {
+        return Err(AllocError);
+    }
+    rows.room()?;
+    enter(rows, index, key)?;
+    let before = index.ready;
+    index.ready = Some(*key);
+    forget_vacant(rows, index, before);
+    Ok(())
+}
+
+// Gives a key that has no number that of no row.
+fn enter(rows: &Rows<Numbered, u64>, index: &mut Index, key: &Key) -> Result<(), AllocError>
+    requires { HoldsIndex rows.now.rows rows.now.last rows.now.has_room index.old }
+    ensures holds { HoldsIndex rows.now.rows rows.now.last rows.now.has_room index.new }
+    ensures known { OnOk result (IsSome (number_at index.new.map.entries key.now)) }
+    ensures ready { index.new.ready ≡ index.old.ready }
+    ensures still { index.old.ready ≡ Some key.now → IsOk result }
+{
+    let _last = rows.last();
+    if index::find(&index.map, key).is_some() {
+        return Ok(());
+    }
+    index::note(&mut index.map, *key, 0)
+}
+
+/// Takes a key without a row out, unless memory is ready for it.
+pub(crate) fn forget_vacant(rows: &Rows<Numbered, u64>, index: &mut Index, vacant: Option<Key>)
+    requires { HoldsIndex rows.now.rows rows.now.last rows.now.has_room index.old }
+    ensures holds { HoldsIndex rows.now.rows rows.now.last rows.now.has_room index.new }
+    ensures ready { index.new.ready ≡ index.old.ready }
+{
+    let Some(vacant) = vacant else {
+        return;
+    };
+    if index.is_ready(&vacant) {
+        return;
+    }
+    let Some(number) = index::find(&index.map, &vacant) else {
+        return;
+    };
+    match rows.get(number) {
+        Some(_) => {}
+        None => index::forget(&mut index.map, &vacant),
+    }
+}
+
+/// Removes the row of a key.
+pub(crate) fn remove(rows: &mut Rows<Numbered, u64>, index: &Index, key: &Key)
+    requires { HoldsIndex rows.old.rows rows.old.last rows.old.has_room index.now }
+    ensures holds { HoldsIndex rows.new.rows rows.new.last rows.new.has_room index.now }
+    ensures rows { replies_of rows.new.rows
+        ≡ filter (λ reply. not (same_key key.now reply.key)) (replies_of rows.old.rows) }
+    ensures gone { All (λ row. same_key key.now row.kept.key ≡ false) rows.new.rows }
+    ensures spans { rows.new.spans ≡ rows.old.spans }
+{
+    if let Some(number) = index::find(&index.map, key) {
+        rows.remove(number);
+    }
+}
+
+/// Puts a reply last, for whose key memory is ready. The row of its key goes.
+pub(crate) fn push(rows: &mut Rows<Numbered, u64>, index: &mut Index, kept: Kept)
+    requires holds { HoldsIndex rows.old.rows rows.old.last rows.old.has_room index.old }
+    requires ready { index.old.ready ≡ Some kept.key }
+    ensures holds { HoldsIndex rows.new.rows rows.new.last rows.new.has_room index.new }
+    ensures rows { replies_of rows.new.rows
+        ≡ filter (λ reply. not (same_key kept.key reply.key)) (replies_of rows.old.rows)
+        ++ kept ∷ [] }
+    ensures spans { rows.new.spans ≡ rows.old.spans }
+    ensures ready { index.new.ready ≡ None }
+{
+    remove(rows, index, &kept.key);
+    let number = rows.last() + 1;
+    let Ok(()) = index::note(&mut index.map, kept.key, number) else {
+        return;
+    };
+    index.ready = None;
+    rows.push(Numbered { number, kept });
+}
