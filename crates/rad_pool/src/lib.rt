@@ -5,15 +5,24 @@
 //! free address of the user's pool, `start` and `stop` change its phase, and `find` is how an Accounting-Request names one.
 //!
 //! Other crates rest on this: what each call does to the list is what `specs/Sessions.antt`, `specs/Grants.antt` and
-//! `specs/Meant.antt` say. `lawful_tables` says what these calls keep true of a lawful table (`specs/Lawful.antt`). How a session
-//! is found is known to `rows.rt` alone.
+//! `specs/Meant.antt` say. `lawful_tables` says what these calls keep true of a lawful table (`specs/Lawful.antt`).
+//!
+//! `rad_rows` has the sessions under their numbers. How many open sessions a user has and which addresses are in use is counted
+//! beside it, with `rad_places`. Both are known to this crate alone.
 #![tactic(auto)]
 
+mod changes;
+mod counts;
+mod found;
+mod free;
 mod grant;
 mod lawful;
-mod rows;
+mod report;
+mod row;
 mod session;
 mod sessions;
+mod users;
+mod walk;
 
 pub use grant::{Grant, Refusal};
 pub use lawful::lawful_tables;

@@ -1,15 +1,18 @@
 //! The table of sessions.
-ghost use Rattle.std.specs.Prelude.{◌≡◌, ◌≤◌, ◌<◌, ◌↔◌, IsTrue, length, IfOk, IsErrOf, IsOk, OnOk, true};
+ghost use Rattle.std.specs.Prelude.{◌≡◌, ◌≤◌, ◌<◌, ◌↔◌, IsTrue, length, IfOk, IsErrOf, IsOk, OnOk, false, true};
 ghost use Rattle.std.specs.Iterator.{YieldsFirst, item_count};
 ghost use Rattle.rad_config.specs.Spans.{moment_max, spans_of};
-ghost use Rattle.rad_pool.specs.Grants.{IsGranted, granted};
+ghost use Rattle.rad_pool.specs.Grants.{IsGranted, granted, with_session};
 ghost use Rattle.rad_pool.specs.Meant.{meant};
 ghost use Rattle.rad_pool.specs.Sessions.{AreSame, cut, opening, started, stopped};
 
+use crate::counts::Counts;
 use crate::grant::{Grant, Refusal};
-use crate::rows;
+use crate::report::Report;
 use crate::session::{Phase, Session};
+use crate::{changes, found, free, users};
 use rad_config::{Config, Spans};
+use rad_rows::Iter;
 use std::alloc::{AllocError, Global};
 use std::marker::Model;
 
@@ -20,44 +23,56 @@ pub const SESSIONS_MAX: usize = 4_096;
 ///
 /// Contracts see the list, the next number, how long sessions are remembered, and whether memory is ready for one more. Moments
 /// are in milliseconds, at most `MOMENT_MAX`, and need not rise.
-#[derive(Drop)]
 pub struct Sessions {
-    rows: Vec<Session>,
-    // The last number that was given, or 0.
-    last: u64,
-    spans: Spans,
+    rows: rad_rows::Rows<Session, Spans>,
+    counts: Counts,
+}
+
+impl Drop for Sessions {
+    fn drop(self) {
+        let Sessions { rows, counts } = self;
+        drop(rows);
+        drop(counts);
+    }
 }
 
 impl Model for Sessions {
-    ghost use Rattle.std.specs.Prelude.{◌+◌, nat_lt, vec_len};
-    ghost use Rattle.std.specs.Vec.{vec_capacity};
+    ghost use Rattle.std.specs.Prelude.{◌+◌};
+    ghost use Rattle.rad_pool.specs.Counts.{HoldsCounts};
     ghost use Rattle.rad_pool.specs.Sessions.{Seen};
 
     ghost Value = { Seen };
 
     ghost view = { λ sessions. record {
-      table = record { sessions = sessions.rows.items; next = sessions.last + 1; spans = sessions.spans };
-      has_room = nat_lt (vec_len sessions.rows) (vec_capacity sessions.rows);
+      table = record {
+        sessions = sessions.rows.rows;
+        next = sessions.rows.last + 1;
+        spans = sessions.rows.spans;
+      };
+      has_room = sessions.rows.has_room;
     } };
+
+    ghost invariant = { λ sessions. HoldsCounts sessions.rows.rows sessions.counts };
 }
 
 impl Sessions {
     /// No sessions yet. The configuration says how long they will be remembered.
     pub fn open(alloc: Global, config: &Config) -> Result<Sessions, AllocError>
-        ensures { IfOk result (λ sessions. sessions.table ≡ opening (spans_of config.now)) }
+        ensures table { IfOk result (λ sessions. sessions.table ≡ opening (spans_of config.now)) }
+        ensures room { IfOk result (λ sessions. sessions.has_room ≡ false) }
     {
-        Ok(Sessions {
-            rows: Vec::new(alloc),
-            last: 0,
-            spans: config.spans(),
-        })
+        let counts = Counts::open(alloc, config)?;
+        let rows = rad_rows::Rows::open(alloc, config.spans());
+        Ok(Sessions { rows, counts })
     }
 
     /// The sessions, oldest first; also those that are no longer live, until `expire`.
     pub fn rows(&self) -> Rows<'_>
         ensures { result ≡ self.now.table.sessions }
     {
-        Rows { rest: &self.rows }
+        Rows {
+            rest: self.rows.iter(),
+        }
     }
 
     /// Removes the sessions that are no longer live.
@@ -68,8 +83,7 @@ impl Sessions {
         ensures settled { cut now self.new.table ≡ self.new.table }
         ensures room { self.old.has_room ≡ true → self.new.has_room ≡ true }
     {
-        let spans = self.spans;
-        rows::keep_live(&mut self.rows, spans, now);
+        self.rows.expire(&mut self.counts, now);
     }
 
     /// What `grant` would answer if there is memory.
@@ -83,23 +97,24 @@ impl Sessions {
         ensures number { IfOk result (λ grant. grant.number ≡ self.now.table.next) }
         ensures memory { IsErrOf result Refusal.NoMemory → ⊥ }
     {
-        let Sessions { rows, last, spans } = self;
+        let Sessions { rows, counts } = self;
         let asking = config.user_at(user);
-        if asking.sessions as usize <= rows::count_open(rows, *spans, now, user) {
+        if asking.sessions as u64 <= users::count_open(rows, counts, now, user) {
             return Err(Refusal::SessionLimit);
         }
         let address = match asking.pool {
             None => None,
-            Some(place) => match rows::least_free(rows, *spans, now, config.pool_at(place)) {
+            Some(place) => match free::least_free(rows, counts, now, place, config.pool_at(place)) {
                 None => return Err(Refusal::NoAddress),
                 Some(address) => Some(address),
             },
         };
-        if SESSIONS_MAX <= rows::count_live(rows, *spans, now) || *last == u64::MAX {
+        let last = rows.last();
+        if SESSIONS_MAX <= rows.count_live(now) || last == u64::MAX {
             return Err(Refusal::Full);
         }
         Ok(Grant {
-            number: *last + 1,
+            number: last + 1,
             address,
         })
     }
@@ -110,8 +125,7 @@ impl Sessions {
         ensures ready { OnOk result (self.new.has_room ≡ true) }
         ensures kept { self.old.has_room ≡ true → IsOk result }
     {
-        self.rows.reserve(1)?;
-        Ok(())
+        self.rows.room()
     }
 
     /// Removes the sessions that are no longer live, and adds one for the user at place `user`: Pending, with the next number, and
@@ -142,6 +156,17 @@ impl Sessions {
             return Err(Refusal::NoMemory);
         }
         self.expire(now);
+        self.add(client, user, grant, now);
+        Ok(grant)
+    }
+
+    /// Adds a session that `peek` granted: Pending, for the client at place `client` and the user at place `user`. Memory was made
+    /// ready for it.
+    pub fn add(&mut self, client: u32, user: u32, grant: Grant, now: u64)
+        requires room { self.old.has_room ≡ true }
+        requires number { grant.number ≡ self.old.table.next }
+        ensures table { self.new.table ≡ with_session client user now grant self.old.table }
+    {
         let session = Session {
             number: grant.number,
             client,
@@ -150,11 +175,7 @@ impl Sessions {
             phase: Phase::Pending,
             made: now,
         };
-        if self.rows.push(session).is_err() {
-            return Err(Refusal::NoMemory);
-        }
-        self.last = grant.number;
-        Ok(grant)
+        changes::add(&mut self.rows, &mut self.counts, session);
     }
 
     /// A Start was reported: the session of this number is Active if it was Pending.
@@ -164,7 +185,7 @@ impl Sessions {
         ensures started { self.new.table ≡ started number self.old.table }
         ensures room { self.old.has_room ≡ true → self.new.has_room ≡ true }
     {
-        rows::start(&mut self.rows, number);
+        self.rows.change(number, &Report::Start);
     }
 
     /// A Stop was reported: the session of this number has ended.
@@ -175,7 +196,7 @@ impl Sessions {
         ensures stopped { self.new.table ≡ stopped number self.old.table }
         ensures room { self.old.has_room ≡ true → self.new.has_room ≡ true }
     {
-        rows::stop(&mut self.rows, number);
+        changes::stop(&mut self.rows, &mut self.counts, number);
     }
 
     /// The number of the session that an Accounting-Request of a client means.
@@ -192,33 +213,38 @@ impl Sessions {
     ) -> Option<u64>
         ensures { result ≡ meant client number address name self.now.table.sessions }
     {
-        rows::find(&self.rows, client, number, address, name)
+        match (number, address) {
+            (Some(number), _) => found::find(&self.rows, client, number),
+            (None, Some(address)) => {
+                found::find_at(&self.rows, &self.counts, client, address, name)
+            }
+            (None, None) => None,
+        }
     }
 
-    /// An equal table.
+    /// An equal table, for which no memory is ready.
+    #[tactic(auto, using(crate::proofs::CountLemmas::holds_copied))]
     pub fn copy(&self) -> Result<Sessions, AllocError>
-        ensures { IfOk result (λ copy. copy.table ≡ self.now.table) }
+        ensures table { IfOk result (λ copy. copy.table ≡ self.now.table) }
+        ensures room { IfOk result (λ copy. copy.has_room ≡ false) }
     {
-        let rows = self.rows.clone()?;
-        Ok(Sessions {
-            rows,
-            last: self.last,
-            spans: self.spans,
-        })
+        let rows = self.rows.copy()?;
+        let counts = self.counts.copy()?;
+        Ok(Sessions { rows, counts })
     }
 
     /// Whether the other table has the same sessions and the same next number.
     pub fn same(&self, other: &Sessions) -> bool
         ensures { IsTrue result ↔ AreSame self.now.table other.now.table }
     {
-        self.last == other.last && rows::same(&self.rows, &other.rows)
+        self.rows.same(&other.rows)
     }
 }
 
 /// The sessions that are left, oldest first. Contracts see them as a list.
 #[derive(Drop)]
 pub struct Rows<'a> {
-    rest: &'a [Session],
+    rest: Iter<'a, Session, Spans>,
 }
 
 impl<'a> Model for Rows<'a> {
@@ -227,7 +253,7 @@ impl<'a> Model for Rows<'a> {
 
     ghost Value = { List Session };
 
-    ghost view = { λ rows. rows.rest.now };
+    ghost view = { λ rows. rows.rest };
 }
 
 impl<'a> Iterator for Rows<'a> {
@@ -238,8 +264,7 @@ impl<'a> Iterator for Rows<'a> {
     ghost remaining = { item_count (λ s. s) };
 
     fn next(&mut self) -> Option<Session> {
-        let (first, rest) = self.rest.split_first()?;
-        self.rest = rest;
-        Some(*first)
+        let session = self.rest.next()?;
+        Some(*session)
     }
 }

@@ -2,6 +2,10 @@ mod copies;
 mod found;
 mod granted;
 mod limits;
+mod pair;
+mod pairs;
+mod plain;
+mod wide;
 
 use rad_config::{Config, MOMENT_MAX};
 use rad_pool::{Grant, Phase, Refusal, Session, Sessions};

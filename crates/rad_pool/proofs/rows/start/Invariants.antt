@@ -1,7 +1,0 @@
-use Rattle.std.proofs.Common.{◌≡◌, ◌++◌, map, take, drop}
-use Rattle.rad_pool.specs.Sessions.{after_start, with_phase}
-use Rattle.rad_pool.proofs.rows.start.Given as goal
-
-abbrev pub invariant-loop-row : goal.invariant-loop-row
-invariant-loop-row l =
-    l.row-items ≡ map (with_phase after_start l.number) (take l.row-index l.fn.rows.items) ++ drop l.row-index l.fn.rows.items

@@ -1,0 +1,41 @@
+//! Changes of the sessions that their counts follow.
+ghost use Rattle.std.specs.Prelude.{◌≡◌, ◌+◌, ◌++◌, ◌∷◌, [], map, true};
+ghost use Rattle.rad_pool.specs.Counts.{HoldsCounts};
+ghost use Rattle.rad_pool.specs.Sessions.{after_stop, is_open, with_phase};
+
+use crate::counts::Counts;
+use crate::report::Report;
+use crate::session::Session;
+use rad_config::Spans;
+use rad_rows::Rows;
+
+/// Puts an open session last, with the next number.
+pub(crate) fn add(rows: &mut Rows<Session, Spans>, counts: &mut Counts, session: Session)
+    requires counts { HoldsCounts rows.old.rows counts.old }
+    requires room { rows.old.has_room ≡ true }
+    requires number { session.number ≡ rows.old.last + 1 }
+    requires phase { is_open session.phase ≡ true }
+    ensures counts { HoldsCounts rows.new.rows counts.new }
+    ensures rows { rows.new.rows ≡ rows.old.rows ++ session ∷ [] }
+    ensures last { rows.new.last ≡ rows.old.last + 1 }
+    ensures spans { rows.new.spans ≡ rows.old.spans }
+{
+    let _last = rows.last();
+    counts.come(session.user, session.address, session.number);
+    rows.push(session);
+}
+
+/// The session of this number has ended.
+pub(crate) fn stop(rows: &mut Rows<Session, Spans>, counts: &mut Counts, number: u64)
+    requires { HoldsCounts rows.old.rows counts.old }
+    ensures counts { HoldsCounts rows.new.rows counts.new }
+    ensures rows { rows.new.rows ≡ map (with_phase after_stop number) rows.old.rows }
+    ensures last { rows.new.last ≡ rows.old.last }
+    ensures spans { rows.new.spans ≡ rows.old.spans }
+    ensures room { rows.new.has_room ≡ rows.old.has_room }
+{
+    let _last = rows.last();
+    let found = rows.get(number).copied();
+    counts.end(found);
+    rows.change(number, &Report::Stop);
+}

@@ -1,0 +1,150 @@
+//! Sessions beside a plain list of them.
+ghost use Rattle.std.specs.Prelude.{◌≤◌};
+ghost use Rattle.rad_config.specs.Spans.{moment_max};
+
+use super::plain::Plain;
+use rad_config::Config;
+use rad_pool::{Refusal, Sessions};
+use std::alloc::Global;
+
+/// Both have the same calls behind them.
+#[derive(Drop)]
+pub struct Pair {
+    sessions: Sessions,
+    plain: Plain,
+}
+
+impl Pair {
+    pub fn open(alloc: Global, config: &Config) -> Option<Pair> {
+        let sessions = Sessions::open(alloc, config).ok()?;
+        Some(Pair {
+            sessions,
+            plain: Plain::open(alloc, config.spans()),
+        })
+    }
+
+    /// Makes the call that is drawn on both. Whether they answer the same and have the same sessions then.
+    pub fn call(&mut self, config: &Config, draw: u64, now: u64) -> bool
+        requires { now ≤ moment_max }
+    {
+        let client = (draw >> 8 & 1) as u32;
+        let user = (draw >> 9 & 7) as u32 % config.users().len().max(1) as u32;
+        let answers = match draw % 16 {
+            0 => self.expire(now),
+            1 | 2 => self.peeks(config, user, now),
+            3 | 4 => self.starts(draw >> 16),
+            5 | 6 => self.stops(draw >> 16),
+            7 => self.finds_by_number(client, draw >> 16),
+            8 | 9 => self.finds_by_address(client, user, draw >> 16),
+            10 => self.copies(),
+            11 => self.makes_room(),
+            _ => self.grants(config, client, user, now),
+        };
+        answers && self.plain.is(&self.sessions)
+    }
+
+    fn expire(&mut self, now: u64) -> bool
+        requires { now ≤ moment_max }
+    {
+        self.sessions.expire(now);
+        self.plain.expire(now);
+        true
+    }
+
+    fn peeks(&self, config: &Config, user: u32, now: u64) -> bool
+        requires { now ≤ moment_max }
+    {
+        if config.users().len() <= user as usize {
+            return false;
+        }
+        Some(self.sessions.peek(config, 0, user, now)) == self.plain.answer(config, user, now)
+    }
+
+    // Without memory nothing changes.
+    fn grants(&mut self, config: &Config, client: u32, user: u32, now: u64) -> bool
+        requires { now ≤ moment_max }
+    {
+        if config.users().len() <= user as usize {
+            return false;
+        }
+        let Some(answer) = self.plain.answer(config, user, now) else {
+            return false;
+        };
+        if self.plain.rows.reserve(1).is_err() {
+            return true;
+        }
+        let granted = self.sessions.grant(config, client, user, now);
+        if granted == Err(Refusal::NoMemory) {
+            return answer.is_ok();
+        }
+        self.plain.expire(now);
+        match answer {
+            Ok(grant) => granted == answer && self.plain.put(grant, client, user, now),
+            Err(_) => granted == answer,
+        }
+    }
+
+    // The number of some session, or one that a session had.
+    fn number(&self, draw: u64) -> u64 {
+        let place = (draw % 512) as usize % (self.plain.rows.len().min(512) + 2);
+        match self.plain.rows.get(place) {
+            Some(row) => row.number,
+            None => self.plain.last.saturating_sub(draw >> 9 & 63),
+        }
+    }
+
+    // The address of some session, or one that a session had.
+    fn address(&self, draw: u64) -> Option<u32> {
+        let place = (draw % 512) as usize % (self.plain.rows.len().min(512) + 2);
+        match self.plain.rows.get(place) {
+            Some(row) => row.address,
+            None => Some(0x0A00_0001 + (draw >> 9 & 511) as u32),
+        }
+    }
+
+    fn starts(&mut self, draw: u64) -> bool {
+        let number = self.number(draw);
+        self.sessions.start(number);
+        self.plain.start(number);
+        true
+    }
+
+    fn stops(&mut self, draw: u64) -> bool {
+        let number = self.number(draw);
+        self.sessions.stop(number);
+        self.plain.stop(number);
+        true
+    }
+
+    fn finds_by_number(&self, client: u32, draw: u64) -> bool {
+        let number = Some(self.number(draw));
+        self.sessions.find(client, number, None, None)
+            == self.plain.find(client, number, None, None)
+    }
+
+    fn finds_by_address(&self, client: u32, user: u32, draw: u64) -> bool {
+        let address = self.address(draw);
+        let name = match draw >> 20 & 3 {
+            0 => None,
+            1 => Some(None),
+            _ => Some(Some(user)),
+        };
+        self.sessions.find(client, None, address, name)
+            == self.plain.find(client, None, address, name)
+    }
+
+    // From then on the copy is the one that is called.
+    fn copies(&mut self) -> bool {
+        let Ok(copy) = self.sessions.copy() else {
+            return true;
+        };
+        let is_same = copy.same(&self.sessions);
+        self.sessions = copy;
+        is_same
+    }
+
+    // Without memory nothing changes.
+    fn makes_room(&mut self) -> bool {
+        self.sessions.room().is_ok() || self.plain.is(&self.sessions)
+    }
+}
