@@ -1,22 +1,24 @@
 -- What an answer that was given before says of the step that gave it: which plan it had.
-use Rattle.std.proofs.Common.{◌≡◌, ℕ, ◌≤◌, ◌<◌, Bool, true, false, not, cond, List, length, Option, Some, None, IfSome, is_some, option_map, Result, Ok, Err, refl, sym, ap, subst, ◌∙◌}
+use Rattle.std.proofs.Common.{◌≡◌, ℕ, ◌≤◌, Bool, true, false, not, cond, ◌||◌, nat_le, List, length, Option, Some, None, IfSome, is_some, option_map, Result, Ok, Err, refl, sym, ap, subst, ◌∙◌}
 use Rattle.std.specs.Prelude.{◌==◌, IfOk, IsOk}
 use Rattle.std.proofs.lemmas.Bool.{cond_both}
 use Rattle.rad_packet.specs.Bodies.{Body}
 use Rattle.rad_packet.specs.Codes.{code_status_server}
-use Rattle.rad_packet.specs.Ladders.{◌>>=◌}
+use Rattle.rad_packet.specs.Ladders.{◌>>=◌, refuse_if}
 use Rattle.rad_auth.specs.declared.arrival.Request.{Request}
 use Rattle.rad_config.specs.Configurations.{Configuration, user_place}
-use Rattle.rad_pool.specs.Grants.{granted}
+use Rattle.rad_pool.specs.Grants.{address_from, granted, last_number, open_sessions, pool_of, session_limit}
+use Rattle.rad_pool.specs.Sessions.{Table, sessions_max}
 use Rattle.rad_pool.specs.declared.grant.Grant.{Grant}
 use Rattle.rad_pool.specs.declared.grant.Refusal.{Refusal}
+use Rattle.rad_pool.specs.declared.grant.Refusal.TheVariants.{SessionLimit, Full}
 use Rattle.rad_recent.specs.Challenges.{next_number}
 use Rattle.rad_recent.specs.Recent.{is_full, kept_max, without_key}
 use Rattle.rad_recent.specs.declared.challenges.IssueFault.{IssueFault}
 use Rattle.rad_recent.specs.declared.kept.Kept.{Kept}
 use Rattle.rad_server.specs.Access.{Challenged, Decision, Granted, access, answer_matches, answered_challenge, challenge_for, challenge_or_denial, decided, decision, decision_on_answer, decision_on_password, is_name_of, password_matches, session_for, session_or_denial, user_at, user_by_answer, user_by_password, without_challenge}
 use Rattle.rad_server.specs.Credentials.{Credentials, credentials_in}
-use Rattle.rad_server.specs.Plans.{CanBeMade, IsChangeOf, change_of_reply, changed_by, user_asking, with_grant}
+use Rattle.rad_server.specs.Changes.{CanBeMade, IsChangeOf, change_of_grant, change_of_reply, changed_by, user_asking}
 use Rattle.rad_server.specs.Replies.{status_reply}
 use Rattle.rad_server.specs.States.{State}
 use Rattle.rad_server.specs.Steps.{answer, answer_with, key_of, new_answer, reply_by_port, reply_kept, sent_and_kept, without_reply}
@@ -24,8 +26,8 @@ use Rattle.rad_server.specs.declared.answer.Answer.{Answer}
 use Rattle.rad_server.specs.declared.answer.Answer.TheVariants.{Send, Busy}
 use Rattle.rad_server.specs.declared.denial.Denial.{Denial}
 use Rattle.rad_server.specs.declared.denial.Denial.TheVariants.{StateUnknown, WrongState, AccessDenied}
-use Rattle.rad_server.specs.declared.plan.Change.{Change}
-use Rattle.rad_server.specs.declared.plan.Change.TheVariants as changes
+use Rattle.rad_server.specs.declared.change.Change.{Change}
+use Rattle.rad_server.specs.declared.change.Change.TheVariants as changes
 use Rattle.rad_server.proofs.LawfulLemmas.{IfOk-ok_or, IfOk-refuse_if}
 use Rattle.rad_server.proofs.PlanLemmas.{nothing_removed}
 
@@ -197,34 +199,61 @@ decision_for configuration state request challenged credentials = at (is_some cr
 
 -- ---- the change
 
+-- the number that is granted is the next one
+pub granted_number : (configuration : Configuration) (user : ℕ) (table : Table) (grant : Grant) → granted configuration user table ≡ Ok grant
+    → grant.number ≡ table.next
+unfolding granted
+granted_number configuration user table grant is =
+    at (nat_le (session_limit configuration user) (open_sessions user table.sessions)) (address_from table.sessions (pool_of configuration user))
+    (nat_le sessions_max (length table.sessions) || not (nat_le table.next last_number)) is
+  where
+    number_in : Result Grant Refusal → ℕ
+    number_in (Ok given) = given.number
+    number_in (Err refusal) = table.next
+
+    at : (below : Bool) (address : Result (Option ℕ) Refusal) (full : Bool)
+        → refuse_if below SessionLimit >>= (λ _. address >>= (λ found. refuse_if full Full >>= (λ _. Ok (record { number = table.next; address = found })))) ≡ Ok grant
+        → grant.number ≡ table.next
+    at true address full is = absurd cc
+    at false (Err refusal) full is = absurd cc
+    at false (Ok found) true is = absurd cc
+    at false (Ok found) false is = sym (ap (λ (r : Result Grant Refusal). number_in r) is)
+
+-- the sessions are the same without the challenge that was answered
+same_table : (client : ℕ) (value : Option (List ℕ)) (state : State) → (without_challenge client value state).table ≡ state.table
+same_table client None state = refl
+same_table client (Some value) state = refl
+
 -- what a reply changes, by its Code and the user who asked
 abbrev Changes : Configuration → State → Request → List ℕ → Option ℕ → Body × State → Type 0
 Changes configuration state request draw user result =
-    (result.1 ≡ changed_by configuration request.client draw (change_of_reply result.0.code user) state)
-    × CanBeMade configuration state (change_of_reply result.0.code user)
+    (result.1 ≡ changed_by request.client draw (change_of_reply configuration state.table result.0.code user) state)
+    × CanBeMade state (change_of_reply configuration state.table result.0.code user)
+
+-- what a grant changes
+abbrev Grants : Configuration → State → Request → List ℕ → ℕ → Grant → Result Grant Refusal → Type 0
+Grants configuration state request draw place grant r =
+    ((decided configuration state request draw (Ok (Granted place grant))).1 ≡ changed_by request.client draw (change_of_grant place r) state)
+    × CanBeMade state (change_of_grant place r)
 
 decided_changes : (configuration : Configuration) (state : State) (request : Request) (draw : List ℕ) (user : Option ℕ) (d : Result Decision Denial)
-    → IsFor configuration state user d → IfSome user (λ place. place < length configuration.users)
-    → Changes configuration state request draw user (decided configuration state request draw d)
-decided_changes configuration state request draw None (Err denial) is within = (refl, tt)
-decided_changes configuration state request draw (Some user) (Err denial) is within = (refl, tt)
-decided_changes configuration state request draw user (Ok (Challenged place)) is within =
+    → IsFor configuration state user d → Changes configuration state request draw user (decided configuration state request draw d)
+decided_changes configuration state request draw None (Err denial) is = (refl, tt)
+decided_changes configuration state request draw (Some user) (Err denial) is = (refl, tt)
+decided_changes configuration state request draw user (Ok (Challenged place)) is =
     subst (λ o. Changes configuration state request draw o (decided configuration state request draw (Ok (Challenged place)))) (sym is.0) (refl, is.1)
-decided_changes configuration state request draw user (Ok (Granted place grant)) is within =
-    subst (λ o. Changes configuration state request draw o (decided configuration state request draw (Ok (Granted place grant)))) (sym is.0) (
-      ap (λ r. record state { table = with_grant request.client place state.clock r state.table }) (sym is.1),
-      (subst (λ o. IfSome o (λ place. place < length configuration.users)) is.0 within, subst IsOk (sym is.1) refl),
-    )
+decided_changes configuration state request draw user (Ok (Granted place grant)) is =
+    subst (λ o. Changes configuration state request draw o (decided configuration state request draw (Ok (Granted place grant)))) (sym is.0)
+    (subst (Grants configuration state request draw place grant) (sym is.1) (refl, granted_number configuration place state.table grant is.1))
 
 abbrev pub AccessChanges : Configuration → State → Request → List ℕ → ℕ → Result Credentials Denial → Type 0
 AccessChanges configuration current request draw code (Err denial) =
-    IsChangeOf (λ state. access configuration state request draw) configuration current request draw None changes.Nothing
+    IsChangeOf (λ state. access configuration state request draw) current request draw None changes.Nothing
 AccessChanges configuration current request draw code (Ok credentials) =
     (user : Option ℕ)
     → user_asking configuration
     (option_map (λ challenge. challenge.user) (answered_challenge request.client credentials.state (without_reply request current).waiting)) credentials ≡ user
-    → IfSome user (λ place. place < length configuration.users)
-    → IsChangeOf (λ state. access configuration state request draw) configuration current request draw credentials.state (change_of_reply code user)
+    → IsChangeOf (λ state. access configuration state request draw) current request draw credentials.state (change_of_reply configuration current.table code user)
 
 -- what the rule of access changes, by the Code of its reply and the user who asked; without credentials nobody did
 pub access_changes : (configuration : Configuration) (current : State) (request : Request) (draw : List ℕ) (code : ℕ)
@@ -233,31 +262,36 @@ pub access_changes : (configuration : Configuration) (current : State) (request 
     → AccessChanges configuration current request draw code r
 access_changes configuration current request draw code said (Err denial) read =
     record { changed = rw (read) refl; possible = tt }
-access_changes configuration current request draw code said (Ok credentials) read = λ user is within.
+access_changes configuration current request draw code said (Ok credentials) read = λ user is.
     let before : State = without_reply request current in
     let left : State = without_challenge request.client credentials.state before in
     let challenged : Option ℕ = option_map (λ challenge. challenge.user) (answered_challenge request.client credentials.state before.waiting) in
     let d : Result Decision Denial = decision configuration left request challenged credentials in
     let made = decided_changes configuration left request draw user d
-    (subst (λ o. IsFor configuration left o d) is (decision_for configuration left request challenged credentials)) within in
+    (subst (λ o. IsFor configuration left o d) is (decision_for configuration left request challenged credentials)) in
     let rule : access configuration before request draw ≡ decided configuration left request draw d = rw (read) refl in
     let same : (decided configuration left request draw d).0.code ≡ code = ap (λ a. a.0.code) (sym rule) ∙ said in
+    let table : left.table ≡ current.table = same_table request.client credentials.state before in
+    let changes_so : ((decided configuration left request draw d).1 ≡ changed_by request.client draw (change_of_reply configuration current.table code user) left)
+    × CanBeMade left (change_of_reply configuration current.table code user) =
+    subst (λ t. ((decided configuration left request draw d).1 ≡ changed_by request.client draw (change_of_reply configuration t code user) left)
+    × CanBeMade left (change_of_reply configuration t code user)) table
+    (subst (λ n. ((decided configuration left request draw d).1 ≡ changed_by request.client draw (change_of_reply configuration left.table n user) left)
+    × CanBeMade left (change_of_reply configuration left.table n user)) same made) in
     record {
-      changed = ap (λ a. a.1) rule
-          ∙ subst (λ n. (decided configuration left request draw d).1 ≡ changed_by configuration request.client draw (change_of_reply n user) left) same made.0;
-      possible = same_means credentials.state (change_of_reply code user)
-          (subst (λ n. CanBeMade configuration left (change_of_reply n user)) same made.1);
+      changed = ap (λ a. a.1) rule ∙ changes_so.0;
+      possible = same_means credentials.state (change_of_reply configuration current.table code user) changes_so.1;
     }
   where
-    same_means : (value : Option (List ℕ)) (change : Change) → CanBeMade configuration (without_challenge request.client value (without_reply request current)) change
-        → CanBeMade configuration (without_challenge request.client value current) change
+    same_means : (value : Option (List ℕ)) (change : Change) → CanBeMade (without_challenge request.client value (without_reply request current)) change
+        → CanBeMade (without_challenge request.client value current) change
     same_means None changes.Nothing can = can
     same_means None (changes.Challenge user) can = can
-    same_means None (changes.Grant user) can = can
+    same_means None (changes.Grant session) can = can
     same_means None (changes.Start reference) can = can
     same_means None (changes.Stop reference) can = can
     same_means (Some value) changes.Nothing can = can
     same_means (Some value) (changes.Challenge user) can = can
-    same_means (Some value) (changes.Grant user) can = can
+    same_means (Some value) (changes.Grant session) can = can
     same_means (Some value) (changes.Start reference) can = can
     same_means (Some value) (changes.Stop reference) can = can

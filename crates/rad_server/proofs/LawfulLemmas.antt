@@ -1,16 +1,12 @@
 -- The state before the first request is lawful, and a step for a request that may be answered leads from a lawful state to a lawful
--- one. The law of the table comes from rad_pool.
-use Rattle.std.proofs.Common.{◌≡◌, ℕ, ◌+◌, ◌≤◌, ◌<◌, Bool, true, false, cond, not, ◌||◌, ◌==◌, nat_le, List, [], ◌∷◌, ◌++◌, length, filter, find, All, Option, Some, None, IfSome, option_map, Result, Ok, Err, ok_or, arith, refl, ap, sym, subst, ◌∙◌}
-use Rattle.std.proofs.lemmas.Bool.{cond_both, eq-eqb, eqb-false, eqb-true, leb-false, leb-true, ltb-true, ne_eqb, not-true}
-use Rattle.std.proofs.lemmas.List.{length_push}
+-- one. The laws of the tables come from rad_pool and rad_recent.
+use Rattle.std.proofs.Common.{◌≡◌, ℕ, ◌≤◌, ◌<◌, Bool, true, false, cond, not, ◌==◌, List, [], ◌∷◌, length, find, All, Option, Some, None, IfSome, option_map, Result, Ok, Err, ok_or, arith, refl, ap, sym, subst, ◌∙◌}
+use Rattle.std.proofs.lemmas.Bool.{cond_both, ltb-true}
 use Rattle.std.proofs.lemmas.List.Elements.{All-filter, All-head, All-nil, All-push, All-tail, All-weaker, filter_passes}
-use Rattle.std.proofs.lemmas.List.Kept.{AllPairs-filter}
-use Rattle.std.proofs.lemmas.List.Quantifiers.{all_pairs_push}
-use Rattle.std.proofs.lemmas.List.Sums.{count_by-le-length, length-filter}
 use Rattle.std.proofs.lemmas.Option.{IfSome_then, slice_get-get_or}
 use Rattle.std.specs.List.{position_or_len}
 use Rattle.std.specs.Str.{bytes_eq}
-use Rattle.std.specs.Prelude.{IfOk, is_some, max, nat_lt}
+use Rattle.std.specs.Prelude.{IfOk, IsOk, is_some, max, nat_lt}
 use Rattle.rad_packet.specs.Attributes.{value_max}
 use Rattle.rad_packet.specs.Bodies.{Body}
 use Rattle.rad_packet.specs.Codes.{code_status_server}
@@ -33,19 +29,19 @@ use Rattle.rad_pool.specs.Lawful.{ExpiryKeepsTheLaw, GrantKeepsTheLaw, IsLawful 
 use Rattle.rad_pool.specs.Sessions.{Table, cut, started, stopped}
 use Rattle.rad_pool.specs.declared.grant.Grant.{Grant}
 use Rattle.rad_pool.specs.declared.grant.Refusal.{Refusal}
-use Rattle.rad_recent.specs.Challenges.{Waiting, answered, challenges_max, has_state, is_challenge_live, last_challenge, next_number, with_challenge}
-use Rattle.rad_recent.specs.Recent.{Replies, cut_replies, is_full, is_reply_live, kept_max, same_door, same_key}
+use Rattle.rad_recent.specs.Challenges.{Waiting, answered, has_state, is_challenge_live, next_number}
+use Rattle.rad_recent.specs.Lawful.{AnswerLeavesLawfulChallenges, AreLawfulReplies, ExpiryLeavesLawfulChallenges, ExpiryLeavesLawfulReplies, IssueLeavesLawfulChallenges, KeepingLeavesLawfulReplies, OpeningChallengesAreLawful, OpeningRepliesAreLawful, RemovalLeavesLawfulReplies}
+use Rattle.rad_recent.specs.Recent.{Replies, cut_replies, is_full, is_reply_live, same_key, without_key}
+use Rattle.rad_recent.specs.Recent as recent
 use Rattle.rad_recent.specs.declared.challenge.Challenge.{Challenge}
 use Rattle.rad_recent.specs.declared.challenges.IssueFault.{IssueFault}
-use Rattle.rad_recent.specs.declared.challenges.IssueFault.TheVariants.{Full}
 use Rattle.rad_recent.specs.declared.kept.Kept.{Kept}
-use Rattle.rad_recent.specs.declared.key.Key.{Key}
 use Rattle.rad_server.proofs.AddressLemmas.{KeepsSessions, accept_has_session, grant_keeps, live_has, start_keeps, still_has, stop_keeps}
 use Rattle.rad_server.proofs.ReplyLemmas.{accept_is_reply, accounting_is_reply, challenge_is_reply, reject_is_reply}
 use Rattle.rad_server.specs.Access.{Challenged, Decision, Granted, access, access_with, answer_matches, answered_challenge, challenge_for, challenge_or_denial, decided, decision, decision_on_answer, decision_on_password, is_name_of, password_matches, session_for, session_or_denial, user_at, user_by_answer, user_by_password, without_challenge}
 use Rattle.rad_server.specs.Accounting.{account, changed, first_integer, reported, session_meant, status_start, status_stop}
 use Rattle.rad_server.specs.Credentials.{Credentials, credentials_in}
-use Rattle.rad_server.specs.Lawful.{AreLawfulChallenges, AreLawfulReplies, HasItsSession, HaveDifferentKeys, IsLawful, IsLawfulChallenge, IsLawfulReply, IsNumberedBefore}
+use Rattle.rad_server.specs.Lawful.{HasItsSession, IsChallengeOf, IsLawful, IsRepeatable}
 use Rattle.rad_server.specs.Replies.{accounting_response}
 use Rattle.rad_server.specs.States.{State, at_moment, opening}
 use Rattle.rad_server.specs.Steps.{answer, answer_with, key_of, reply_by_port, reply_kept, sent_and_kept, step, with_reply, without_reply}
@@ -54,18 +50,35 @@ use Rattle.rad_server.specs.declared.answer.Answer.TheVariants.{Busy}
 use Rattle.rad_server.specs.declared.denial.Denial.{Denial}
 use Rattle.rad_server.specs.declared.denial.Denial.TheVariants.{AccessDenied, StateUnknown, WrongState}
 
--- what keeps the law of the table
-pub record TableLaws : Type 0 where
+-- what holds of the tables of the opening state
+pub record OpeningLaws : Type 0 where
+  pub sessions : EmptyTableIsLawful
+  pub replies : OpeningRepliesAreLawful
+  pub challenges : OpeningChallengesAreLawful
+
+-- what keeps the law of each table
+pub record SessionLaws : Type 0 where
   pub expiry : ExpiryKeepsTheLaw
   pub grant : GrantKeepsTheLaw
   pub start : StartKeepsTheLaw
   pub stop : StopKeepsTheLaw
 
--- ---- lists
+pub record ReplyLaws : Type 0 where
+  pub expiry : ExpiryLeavesLawfulReplies
+  pub removal : RemovalLeavesLawfulReplies
+  pub keeping : KeepingLeavesLawfulReplies
 
--- a filter lets no more than the list has through
-length-filter-le : {X : Type 0} (p : X → Bool) (xs : List X) (most : ℕ) → length xs ≤ most → length (filter p xs) ≤ most
-length-filter-le p xs most few = omega (arith, length-filter p xs, count_by-le-length p xs, few)
+pub record ChallengeLaws : Type 0 where
+  pub expiry : ExpiryLeavesLawfulChallenges
+  pub answer : AnswerLeavesLawfulChallenges
+  pub issue : IssueLeavesLawfulChallenges
+
+pub record TableLaws : Type 0 where
+  pub sessions : SessionLaws
+  pub replies : ReplyLaws
+  pub challenges : ChallengeLaws
+
+-- ---- lists
 
 -- what holds of each element holds of the one that is found
 IfSome-find : {X : Type 0} (P : X → Type 0) (p : X → Bool) (xs : List X) → All P xs → IfSome (find p xs) P
@@ -92,64 +105,6 @@ pub IfOk-ok_or : {A B E : Type 0} (P : A → Type 0) (Q : B → Type 0) (o : Opt
 IfOk-ok_or P Q None refusal next holds follows = tt
 IfOk-ok_or P Q (Some x) refusal next holds follows = follows x holds
 
--- ---- keys
-
--- the tests of numbers, ports and keys give the same answer both ways
-eqb_symmetric : (m n : ℕ) → (m == n) ≡ (n == m)
-eqb_symmetric m n = at (m == n) refl
-  where
-    at : (b : Bool) → (m == n) ≡ b → b ≡ (n == m)
-    at true is = sym (eq-eqb n m (sym (eqb-true m n is)))
-    at false is = sym (ne_eqb n m (λ same. eqb-false m n is (sym same)))
-
-same_door_symmetric : (one other : Door) → same_door one other ≡ same_door other one
-same_door_symmetric Auth Auth = refl
-same_door_symmetric Auth Acct = refl
-same_door_symmetric Acct Auth = refl
-same_door_symmetric Acct Acct = refl
-
-same_key_symmetric : (one other : Key) → same_key one other ≡ same_key other one
-same_key_symmetric one other =
-    let first = eqb_symmetric one.source other.source in
-    let last = eqb_symmetric one.id other.id in
-    rw (first, eqb_symmetric one.port other.port, same_door_symmetric one.door other.door, last) refl
-
--- ---- kept replies
-
--- no kept reply is to a request with this key
-abbrev HasNoReplyTo : Key → Replies → Type 0
-HasNoReplyTo key replies = All (λ reply. same_key reply.key key ≡ false) replies.kept
-
--- lawful replies stay so while the clock goes on
-replies_later : (clock now : ℕ) (replies : Replies) → clock ≤ now → AreLawfulReplies clock replies → AreLawfulReplies now replies
-replies_later clock now replies later lawful = record {
-  few = lawful.few;
-  keys = lawful.keys;
-  each = All-weaker (IsLawfulReply clock) (IsLawfulReply now) (λ reply known. record {
-    sealable = known.sealable;
-    request = known.request;
-    made = omega (arith, known.made, later);
-  }) replies.kept lawful.each;
-}
-
--- lawful replies stay so while some of them go
-replies_left : (clock : ℕ) (stays : Kept → Bool) (replies : Replies) → AreLawfulReplies clock replies
-    → AreLawfulReplies clock (record replies { kept = filter stays replies.kept })
-replies_left clock stays replies lawful = record {
-  few = length-filter-le stays replies.kept kept_max lawful.few;
-  keys = AllPairs-filter HaveDifferentKeys stays replies.kept lawful.keys;
-  each = All-filter stays (IsLawfulReply clock) replies.kept lawful.each;
-}
-
--- lawful replies stay so with one more, to a request with a key of its own, if there is room
-replies_added : (clock : ℕ) (reply : Kept) (replies : Replies) → is_full replies ≡ false → HasNoReplyTo reply.key replies → IsLawfulReply clock reply
-    → AreLawfulReplies clock replies → AreLawfulReplies clock (record replies { kept = replies.kept ++ reply ∷ [] })
-replies_added clock reply replies room own known lawful = record {
-  few = omega (arith, leb-false kept_max (length replies.kept) room, length_push replies.kept reply);
-  keys = all_pairs_push HaveDifferentKeys replies.kept reply lawful.keys own;
-  each = All-push (IsLawfulReply clock) replies.kept reply lawful.each known;
-}
-
 -- ---- addresses
 
 -- a kept reply has its session
@@ -170,110 +125,21 @@ addresses_live now table replies same held has =
     let passes = filter_passes live replies.kept in
     λ k d within. live_has now replies.window table _ _ same held (passes k d within) (kept k d within)
 
--- ---- challenges
-
--- a challenge stays lawful while the clock goes on and numbers are given
-challenge_later : (configuration : Configuration) (clock now next beyond : ℕ) → clock ≤ now → next ≤ beyond → (challenge : Challenge)
-    → IsLawfulChallenge configuration clock next challenge → IsLawfulChallenge configuration now beyond challenge
-challenge_later configuration clock now next beyond later further challenge known = record {
-  number = (known.number.0, omega (arith, known.number.1, further));
-  draw = known.draw;
-  client = known.client;
-  user = known.user;
-  answer = known.answer;
-  made = omega (arith, known.made, later);
-}
-
--- lawful challenges stay so while the clock goes on
-challenges_later : (configuration : Configuration) (clock now : ℕ) (waiting : Waiting) → clock ≤ now
-    → AreLawfulChallenges configuration clock waiting → AreLawfulChallenges configuration now waiting
-challenges_later configuration clock now waiting later lawful = record {
-  next = lawful.next;
-  few = lawful.few;
-  rising = lawful.rising;
-  each = All-weaker (IsLawfulChallenge configuration clock waiting.next) (IsLawfulChallenge configuration now waiting.next)
-      (challenge_later configuration clock now waiting.next waiting.next later (omega arith)) waiting.challenges lawful.each;
-}
-
--- lawful challenges stay so while some of them go
-challenges_left : (configuration : Configuration) (clock : ℕ) (stays : Challenge → Bool) (waiting : Waiting)
-    → AreLawfulChallenges configuration clock waiting
-    → AreLawfulChallenges configuration clock (record waiting { challenges = filter stays waiting.challenges })
-challenges_left configuration clock stays waiting lawful = record {
-  next = lawful.next;
-  few = length-filter-le stays waiting.challenges challenges_max lawful.few;
-  rising = AllPairs-filter IsNumberedBefore stays waiting.challenges lawful.rising;
-  each = All-filter stays (IsLawfulChallenge configuration clock waiting.next) waiting.challenges lawful.each;
-}
-
--- one more challenge may wait, and there is a number for it
-record HasRoom (waiting : Waiting) : Type 0 where
-  few : length waiting.challenges < challenges_max
-  last : waiting.next ≤ last_challenge
-
--- a number is given only where there is room
-next_number_says : (waiting : Waiting) (number : ℕ) → next_number waiting ≡ Ok number → HasRoom waiting
-unfolding next_number
-next_number_says waiting number is = at (nat_le challenges_max (length waiting.challenges)) (nat_le waiting.next last_challenge) refl refl is
-  where
-    at : (many fits : Bool) → nat_le challenges_max (length waiting.challenges) ≡ many → nat_le waiting.next last_challenge ≡ fits
-        → cond (many || not fits) (Err Full) (Ok waiting.next) ≡ Ok number → HasRoom waiting
-    at true fits many_is fits_is is = absurd (cc)
-    at false false many_is fits_is is = absurd (cc)
-    at false true many_is fits_is is = record {
-      few = leb-false challenges_max (length waiting.challenges) many_is;
-      last = leb-true waiting.next last_challenge fits_is;
-    }
-
--- lawful challenges stay so with one more, for a client and a user of the configuration who has an answer, if there is room
-challenges_added : (configuration : Configuration) (client user now : ℕ) (draw : List ℕ) (waiting : Waiting) → HasRoom waiting
-    → client < length configuration.clients → user < length configuration.users → is_some (user_at configuration user).answer ≡ true
-    → length draw ≡ length sixteen_zeros → AreLawfulChallenges configuration now waiting
-    → AreLawfulChallenges configuration now (with_challenge client user draw now waiting)
-challenges_added configuration client user now draw waiting room known_client known_user answer drawn lawful =
-    let challenges : List Challenge = waiting.challenges in
-    let next : ℕ = waiting.next in
-    let new : Challenge = record { number = next; draw = draw; client = client; user = user; made = now } in
-    let first : 1 ≤ next = lawful.next.0 in
-    record {
-      next = (omega arith, omega (arith, room.last));
-      few = omega (arith, length_push challenges new, room.few);
-      rising = all_pairs_push IsNumberedBefore challenges new lawful.rising (λ k d within. (lawful.each k d within).number.1);
-      each = All-push (IsLawfulChallenge configuration now (next + 1)) challenges new
-          (All-weaker (IsLawfulChallenge configuration now next) (IsLawfulChallenge configuration now (next + 1))
-          (challenge_later configuration now now next (next + 1) (omega arith) (omega arith)) challenges lawful.each)
-          (record {
-            number = (first, omega arith);
-            draw = drawn;
-            client = known_client;
-            user = known_user;
-            answer = answer;
-            made = omega arith;
-          });
-    }
-
 -- ---- the clock
 
 -- the state before the first request is lawful
-pub opening_is_lawful : EmptyTableIsLawful → (configuration : Configuration) → IsLawful configuration (opening configuration)
-opening_is_lawful empty configuration = record {
+pub opening_is_lawful : OpeningLaws → (configuration : Configuration) → IsLawful configuration (opening configuration)
+opening_is_lawful laws configuration = record {
   clock = omega arith;
   spans = refl;
   window = refl;
   hold = refl;
-  table = empty configuration 0 (spans_of configuration);
-  replies = record {
-    few = omega arith;
-    keys = λ i j d before within. absurd (omega arith);
-    each = All-nil (IsLawfulReply 0);
-  };
+  table = laws.sessions configuration 0 (spans_of configuration);
+  replies = laws.replies 0 (spans_of configuration).window;
+  repeatable = All-nil IsRepeatable;
   addresses = All-nil (HasIts (opening configuration).table);
-  waiting = record {
-    next = (omega arith, omega arith);
-    few = omega arith;
-    rising = λ i j d before within. absurd (omega arith);
-    each = All-nil (IsLawfulChallenge configuration 0 1);
-  };
+  waiting = laws.challenges 0 (spans_of configuration).hold;
+  challenges = All-nil (IsChallengeOf configuration);
 }
 
 -- a lawful state is lawful at each later moment
@@ -290,12 +156,12 @@ at_moment_is_lawful laws configuration state moment valid within lawful =
       spans = lawful.spans;
       window = lawful.window;
       hold = lawful.hold;
-      table = laws.expiry configuration state.clock now state.table later lawful.table;
-      replies = replies_left now (is_reply_live state.replies.window now) state.replies
-          (replies_later state.clock now state.replies later lawful.replies);
+      table = laws.sessions.expiry configuration state.clock now state.table later lawful.table;
+      replies = laws.replies.expiry state.clock now state.replies later lawful.replies;
+      repeatable = All-filter (is_reply_live state.replies.window now) IsRepeatable state.replies.kept lawful.repeatable;
       addresses = addresses_live now state.table state.replies same held lawful.addresses;
-      waiting = challenges_left configuration now (is_challenge_live state.waiting.hold now) state.waiting
-          (challenges_later configuration state.clock now state.waiting later lawful.waiting);
+      waiting = laws.challenges.expiry state.clock now state.waiting later lawful.waiting;
+      challenges = All-filter (is_challenge_live state.waiting.hold now) (IsChallengeOf configuration) state.waiting.challenges lawful.challenges;
     }
 
 -- ---- users
@@ -324,13 +190,13 @@ place_of_name configuration name =
     (λ is. ltb-true place (length users) is) (λ _. tt)
 
 -- the user of a challenge that is answered has a place
-place_of_challenge : (configuration : Configuration) (clock client : ℕ) (value : Option (List ℕ)) (waiting : Waiting)
-    → AreLawfulChallenges configuration clock waiting
+place_of_challenge : (configuration : Configuration) (client : ℕ) (value : Option (List ℕ)) (waiting : Waiting)
+    → All (IsChallengeOf configuration) waiting.challenges
     → IfSome (option_map (λ challenge. challenge.user) (answered_challenge client value waiting)) (IsPlace configuration)
-place_of_challenge configuration clock client None waiting lawful = tt
-place_of_challenge configuration clock client (Some value) waiting lawful =
-    let IsKnown : Challenge → Type 0 = IsLawfulChallenge configuration clock waiting.next in
-    let found : IfSome (answered value client waiting) IsKnown = IfSome-find IsKnown (has_state value client) waiting.challenges lawful.each in
+place_of_challenge configuration client None waiting known = tt
+place_of_challenge configuration client (Some value) waiting known =
+    let IsKnown : Challenge → Type 0 = IsChallengeOf configuration in
+    let found : IfSome (answered value client waiting) IsKnown = IfSome-find IsKnown (has_state value client) waiting.challenges known in
     IfSome-map (λ (challenge : Challenge). challenge.user) (IsPlace configuration) (answered value client waiting)
     (IfSome_then (answered value client waiting) found (λ challenge known. known.user))
 
@@ -362,7 +228,7 @@ place_by_answer configuration request challenged credentials known =
 abbrev IsSound : Configuration → State → Result Decision Denial → Type 0
 IsSound configuration state (Err denial) = Unit {0}
 IsSound configuration state (Ok (Challenged user)) =
-    IsPlace configuration user × (is_some (user_at configuration user).challenge ≡ true) × HasRoom state.waiting
+    IsPlace configuration user × (is_some (user_at configuration user).challenge ≡ true) × IsOk (next_number state.waiting)
 IsSound configuration state (Ok (Granted user grant)) = IsPlace configuration user × (granted configuration user state.table ≡ Ok grant)
 
 -- a session that is granted to a user of the configuration is sound
@@ -380,7 +246,7 @@ challenge_is_sound : (configuration : Configuration) (state : State) (user : ℕ
 challenge_is_sound configuration state user within has = at (next_number state.waiting) refl
   where
     at : (r : Result ℕ IssueFault) → next_number state.waiting ≡ r → IsSound configuration state (challenge_or_denial user r)
-    at (Ok number) is = (within, has, next_number_says state.waiting number is)
+    at (Ok number) is = (within, has, rw (is) refl)
     at (Err fault) is = tt
 
 -- what is decided for a user is sound, if it is for each user of the configuration
@@ -461,9 +327,15 @@ decided_is_lawful laws configuration state request draw (Ok (Challenged user)) g
         hold = lawful.hold;
         table = lawful.table;
         replies = lawful.replies;
+        repeatable = lawful.repeatable;
         addresses = lawful.addresses;
-        waiting = challenges_added configuration request.client user state.clock draw state.waiting sound.2 given.answerable.client sound.0
-            (sym known.paired ∙ sound.1) given.drawn lawful.waiting;
+        waiting = laws.challenges.issue request.client user state.clock draw state.waiting sound.2 lawful.waiting;
+        challenges = All-push (IsChallengeOf configuration) state.waiting.challenges _ lawful.challenges (record {
+          draw = given.drawn;
+          client = given.answerable.client;
+          user = sound.0;
+          answer = sym known.paired ∙ sound.1;
+        });
       };
       clock = refl;
       replies = refl;
@@ -479,29 +351,33 @@ decided_is_lawful laws configuration state request draw (Ok (Granted user grant)
         spans = lawful.spans;
         window = lawful.window;
         hold = lawful.hold;
-        table = laws.grant configuration request.client user state.clock grant state.table given.answerable.client sound.0 sound.1 lawful.table;
+        table = laws.sessions.grant configuration request.client user state.clock grant state.table given.answerable.client sound.0 sound.1 lawful.table;
         replies = lawful.replies;
+        repeatable = lawful.repeatable;
         addresses = addresses_kept state.table (with_session request.client user state.clock grant state.table) state.replies.kept
             (grant_keeps request.client user state.clock grant state.table) lawful.addresses;
         waiting = lawful.waiting;
+        challenges = lawful.challenges;
       };
       clock = refl;
       replies = refl;
     }
 
 -- a lawful state is lawful without the challenge that is answered
-without_challenge_is_lawful : (configuration : Configuration) (client : ℕ) (value : Option (List ℕ)) (state : State) → IsLawful configuration state
-    → IsLawful configuration (without_challenge client value state)
-without_challenge_is_lawful configuration client None state lawful = lawful
-without_challenge_is_lawful configuration client (Some value) state lawful = record {
+without_challenge_is_lawful : TableLaws → (configuration : Configuration) (client : ℕ) (value : Option (List ℕ)) (state : State)
+    → IsLawful configuration state → IsLawful configuration (without_challenge client value state)
+without_challenge_is_lawful laws configuration client None state lawful = lawful
+without_challenge_is_lawful laws configuration client (Some value) state lawful = record {
   clock = lawful.clock;
   spans = lawful.spans;
   window = lawful.window;
   hold = lawful.hold;
   table = lawful.table;
   replies = lawful.replies;
+  repeatable = lawful.repeatable;
   addresses = lawful.addresses;
-  waiting = challenges_left configuration state.clock (λ challenge. not (has_state value client challenge)) state.waiting lawful.waiting;
+  waiting = laws.challenges.answer state.clock client value state.waiting lawful.waiting;
+  challenges = All-filter (λ challenge. not (has_state value client challenge)) (IsChallengeOf configuration) state.waiting.challenges lawful.challenges;
 }
 
 -- without it the clock and the kept replies are the same, so a lawful result there is one here
@@ -522,10 +398,10 @@ access_is_lawful laws configuration state request draw given lawful = with_resul
         let value : Option (List ℕ) = credentials.state in
         let challenged : Option ℕ = option_map (λ challenge. challenge.user) (answered_challenge request.client value state.waiting) in
         let left : State = without_challenge request.client value state in
-        let known = place_of_challenge configuration state.clock request.client value state.waiting lawful.waiting in
+        let known = place_of_challenge configuration request.client value state.waiting lawful.challenges in
         result_without_challenge configuration request.client value state _
         (decided_is_lawful laws configuration left request draw (decision configuration left request challenged credentials) given
-        (without_challenge_is_lawful configuration request.client value state lawful)
+        (without_challenge_is_lawful laws configuration request.client value state lawful)
         (decision_is_sound configuration left request challenged credentials known))
 
 -- ---- accounting
@@ -555,8 +431,10 @@ account_is_lawful laws configuration state request answerable lawful =
         hold = lawful.hold;
         table = kept.0;
         replies = lawful.replies;
+        repeatable = lawful.repeatable;
         addresses = addresses_kept state.table table state.replies.kept kept.2 lawful.addresses;
         waiting = lawful.waiting;
+        challenges = lawful.challenges;
       };
       clock = refl;
       replies = refl;
@@ -567,11 +445,11 @@ account_is_lawful laws configuration state request answerable lawful =
 
     start : (o : Option ℕ) → IsKept (changed started o state.table)
     start None = same
-    start (Some number) = (laws.start configuration state.clock number state.table lawful.table, refl, start_keeps number state.table)
+    start (Some number) = (laws.sessions.start configuration state.clock number state.table lawful.table, refl, start_keeps number state.table)
 
     stop : (o : Option ℕ) → IsKept (changed stopped o state.table)
     stop None = same
-    stop (Some number) = (laws.stop configuration state.clock number state.table lawful.table, refl, stop_keeps number state.table)
+    stop (Some number) = (laws.sessions.stop configuration state.clock number state.table lawful.table, refl, stop_keeps number state.table)
 
     with_number : (is_start is_stop : Bool)
         → IsKept (cond is_start (changed started session state.table) (cond is_stop (changed stopped session state.table) state.table))
@@ -586,53 +464,66 @@ account_is_lawful laws configuration state request answerable lawful =
 -- ---- the step
 
 -- a lawful state is lawful without a reply to a request with this one's key
-without_reply_is_lawful : (configuration : Configuration) (state : State) (request : Request) → IsLawful configuration state
+without_reply_is_lawful : TableLaws → (configuration : Configuration) (state : State) (request : Request) → IsLawful configuration state
     → IsLawful configuration (without_reply request state)
-without_reply_is_lawful configuration state request lawful = record {
-  clock = lawful.clock;
-  spans = lawful.spans;
-  window = lawful.window;
-  hold = lawful.hold;
-  table = lawful.table;
-  replies = replies_left state.clock (λ reply. not (same_key (key_of request) reply.key)) state.replies lawful.replies;
-  addresses = All-filter (λ reply. not (same_key (key_of request) reply.key)) (HasIts state.table) state.replies.kept lawful.addresses;
-  waiting = lawful.waiting;
-}
-
--- no reply to a request with this one's key is left
-without_reply_has_none : (state : State) (request : Request) → HasNoReplyTo (key_of request) (without_reply request state).replies
-without_reply_has_none state request =
+without_reply_is_lawful laws configuration state request lawful =
     let other : Kept → Bool = λ reply. not (same_key (key_of request) reply.key) in
-    All-weaker (λ reply. other reply ≡ true) (λ reply. same_key reply.key (key_of request) ≡ false)
-    (λ reply passes. same_key_symmetric reply.key (key_of request) ∙ not-true (same_key (key_of request) reply.key) passes)
-    (filter other state.replies.kept) (filter_passes other state.replies.kept)
-
--- a lawful state is lawful with a reply that is kept for repeats of a request, which is no Status-Server
-with_reply_is_lawful : (configuration : Configuration) (state : State) (request : Request) (body : Body)
-    → (request.packet.code == code_status_server) ≡ false → is_full state.replies ≡ false → HasNoReplyTo (key_of request) state.replies → IsReply body
-    → HasItsSession state.table body state.clock → IsLawful configuration state → IsLawful configuration (with_reply request body state)
-with_reply_is_lawful configuration state request body other room none sealable its lawful =
-    let reply : Kept = record { key = key_of request; octets = packet_octets request.packet; body = body; made = state.clock } in
     record {
       clock = lawful.clock;
       spans = lawful.spans;
       window = lawful.window;
       hold = lawful.hold;
       table = lawful.table;
-      replies = replies_added state.clock reply state.replies room none (record { sealable = sealable; request = other; made = omega arith })
-          lawful.replies;
+      replies = laws.replies.removal state.clock (key_of request) state.replies lawful.replies;
+      repeatable = All-filter other IsRepeatable state.replies.kept lawful.repeatable;
+      addresses = All-filter other (HasIts state.table) state.replies.kept lawful.addresses;
+      waiting = lawful.waiting;
+      challenges = lawful.challenges;
+    }
+
+-- a reply to this request can take the place of the one with its key among these replies, of which the state has the others
+record TakesPlace (replies : Replies) (request : Request) (state : State) : Type 0 where
+  -- the request is no Status-Server
+  other : (request.packet.code == code_status_server) ≡ false
+  -- there is room for the reply
+  room : is_full (without_key (key_of request) replies) ≡ false
+  -- the others are what the state has
+  left : state.replies ≡ without_key (key_of request) replies
+  -- the replies are lawful
+  lawful : AreLawfulReplies state.clock replies
+
+-- a lawful state is lawful with such a reply
+with_reply_is_lawful : TableLaws → (configuration : Configuration) (replies : Replies) (state : State) (request : Request) (body : Body)
+    → TakesPlace replies request state → IsReply body → HasItsSession state.table body state.clock → IsLawful configuration state
+    → IsLawful configuration (with_reply request body state)
+with_reply_is_lawful laws configuration replies state request body place sealable its lawful =
+    let reply : Kept = record { key = key_of request; octets = packet_octets request.packet; body = body; made = state.clock } in
+    let kept = laws.replies.keeping state.clock reply replies place.room (omega arith) place.lawful in
+    record {
+      clock = lawful.clock;
+      spans = lawful.spans;
+      window = lawful.window;
+      hold = lawful.hold;
+      table = lawful.table;
+      replies = subst (λ left. AreLawfulReplies state.clock (recent.with_reply reply left)) (sym place.left) kept;
+      repeatable = All-push IsRepeatable state.replies.kept reply lawful.repeatable (record { sealable = sealable; request = place.other });
       addresses = All-push (HasIts state.table) state.replies.kept reply lawful.addresses its;
       waiting = lawful.waiting;
+      challenges = lawful.challenges;
     }
 
 -- the state after a lawful result is sent and kept is lawful
-kept_is_lawful : (configuration : Configuration) (before : State) (request : Request) (result : Body × State)
-    → (request.packet.code == code_status_server) ≡ false → is_full before.replies ≡ false → HasNoReplyTo (key_of request) before.replies
-    → IsLawfulResult configuration before result → IsLawful configuration (sent_and_kept request result).1
-kept_is_lawful configuration before request (body, state) other room none known =
-    let room_left = ap is_full known.replies ∙ room in
-    let none_there = subst (HasNoReplyTo (key_of request)) (sym known.replies) none in
-    with_reply_is_lawful configuration state request body other room_left none_there known.reply known.session known.new
+kept_is_lawful : TableLaws → (configuration : Configuration) (before : State) (request : Request) (result : Body × State)
+    → (request.packet.code == code_status_server) ≡ false → is_full (without_reply request before).replies ≡ false
+    → AreLawfulReplies before.clock before.replies → IsLawfulResult configuration (without_reply request before) result
+    → IsLawful configuration (sent_and_kept request result).1
+kept_is_lawful laws configuration before request (body, state) other room lawful known =
+    with_reply_is_lawful laws configuration before.replies state request body (record {
+      other = other;
+      room = room;
+      left = known.replies;
+      lawful = subst (λ clock. AreLawfulReplies clock before.replies) (sym known.clock) lawful;
+    }) known.reply known.session known.new
 
 -- the state after an answer is lawful
 answer_is_lawful : TableLaws → (configuration : Configuration) (state : State) (request : Request) (draw : List ℕ)
@@ -647,7 +538,7 @@ answer_is_lawful laws configuration state request draw given lawful =
     left = without_reply request state
 
     left_lawful : IsLawful configuration left
-    left_lawful = without_reply_is_lawful configuration state request lawful
+    left_lawful = without_reply_is_lawful laws configuration state request lawful
 
     by_port : (door : Door) → IsLawfulResult configuration left (reply_by_port door configuration left request draw)
     by_port Auth = access_is_lawful laws configuration left request draw given left_lawful
@@ -658,7 +549,7 @@ answer_is_lawful laws configuration state request draw given lawful =
     with_kept other None =
         let result : Body × State = reply_by_port request.door configuration left request draw in
         cond_both (is_full left.replies) (Busy, left) (sent_and_kept request result) Keeps (λ _. left_lawful)
-        (λ room. kept_is_lawful configuration left request result other room (without_reply_has_none state request) (by_port request.door))
+        (λ room. kept_is_lawful laws configuration state request result other room lawful.replies (by_port request.door))
 
 -- the state after a step is lawful
 pub step_is_lawful : TableLaws → (configuration : Configuration) (state : State) (request : Request) (moment : ℕ) (draw : List ℕ)

@@ -4,7 +4,7 @@ use Rattle.std.specs.List.{list_any}
 use Rattle.std.specs.Prelude.{map}
 use Rattle.rad_packet.specs.Attributes.{Attribute, of_kind}
 use Rattle.rad_server.specs.Occurrences.{Occurrence, Absent, Once, Repeated, occurrence, occurrence_of_values}
-use Rattle.rad_server.specs.Plans.{counted, one_more}
+use Rattle.rad_server.specs.SentCredentials.{counted, one_more}
 
 -- how often in two lists
 abbrev pub together : Occurrence → Occurrence → Occurrence

@@ -11,7 +11,8 @@ use Rattle.rad_auth.specs.declared.arrival.Request.{Request}
 use Rattle.rad_config.specs.Configurations.{Configuration}
 use Rattle.rad_recent.specs.Recent.{is_full, kept_max, same_key, without_key}
 use Rattle.rad_recent.specs.declared.kept.Kept.{Kept}
-use Rattle.rad_server.specs.Plans.{IsAccountingReply, IsChangeOf, IsNewReply, IsReplyOf}
+use Rattle.rad_server.specs.Changes.{IsChangeOf}
+use Rattle.rad_server.specs.Plans.{IsAccountingReply, IsNewReply, IsReplyOf}
 use Rattle.rad_server.specs.States.{State}
 use Rattle.rad_server.specs.Steps.{answer, answer_with, key_of, reply_by_port, reply_kept, without_reply}
 use Rattle.rad_server.specs.declared.answer.Answer.TheVariants.{Send, Busy}
@@ -81,11 +82,11 @@ no_answer configuration current request draw other found full few = rw (other) (
     at None e = rw (full) (ap (λ state. (Busy, state)) (nothing_removed current request full few))
 
 -- a reply that a rule gives, with the change by which the rule leads on
-pub reply_made : (rule : State → Body × State) (configuration : Configuration) (current : State) (request : Request) (draw : List ℕ) (reply : NewReply)
+pub reply_made : (rule : State → Body × State) (current : State) (request : Request) (draw : List ℕ) (reply : NewReply)
     → (rule (without_reply request current)).0 ≡ reply.body
-    → IsChangeOf rule configuration current request draw (option_copied reply.answered) reply.change
-    → IsReplyOf rule configuration current request draw reply
-reply_made rule configuration current request draw reply says made =
+    → IsChangeOf rule current request draw (option_copied reply.answered) reply.change
+    → IsReplyOf rule current request draw reply
+reply_made rule current request draw reply says made =
     record { planned = λ i. (says i, made.changed i); possible = made.possible }
 
 -- on the accounting port, the rule of the port is that of accounting
@@ -94,4 +95,4 @@ pub accounting_is_new : (configuration : Configuration) (current : State) (reque
     → IfOk r (IsNewReply configuration current request draw)
 accounting_is_new configuration current request draw (Err fault) door planned = tt
 accounting_is_new configuration current request draw (Ok reply) door planned =
-    subst (λ (d : Door). IsReplyOf (λ state. reply_by_port d configuration state request draw) configuration current request draw reply) (sym door) (planned current draw)
+    subst (λ (d : Door). IsReplyOf (λ state. reply_by_port d configuration state request draw) current request draw reply) (sym door) (planned current draw)

@@ -24,12 +24,12 @@ use Rattle.rad_auth.specs.declared.arrival.Door.{Door}
 use Rattle.rad_auth.specs.declared.arrival.Door.TheVariants.{Auth, Acct}
 use Rattle.rad_auth.specs.declared.arrival.Request.{Request}
 use Rattle.rad_config.specs.Configurations.{Configuration}
+use Rattle.rad_recent.specs.Lawful.{HaveDifferentKeys}
 use Rattle.rad_recent.specs.Recent.{is_full, is_reply_live, is_reply_to, same_key}
 use Rattle.rad_recent.specs.declared.kept.Kept.{Kept}
 use Rattle.rad_recent.specs.declared.key.Key.{Key}
 use Rattle.rad_server.specs.Access.{Challenged, Decision, Granted, access_with, decided, without_challenge}
 use Rattle.rad_server.specs.Credentials.{Credentials, credentials_in}
-use Rattle.rad_server.specs.Lawful.{HaveDifferentKeys}
 use Rattle.rad_server.specs.Repeats.{AreExchanges, Exchange, RepeatsFollow, RunsRepeat, Source, covers, entry_key, first_sources, followed_by, is_in_force, is_status_server, next_sources, source_of, spares}
 use Rattle.rad_server.specs.Replies.{status_reply}
 use Rattle.rad_server.specs.Runs.{IsExchange}

@@ -1,7 +1,6 @@
 -- The law of the state: what holds of it before the first request, and is kept by each step for a request that may be answered.
--- `lawful_steps` says so.
-use Rattle.std.specs.Prelude.{◌≡◌, ℕ, ◌+◌, ◌≤◌, ◌<◌, ◌==◌, false, true, is_some, List, length, slice_index_or, All, AllPairs, Contains, Some, option_map}
-use Rattle.std.specs.Int.{IsInRange}
+-- `lawful_steps` says so. The laws of the tables are those of `rad_pool` and `rad_recent`.
+use Rattle.std.specs.Prelude.{◌≡◌, ℕ, ◌≤◌, ◌<◌, ◌==◌, false, true, is_some, List, length, slice_index_or, All, Contains, Some, option_map}
 use Rattle.rad_packet.specs.Attributes.{first_value}
 use Rattle.rad_packet.specs.Bodies.{Body}
 use Rattle.rad_packet.specs.Codes.{code_access_accept, code_status_server}
@@ -16,8 +15,7 @@ use Rattle.rad_config.specs.Spans.{moment_max, spans_of}
 use Rattle.rad_pool.specs.Lawful.{IsLawful as IsLawfulTable}
 use Rattle.rad_pool.specs.Sessions.{Table}
 use Rattle.rad_pool.specs.declared.session.Session.{Session}
-use Rattle.rad_recent.specs.Challenges.{Waiting, challenges_max, last_challenge}
-use Rattle.rad_recent.specs.Recent.{Replies, kept_max, same_key}
+use Rattle.rad_recent.specs.Lawful.{AreLawfulChallenges, AreLawfulReplies}
 use Rattle.rad_recent.specs.declared.challenge.Challenge.{Challenge}
 use Rattle.rad_recent.specs.declared.kept.Kept.{Kept}
 use Rattle.rad_server.specs.Access.{user_at}
@@ -27,18 +25,12 @@ use Rattle.rad_server.specs.Steps.{step}
 
 -- ---- kept replies
 
--- what holds of each kept reply of a lawful state
-pub record IsLawfulReply (clock : ℕ) (reply : Kept) : Type 0 where
+-- what holds of each kept reply of a lawful state, besides the law of their table
+pub record IsRepeatable (reply : Kept) : Type 0 where
   -- it can be sealed
   pub sealable : IsReply reply.body
   -- its request was no Status-Server, whose Code would be the first octet
   pub request : (slice_index_or reply.octets 0 0 == code_status_server) ≡ false
-  -- it was not made after the clock
-  pub made : reply.made ≤ clock
-
--- two kept replies are to requests with different keys
-abbrev pub HaveDifferentKeys : Kept → Kept → Type 0
-HaveDifferentKeys earlier later = same_key earlier.key later.key ≡ false
 
 -- a session has an address that a reply gives, and its Class has the session's number
 pub record IsSessionOf (body : Body) (value : List ℕ) (session : Session) : Type 0 where
@@ -52,20 +44,10 @@ HasItsSession table body made = body.code ≡ code_access_accept
     → (value : List ℕ) → first_value type_framed_ip_address body.attributes ≡ Some value
     → (session : Session) × Contains table.sessions session × IsSessionOf body value session × (session.made ≡ made)
 
-pub record AreLawfulReplies (clock : ℕ) (replies : Replies) : Type 0 where
-  -- there are no more than there may be
-  pub few : length replies.kept ≤ kept_max
-  -- no two are to requests with one key
-  pub keys : AllPairs HaveDifferentKeys replies.kept
-  -- each is lawful
-  pub each : All (IsLawfulReply clock) replies.kept
-
 -- ---- challenges
 
--- what holds of each challenge of a lawful state, when the number of the next one is given
-pub record IsLawfulChallenge (configuration : Configuration) (clock next : ℕ) (challenge : Challenge) : Type 0 where
-  -- its number counts from 1, and the next one is greater
-  pub number : (1 ≤ challenge.number) × (challenge.number < next)
+-- what holds of each challenge of a lawful state, besides the law of their table
+pub record IsChallengeOf (configuration : Configuration) (challenge : Challenge) : Type 0 where
   -- its draw has 16 octets
   pub draw : length challenge.draw ≡ length sixteen_zeros
   -- its client and its user are places of the configuration
@@ -73,22 +55,6 @@ pub record IsLawfulChallenge (configuration : Configuration) (clock next : ℕ) 
   pub user : challenge.user < length configuration.users
   -- its user has an answer
   pub answer : is_some (user_at configuration challenge.user).answer ≡ true
-  -- it was not made after the clock
-  pub made : challenge.made ≤ clock
-
--- the earlier of two challenges has the smaller number
-abbrev pub IsNumberedBefore : Challenge → Challenge → Type 0
-IsNumberedBefore earlier later = earlier.number < later.number
-
-pub record AreLawfulChallenges (configuration : Configuration) (clock : ℕ) (waiting : Waiting) : Type 0 where
-  -- the next number counts from 1; after the last number there is only one more
-  pub next : IsInRange 1 (last_challenge + 1) waiting.next
-  -- there are no more than there may be
-  pub few : length waiting.challenges ≤ challenges_max
-  -- numbers rise along the list, so no two challenges have the same
-  pub rising : AllPairs IsNumberedBefore waiting.challenges
-  -- each is lawful
-  pub each : All (IsLawfulChallenge configuration clock waiting.next) waiting.challenges
 
 -- ---- the state
 
@@ -102,12 +68,16 @@ pub record IsLawful (configuration : Configuration) (state : State) : Type 0 whe
   pub hold : state.waiting.hold ≡ (spans_of configuration).hold
   -- the table of sessions is lawful: no address belongs to two of them
   pub table : IsLawfulTable configuration state.clock state.table
-  -- the kept replies are lawful
+  -- the table of kept replies is lawful: no two have one key
   pub replies : AreLawfulReplies state.clock state.replies
+  -- each kept reply may be sent again
+  pub repeatable : All IsRepeatable state.replies.kept
   -- the address that a kept Access-Accept gives is still its session's
   pub addresses : All (λ reply. HasItsSession state.table reply.body reply.made) state.replies.kept
-  -- the challenges that wait for an answer are lawful
-  pub waiting : AreLawfulChallenges configuration state.clock state.waiting
+  -- the table of challenges that wait for an answer is lawful
+  pub waiting : AreLawfulChallenges state.clock state.waiting
+  -- each challenge is one of this configuration
+  pub challenges : All (IsChallengeOf configuration) state.waiting.challenges
 
 -- ---- what keeps the law
 

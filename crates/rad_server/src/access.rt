@@ -4,7 +4,9 @@ ghost use Rattle.rad_auth.specs.Admission.{IsAnswerable};
 ghost use Rattle.rad_config.specs.Spans.{moment_max};
 ghost use Rattle.rad_recent.specs.Challenges.{answered, cut_challenges};
 ghost use Rattle.rad_server.specs.Access.{decision_on_answer, decision_on_password, password_matches, user_by_answer, user_by_password, without_challenge};
-ghost use Rattle.rad_server.specs.Plans.{AreUsable, CanBeGiven, Gives, IsSent, credentials_of, decision_in, decision_of, live_state, sent_password_of, state_for, user_challenged};
+ghost use Rattle.rad_server.specs.Decisions.{CanBeGiven, Gives, decision_in, decision_of, user_challenged};
+ghost use Rattle.rad_server.specs.SentCredentials.{IsSent, credentials_of, sent_password_of};
+ghost use Rattle.rad_server.specs.TableStates.{AreUsable, live_state, state_for};
 
 use crate::credentials::{Credentials, SentPassword};
 use crate::denial::Denial;

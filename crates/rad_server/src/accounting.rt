@@ -1,7 +1,7 @@
 //! What an Accounting-Request reports of a session.
 ghost use Rattle.std.specs.Prelude.{◌≡◌, option_copied};
 ghost use Rattle.rad_packet.specs.AttributeViews.{attribute_of};
-ghost use Rattle.rad_server.specs.Plans.{AreReportAttributes, IsOneMoreReported, class_number_of, integer_of};
+ghost use Rattle.rad_server.specs.Reports.{AreReportAttributes, IsOneMoreReported, class_number_of, integer_of};
 
 use rad_packet::attribute::{ACCT_STATUS_TYPE, CLASS, FRAMED_IP_ADDRESS, USER_NAME};
 use rad_packet::{Attribute, Attributes};

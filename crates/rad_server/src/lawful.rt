@@ -2,6 +2,7 @@
 ghost use Rattle.rad_server.specs.Lawful.{OpeningIsLawful, StepKeepsTheLaw};
 
 use rad_pool::lawful_tables;
+use rad_recent::{lawful_challenges, lawful_replies};
 
 /// The state before the first request is lawful, and with a configuration in its ranges the step for a request that may be answered
 /// leads from a lawful state to a lawful one, at any moment up to `MOMENT_MAX` and with any draw of 16 octets.
@@ -12,4 +13,6 @@ pub fn lawful_steps()
     ensures step { StepKeepsTheLaw }
 {
     lawful_tables();
+    lawful_replies();
+    lawful_challenges();
 }

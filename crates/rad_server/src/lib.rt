@@ -1,8 +1,8 @@
 //! The server of one thread: from a state, an admitted request, its moment and its draw to the answer and the next state (RFC 2865,
 //! RFC 2866, RFC 5080, RFC 5997).
 //!
-//! `Server::step` plans first: `plan` only reads, and makes the reply's body. Then memory is made ready, and then `commit`, which
-//! can't fail, changes the state. So if memory is refused, the state is unchanged. Nothing here reads a clock or a socket.
+//! `Server::step` plans first: `plan` only reads, decides, and makes the reply's body. Then memory is made ready, and then `commit`,
+//! which neither decides nor fails, changes the state. So if memory is refused, the state is unchanged. Nothing here reads a clock or a socket.
 //!
 //! `exchange` appends a step to a history, `Book` keeps a server with its history, and `follow` makes the exchanges of a history again.
 //!
@@ -15,6 +15,8 @@ mod accounting;
 mod answer;
 mod answered;
 mod book;
+mod change;
+mod commit;
 mod credentials;
 mod denial;
 mod entry;

@@ -3,7 +3,7 @@ ghost use Rattle.std.specs.Prelude.{◌≡◌};
 ghost use Rattle.std.specs.List.{AllByRecursion};
 ghost use Rattle.rad_packet.specs.AttributeViews.{attribute_of};
 ghost use Rattle.rad_packet.specs.Attributes.{IsAttribute};
-ghost use Rattle.rad_server.specs.Plans.{AreAccessAttributes, IsOneMore, occurrence_of, one_more};
+ghost use Rattle.rad_server.specs.SentCredentials.{AreAccessAttributes, IsOneMore, occurrence_of, one_more};
 
 use rad_packet::attribute::{
     CHAP_CHALLENGE, CHAP_PASSWORD, EAP_MESSAGE, STATE, USER_NAME, USER_PASSWORD,

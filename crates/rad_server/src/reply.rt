@@ -5,7 +5,7 @@ ghost use Rattle.rad_packet.specs.Codes.{code_access_accept};
 ghost use Rattle.rad_packet.specs.Types.{type_proxy_state};
 ghost use Rattle.rad_auth.specs.Admission.{proxy_states_max, proxy_states_size};
 ghost use Rattle.rad_auth.specs.Sealing.{IsReply};
-ghost use Rattle.rad_server.specs.Plans.{access_front, with_attributes};
+ghost use Rattle.rad_server.specs.ReplyBodies.{access_front, with_attributes};
 ghost use Rattle.rad_server.specs.Replies.{accept_attributes, access_accept, access_challenge, access_reject, access_reply, accounting_response, attribute_if_any, class_value, four_octets, status_reply};
 
 use crate::denial::Denial;

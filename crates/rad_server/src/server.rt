@@ -12,9 +12,10 @@ ghost use Rattle.rad_server.specs.Steps.{IsSealable, step};
 
 use crate::answer::Answer;
 use crate::answered::plan_answered;
+use crate::commit::{commit, make_room};
 use crate::entry::Entry;
 use crate::lawful::lawful_steps;
-use crate::plan::{Plan, commit, make_room, plan_step};
+use crate::plan::{Plan, plan_step};
 use crate::tables::Tables;
 use rad_auth::{Arrival, Request, admitted_is_answerable, readmit};
 use rad_config::Config;
@@ -27,12 +28,24 @@ use std::marker::Model;
 /// A server: its configuration, and what it remembers. Contracts see both.
 ///
 /// Moments are in milliseconds. The clock is the latest moment so far.
-#[derive(Drop)]
 pub struct Server<'c> {
     alloc: Global,
     config: &'c Config,
     clock: u64,
     tables: Tables,
+}
+
+// Written out, so that for those who hold a server its end is one step.
+impl<'c> Drop for Server<'c> {
+    fn drop(self) {
+        let Server {
+            alloc: _,
+            config: _,
+            clock: _,
+            tables,
+        } = self;
+        drop(tables);
+    }
 }
 
 impl<'c> Model for Server<'c> {
@@ -231,7 +244,7 @@ impl<'c> Server<'c> {
             ..
         } = self;
         let now = (*clock).max(moment);
-        make_room(tables, now, &plan)?;
+        make_room(tables, &plan)?;
         *clock = now;
         Ok(commit(config, tables, now, request, draw, plan))
     }

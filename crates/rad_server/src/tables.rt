@@ -4,7 +4,7 @@ ghost use Rattle.rad_config.specs.Spans.{moment_max, spans_of};
 ghost use Rattle.rad_pool.specs.Sessions.{AreSame as AreSameSessions, cut};
 ghost use Rattle.rad_recent.specs.Challenges.{AreSame as AreSameChallenges, cut_challenges};
 ghost use Rattle.rad_recent.specs.Recent.{cut_replies};
-ghost use Rattle.rad_server.specs.Plans.{AreLive, AreTheSame, HaveRoomOf};
+ghost use Rattle.rad_server.specs.TableStates.{AreLive, AreTheSame, HaveRoomOf};
 ghost use Rattle.rad_server.specs.Servers.{state_with};
 ghost use Rattle.rad_server.specs.States.{opening, without_expired};
 

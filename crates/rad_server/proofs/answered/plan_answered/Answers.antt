@@ -1,6 +1,6 @@
 use Rattle.std.proofs.Common.{◌≡◌, ◌≤◌, arith, length, rules}
 use Rattle.rad_recent.specs.Recent.{is_reply_live, kept_max}
-use Rattle.rad_server.specs.Plans.{live_state}
+use Rattle.rad_server.specs.TableStates.{live_state}
 use Rattle.rad_server.specs.States.{State}
 use Rattle.rad_server.specs.Steps.{answer}
 use Rattle.rad_server.specs.declared.answer.Answer.TheVariants.{Busy}

@@ -2,7 +2,8 @@ use Rattle.std.proofs.Common.{◌≡◌, None, option_copied, ap, subst, sym, �
 use Rattle.rad_packet.specs.Bodies.{Body}
 use Rattle.rad_auth.specs.declared.arrival.Door.{Door}
 use Rattle.rad_auth.specs.declared.arrival.Door.TheVariants.{Auth}
-use Rattle.rad_server.specs.Plans.{IsChangeOf, live_state, state_for}
+use Rattle.rad_server.specs.Changes.{IsChangeOf}
+use Rattle.rad_server.specs.TableStates.{live_state, state_for}
 use Rattle.rad_server.specs.States.{State}
 use Rattle.rad_server.specs.Steps.{reply_by_port}
 use Rattle.rad_server.proofs.PlanLemmas.{reply_made}
@@ -23,12 +24,12 @@ returns c =
           let made = w.access_change.result in
           let said : (rule Auth before).0 ≡ c.args.body.now = subst (λ door. (rule door before).0 ≡ c.args.body.now) w.in-Auth.is c.requires.said in
           rw (w.change-is)
-          (reply_made (rule request.door) configuration current request draw _ says
-          (subst (λ door. IsChangeOf (rule door) configuration current request draw (option_copied made.0) made.1) (sym w.in-Auth.is)
+          (reply_made (rule request.door) current request draw _ says
+          (subst (λ door. IsChangeOf (rule door) current request draw (option_copied made.0) made.1) (sym w.in-Auth.is)
           (w.access_change.ensures draw (ap (λ (b : Body). b.code) said ∙ sym w.code.ensures))))
       | in-Acct w ↦
           rw (w.change-is)
-          (reply_made (rule request.door) configuration current request draw _ says
-          (subst (λ door. IsChangeOf (rule door) configuration current request draw None w.reported_change.result) (sym w.in-Acct.is)
+          (reply_made (rule request.door) current request draw _ says
+          (subst (λ door. IsChangeOf (rule door) current request draw None w.reported_change.result) (sym w.in-Acct.is)
           (w.reported_change.ensures current draw)))
     ]

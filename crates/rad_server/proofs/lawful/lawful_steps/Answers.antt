@@ -2,10 +2,19 @@ use Rattle.rad_server.proofs.LawfulLemmas.{opening_is_lawful, step_is_lawful}
 use Rattle.rad_server.proofs.lawful.lawful_steps.Goals as goal
 
 pub returns-clause-opening : goal.returns-clause-opening
-returns-clause-opening c = opening_is_lawful c.lawful_tables.ensures.opening
+returns-clause-opening c = opening_is_lawful (record {
+  sessions = c.lawful_tables.ensures.opening;
+  replies = c.lawful_replies.ensures.opening;
+  challenges = c.lawful_challenges.ensures.opening;
+})
 
 pub returns-clause-step : goal.returns-clause-step
 returns-clause-step c = λ configuration state request moment draw valid answerable within drawn lawful.
-    let laws = c.lawful_tables.ensures in
-    step_is_lawful (record { expiry = laws.expiry; grant = laws.grant; start = laws.start; stop = laws.stop }) configuration state request moment draw
-    (record { valid = valid; answerable = answerable; drawn = drawn }) within lawful
+    let sessions = c.lawful_tables.ensures in
+    let replies = c.lawful_replies.ensures in
+    let challenges = c.lawful_challenges.ensures in
+    step_is_lawful (record {
+      sessions = record { expiry = sessions.expiry; grant = sessions.grant; start = sessions.start; stop = sessions.stop };
+      replies = record { expiry = replies.expiry; removal = replies.removal; keeping = replies.keeping };
+      challenges = record { expiry = challenges.expiry; answer = challenges.answer; issue = challenges.issue };
+    }) configuration state request moment draw (record { valid = valid; answerable = answerable; drawn = drawn }) within lawful

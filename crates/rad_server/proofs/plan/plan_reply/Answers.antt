@@ -1,4 +1,4 @@
-use Rattle.rad_server.specs.Plans.{live_state}
+use Rattle.rad_server.specs.TableStates.{live_state}
 use Rattle.rad_server.proofs.PlanLemmas.{accounting_is_new}
 use Rattle.rad_server.proofs.plan.plan_reply.Goals as goal
 

@@ -2,7 +2,7 @@ use Rattle.std.proofs.Common.{◌≡◌, ◌≤◌, length, arith, rules, true, 
 use Rattle.std.proofs.lemmas.List.Elements.{All-filter}
 use Rattle.rad_auth.specs.Sealing.{IsReply}
 use Rattle.rad_recent.specs.Recent.{cut_replies, is_full, is_reply_live, kept_max, without_key}
-use Rattle.rad_server.specs.Plans.{live_state}
+use Rattle.rad_server.specs.TableStates.{live_state}
 use Rattle.rad_server.specs.States.{State}
 use Rattle.rad_server.specs.Steps.{key_of, reply_kept}
 use Rattle.rad_server.proofs.PlanLemmas.{filter_short, found_has, image_has, kept_again, no_answer}

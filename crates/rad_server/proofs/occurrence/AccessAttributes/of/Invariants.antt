@@ -2,7 +2,7 @@ use Rattle.std.proofs.Common.{◌≡◌, ◌||◌}
 use Rattle.rad_packet.specs.Attributes.{has}
 use Rattle.rad_packet.specs.Types.{type_chap_challenge, type_chap_password, type_eap_message, type_state, type_user_name, type_user_password}
 use Rattle.rad_server.specs.Occurrences.{occurrence}
-use Rattle.rad_server.specs.Plans.{occurrence_of}
+use Rattle.rad_server.specs.SentCredentials.{occurrence_of}
 use Rattle.rad_server.proofs.OccurrenceLemmas.{together}
 use Rattle.rad_server.proofs.occurrence.AccessAttributes.of.Given as goal
 

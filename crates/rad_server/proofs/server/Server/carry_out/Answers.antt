@@ -2,7 +2,7 @@ use Rattle.std.proofs.Common.{◌≡◌, length, rules, ap, subst, sym, ◌∙�
 use Rattle.rad_auth.specs.Admission.{IsAnswerable}
 use Rattle.rad_config.specs.Configurations.{Configuration}
 use Rattle.rad_server.specs.Lawful.{IsLawful}
-use Rattle.rad_server.specs.Plans.{live_state}
+use Rattle.rad_server.specs.TableStates.{live_state}
 use Rattle.rad_server.specs.Servers.{state_with}
 use Rattle.rad_server.specs.States.{State, without_expired}
 use Rattle.rad_server.specs.Steps.{answer, step}
@@ -21,6 +21,6 @@ invariant_of-self-2 c =
     let stepped = c.lawful_steps.ensures.step configuration old request c.args.moment draw c.clients.ensures.configuration answerable c.requires.moment drawn c.self.invariant in
     let is : (step configuration old request c.args.moment draw).1 ≡ state_with now c.commit.new.tables =
     ap (λ n. (answer configuration (live_state n tables) request draw).1) (sym c.max-now.ensures)
-    ∙ ap (λ s. (answer configuration (without_expired s) request draw).1) (sym c.in_ok-make_room.ensures.unchanged)
+    ∙ ap (λ (s : State). (answer configuration (without_expired (record s { clock = now })) request draw).1) (sym c.in_ok-make_room.ensures.unchanged)
     ∙ ap (λ r. r.1) c.commit.ensures.answered in
     subst (IsLawful configuration) is stepped

@@ -1,0 +1,126 @@
+//! What a request changes among sessions and challenges.
+ghost use Rattle.std.specs.Prelude.{◌≡◌, ℕ, List, None, option_copied, option_map};
+ghost use Rattle.rad_config.specs.Configurations.{user_place};
+ghost use Rattle.rad_pool.specs.Meant.{meant};
+ghost use Rattle.rad_pool.specs.declared.session.Session.{Session};
+ghost use Rattle.rad_server.specs.Accounting.{account};
+ghost use Rattle.rad_server.specs.Changes.{CanBeMade, IsChangeOf, IsReadyFor, changed_by, session_of};
+ghost use Rattle.rad_server.specs.Servers.{state_with};
+ghost use Rattle.rad_server.specs.States.{State};
+
+use crate::access::NewSession;
+use crate::accounting::{Report, START, STOP};
+use crate::tables::Tables;
+use rad_auth::Request;
+use rad_config::Config;
+use rad_pool::Sessions;
+
+/// How an Accounting-Request names the session that it means.
+#[derive(Clone, Copy)]
+pub(crate) struct Reference {
+    /// The number in its Class.
+    pub number: Option<u64>,
+    /// Its Framed-IP-Address.
+    pub address: Option<u32>,
+    /// The place of the user of its User-Name, if it has one; that may be nobody's.
+    pub name: Option<Option<u32>>,
+}
+
+/// What a new reply changes among sessions and challenges.
+#[derive(Clone, Copy)]
+pub(crate) enum Change {
+    Nothing,
+    /// A challenge for the user at this place.
+    Challenge(u32),
+    /// A session, as it is granted.
+    Grant(NewSession),
+    /// A Start of the session that is meant.
+    Start(Reference),
+    /// A Stop of it.
+    Stop(Reference),
+}
+
+/// What an Accounting-Request changes.
+pub(crate) fn reported_change(config: &Config, request: &Request) -> Change
+    ensures { (current : State) (draw : List ℕ)
+        → IsChangeOf (λ state. account config.now state request.now) current
+        request.now draw None result }
+{
+    let report = Report::of(request.packet.attributes());
+    let reference = Reference {
+        number: report.number,
+        address: report.address,
+        name: name_asked(config, &report),
+    };
+    match report.status {
+        Some(START) => Change::Start(reference),
+        Some(STOP) => Change::Stop(reference),
+        _ => Change::Nothing,
+    }
+}
+
+// The place of the user whose name was sent, if the session is meant by its address; it may be nobody's.
+fn name_asked(config: &Config, report: &Report) -> Option<Option<u32>>
+    ensures { (client : ℕ) (sessions : List Session) →
+        meant client report.now.number report.now.address result sessions
+        ≡ meant client report.now.number report.now.address
+        (option_map (user_place config.now.users) (option_copied report.now.user_name)) sessions }
+{
+    match (report.number, report.address) {
+        (None, Some(_)) => named_user(config, report.user_name),
+        _ => None,
+    }
+}
+
+// The place of the user whose name was sent, if one was sent; it may be nobody's.
+fn named_user(config: &Config, name: Option<&[u8]>) -> Option<Option<u32>>
+    ensures { result ≡ option_map (user_place config.now.users) (option_copied name.entry) }
+{
+    match name {
+        None => None,
+        Some(name) => Some(config.user(name)),
+    }
+}
+
+/// Makes a change, for a client's request. It was planned, and memory is ready for it.
+pub(crate) fn make_change(
+    tables: &mut Tables,
+    now: u64,
+    client: u32,
+    draw: &[u8; 16],
+    change: &Change,
+)
+    requires possible { CanBeMade (state_with now tables.old) change.now }
+    requires ready { IsReadyFor change.now tables.old }
+    ensures changed { state_with now tables.new
+        ≡ changed_by client draw.now change.now (state_with now tables.old) }
+    ensures recent { tables.new.recent ≡ tables.old.recent }
+{
+    let Tables {
+        sessions,
+        challenges,
+        ..
+    } = tables;
+    match change {
+        Change::Nothing => {}
+        Change::Challenge(user) => challenges.add(client, *user, draw, now),
+        Change::Grant(session) => sessions.add(client, session.user, session.grant, now),
+        Change::Start(reference) => {
+            if let Some(number) = find(sessions, client, reference) {
+                sessions.start(number);
+            }
+        }
+        Change::Stop(reference) => {
+            if let Some(number) = find(sessions, client, reference) {
+                sessions.stop(number);
+            }
+        }
+    }
+}
+
+// The number of the session that a client means.
+fn find(sessions: &Sessions, client: u32, reference: &Reference) -> Option<u64>
+    ensures { result ≡ session_of client reference.now sessions.now.table }
+{
+    sessions.find(client, reference.number, reference.address, reference.name)
+}
