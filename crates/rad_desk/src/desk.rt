@@ -1,5 +1,5 @@
 //! The desk.
-ghost use Rattle.std.specs.Prelude.{◌≡◌, ◌≢◌, ◌↔◌, ◌≤◌, vec_len, Err, IfErr, OnErr, OnOk, IfOk, All};
+ghost use Rattle.std.specs.Prelude.{◌≡◌, ◌≢◌, ◌↔◌, ◌≤◌, vec_len, Err, IfErr, IsTrue, OnErr, OnOk, IfOk, All};
 ghost use Rattle.rad_auth.specs.Admission.{IsAdmitted};
 ghost use Rattle.rad_config.specs.Spans.{moment_max};
 ghost use Rattle.rad_server.specs.Runs.{IsHistory};
@@ -86,11 +86,18 @@ impl<'c, L: Opened> Desk<'c, L> {
         ensures complete { vec_len passes ≡ L.parts → result ≢ Err Mismatch.Count }
     {
         let Desk { opening, lock } = self;
-        if !opening.same(server) {
+        if !is_same(opening, server) {
             return Err(Mismatch::Opening);
         }
         close(lock.into_inner(), passes)
     }
+}
+
+// Whether a server is as another. It is dropped here, so that no second server is alive while the desk is closed.
+fn is_same(server: Server, other: &Server) -> bool
+    ensures { IsTrue result ↔ (server.entry ≡ other.now) }
+{
+    server.same(other)
 }
 
 /// A lock over a server that is moved in, and its passes.

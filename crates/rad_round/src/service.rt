@@ -1,5 +1,5 @@
 //! The service: a server that answers rounds of datagrams.
-ghost use Rattle.std.specs.Prelude.{◌≡◌, ◌≢◌, ◌≤◌, length, Err, IfErr, IfOk, IfSome, OnErr};
+ghost use Rattle.std.specs.Prelude.{◌≡◌, ◌≢◌, ◌≤◌, length, Err, IfErr, IfOk, IfSome, None, OnErr};
 ghost use Rattle.rad_desk.specs.declared.mismatch.Mismatch.{Mismatch};
 ghost use Rattle.rad_server.specs.Repeats.{Repeat};
 ghost use Rattle.rad_server.specs.Runs.{IsHistory, IsLawfulThroughout};
@@ -176,10 +176,7 @@ impl<'c> Service<'c> {
         ensures unchanged { OnErr result (self.new ≡ self.old) }
         ensures fault { IfErr result IsOwnFault }
     {
-        let spare = match self.spare.take() {
-            Some(spare) => spare,
-            None => self.current.copy()?,
-        };
+        let spare = take_spare(&mut self.spare, &self.current)?;
         let server = mem::replace(&mut self.current, spare);
         let (after, done) = run_round(
             rt,
@@ -209,6 +206,21 @@ fn batch_count(arrivals: &[Timed]) -> u64
     ensures { 1 ≤ result }
 {
     (arrivals.len().div_ceil(BATCH) as u64).max(1)
+}
+
+// A server that is as the current one: the spare one if there is one, or a copy.
+fn take_spare<'c>(
+    spare: &mut Option<Server<'c>>,
+    current: &Server<'c>,
+) -> Result<Server<'c>, AllocError>
+    requires { IfSome spare.old (λ server. server ≡ current.now) }
+    ensures taken { IfOk result (λ server. server ≡ current.now) }
+    ensures left { spare.new ≡ None }
+{
+    match spare.take() {
+        Some(spare) => Ok(spare),
+        None => current.copy(),
+    }
 }
 
 // A server after the exchanges that led to `leader`; none if memory is refused.

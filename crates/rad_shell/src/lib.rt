@@ -1,10 +1,10 @@
 //! Turns: in each, what has come to ports is answered in a round, and its replies are sent.
 //!
-//! `Turns` are made one after another, each with one round of `rad_round`, and `run_rounds` makes them for one call. Nothing is decided here: answers are `rad_server`'s. The names of
-//! rounds and of the desk are passed on.
+//! `Turns` are made one after another, each with one round of `rad_round`, and `run_rounds` makes them for one call. Nothing is
+//! decided here: answers are `rad_server`'s. The names of rounds and of the desk are passed on.
 //!
-//! Other crates rest on this: however a call of turns ends, a history leads from the server before to the one after, and without a fault
-//! its sums count the entries (`specs/Serving.antt`).
+//! Other crates rest on this: however a call of turns ends, a history leads from the server before to the one after, and without a
+//! fault its sums count the entries (`specs/Serving.antt`).
 #![tactic(auto)]
 
 mod memory_ports;
