@@ -28,7 +28,9 @@ enum {
     FRAME = 4096,
     ROUND = 512,    // the most datagrams that are received before replies are sent
     WARM = 1000,
-    MOST = 200000,
+    COUNT = 200000, // the requests of a measurement
+    IDS = 256,      // the Identifiers
+    PORTS = 15,     // the most from which sessions are asked for
 };
 
 #define SECRET "xyzzy5461"
@@ -44,7 +46,7 @@ struct slot {
 
 static struct slot slots[SLOTS];
 static int sockets[SOCKETS];
-static double times[MOST];
+static double times[COUNT];
 
 static void digest(const uint8_t *octets, size_t len, uint8_t *out) {
     MD5_CTX context;
@@ -293,43 +295,80 @@ static void wait_for_server(void) {
     end("no server");
 }
 
-// Grants so many sessions.
-static void grant(uint32_t sessions) {
-    int port = connected(AUTH);
-    for (uint32_t number = 0; number < sessions; number++) {
-        uint8_t octets[FRAME];
-        size_t len = access_request((uint8_t)number, number, octets);
-        struct pollfd waiting = {.fd = port, .events = POLLIN};
-        if (send(port, octets, len, 0) < 0 || poll(&waiting, 1, 2000) != 1 || recv(port, octets, FRAME, 0) < HEADER || octets[0] != 2) {
-            end("a session isn't granted");
-        }
+// What a server remembers before it is measured.
+struct state {
+    uint32_t sessions;
+    uint32_t ports;     // from which these were asked for, with each Identifier in turn
+    unsigned window;    // seconds for which a reply is kept
+};
+
+// A reply is kept for a second, so few are kept.
+static const struct state few = {16, 1, 1};
+
+// With the load's 256 Accounting-Requests as many replies are kept as may be, and none goes while the server is measured.
+static const struct state full = {4096, PORTS, 600};
+
+static void grant_one(int port, uint8_t id, uint32_t number) {
+    uint8_t octets[FRAME];
+    size_t len = access_request(id, number, octets);
+    struct pollfd waiting = {.fd = port, .events = POLLIN};
+    if (send(port, octets, len, 0) < 0 || poll(&waiting, 1, 2000) != 1 || recv(port, octets, FRAME, 0) < HEADER || octets[0] != 2) {
+        end("a session isn't granted");
     }
-    close(port);
+}
+
+static void grant(const struct state *state) {
+    int ports[PORTS];
+    for (uint32_t at = 0; at < state->ports; at++) {
+        ports[at] = connected(AUTH);
+    }
+    for (uint32_t number = 0; number < state->sessions; number++) {
+        grant_one(ports[number / IDS % state->ports], (uint8_t)(number % IDS), number);
+    }
+    for (uint32_t at = 0; at < state->ports; at++) {
+        close(ports[at]);
+    }
+}
+
+static void write_configuration(unsigned window) {
+    char text[300];
+    int len = snprintf(text, sizeof text,
+                       "window = %u\nhold = 86400\n[[client]]\naddress = \"127.0.0.1\"\nsecret = \"" SECRET "\"\n"
+                       "[[user]]\nname = \"nemo\"\npassword = \"arctangent\"\nsessions = 4096\n",
+                       window);
+    if (len < 0 || (size_t)len >= sizeof text) {
+        end("the configuration is too long");
+    }
+    write_file("toml", text, (size_t)len);
 }
 
 struct figures {
     double one_p50, one_p99, a_second, p50, p99, processor, most_a_second;
 };
 
-static struct figures measure(const char *radpool, uint32_t sessions, int count) {
+// The figures of a server that begins in a state; without a path of one, those of the responder.
+static struct figures measure(const char *radpool, const struct state *state) {
     struct figures found;
+    write_configuration(state->window);
     pid_t server = begin_server(radpool);
     wait_for_server();
-    grant(sessions);
+    if (radpool) {
+        grant(state);
+    }
     load(WARM, SLOTS);
-    load(count / 4, 1);
-    found.one_p50 = within(count / 4, 500);
-    found.one_p99 = within(count / 4, 990);
+    load(COUNT / 4, 1);
+    found.one_p50 = within(COUNT / 4, 500);
+    found.one_p99 = within(COUNT / 4, 990);
     clockid_t clock;
     if (clock_getcpuclockid(server, &clock) != 0) {
         end("no clock");
     }
     double processor = nanoseconds(clock);
-    found.a_second = count / load(count, SOME) * 1e9;
-    found.processor = (nanoseconds(clock) - processor) / count / 1e3;
-    found.p50 = within(count, 500);
-    found.p99 = within(count, 990);
-    found.most_a_second = count / load(count, SLOTS) * 1e9;
+    found.a_second = COUNT / load(COUNT, SOME) * 1e9;
+    found.processor = (nanoseconds(clock) - processor) / COUNT / 1e3;
+    found.p50 = within(COUNT, 500);
+    found.p99 = within(COUNT, 990);
+    found.most_a_second = COUNT / load(COUNT, SLOTS) * 1e9;
     kill(server, SIGTERM);
     waitpid(server, NULL, 0);
     return found;
@@ -342,26 +381,27 @@ static void print_row(const char *name, uint32_t sessions, struct figures f, str
     fflush(stdout);
 }
 
-static void print_rows(const char *radpool, uint32_t sessions, int count) {
-    struct figures null = measure(NULL, 0, MOST);
+// The rows of a responder and of a server that begins in a state. Returns the server's figures.
+static struct figures print_rows(const char *radpool, const struct state *state) {
+    struct figures null = measure(NULL, state), found = measure(radpool, state);
     print_row("responder", 0, null, null);
-    print_row("radpool", sessions, measure(radpool, sessions, count), null);
+    print_row("radpool", state->sessions, found, null);
+    return found;
 }
 
 int main(int argc, char **argv) {
-    static const char configuration[] = "window = 1\nhold = 86400\n[[client]]\naddress = \"127.0.0.1\"\nsecret = \"" SECRET "\"\n"
-                                        "[[user]]\nname = \"nemo\"\npassword = \"arctangent\"\nsessions = 4096\n";
     if (argc != 3) {
         end("usage: serve RADPOOL FOLDER");
     }
     alarm(300);
     folder = argv[2];
-    write_file("toml", configuration, sizeof configuration - 1);
-    write_file("seed", configuration, 32);
+    write_file("seed", "for trials alone: no draw is used", 32);
     fill_slots();
     puts("| server | sessions | one at a time: p50 µs | p99 µs | 128 at a time: requests/s | p50 µs | p99 µs | CPU µs a request "
          "| 512 at a time: requests/s | to the responder's: p50 of one | requests/s of 128 | of 512 |");
     puts("|---|---|---|---|---|---|---|---|---|---|---|---|");
-    print_rows(argv[1], 16, MOST);
-    print_rows(argv[1], 4096, MOST / 20);
+    struct figures small = print_rows(argv[1], &few), large = print_rows(argv[1], &full);
+    printf("with full tables radpool answers %.2f of the requests a second that it answers with 16 sessions, 128 at a time, "
+           "and %.2f with 512 at a time\n",
+           large.a_second / small.a_second, large.most_a_second / small.most_a_second);
 }

@@ -1,77 +1,113 @@
-// Nanoseconds a step of the server takes by the sessions in its table.
+// Nanoseconds a step of the server takes by the rows of its tables.
 #include "bench.h"
 #include <stdint.h>
 #include <stdio.h>
 
-enum { KINDS = 6, SIZES = 3, PASSES = 10 };
+enum { KINDS = 11, SIZES = 3, PASSES = 10, COPIES_MAX = 400, LIFE = 512 };
 
-// Of crates/bench_c. Takes so many steps with a request of a kind on each of so many copies of a server with so many
-// sessions, and returns how many replies were as wanted.
-size_t radpool_step(uint32_t kind, uint32_t sessions, uint32_t copies, uint32_t steps);
+// What is measured, and the tables of the server before it.
+struct work {
+    uint32_t kind;
+    size_t rows, challenges, plain;
+    uint64_t gap;
+    size_t steps;
+};
 
-// What is measured, in the order of crates/bench_c. Only an Accept adds a session, so it is measured as the second step on
-// each of many copies: the first brings the table to its size, and makes room. Of the others many steps are taken on one copy. A
-// step that is no repeat finds one kept reply, which is no longer live. Challenges wait: there are 500 on an average.
-enum { ACCEPT };
-static const struct { const char *name; uint32_t sessions[SIZES]; } rows[KINDS] = {
-    {"Access-Request, accepted", {1, 256, 4095}},
-    {"Access-Request, rejected", {0, 256, 4096}},
-    {"Accounting-Request, Start", {0, 256, 4096}},
-    {"Status-Server", {0, 256, 4096}},
-    {"Access-Request, repeated", {0, 256, 4096}},
-    {"Access-Request, challenged", {0, 256, 4096}}};
+// Of crates/bench_c. Fills the tables of a server, takes steps on each of so many copies of it, and puts down the nanoseconds of those
+// after the first. Returns how many replies were as wanted.
+size_t radpool_step(const char *text, size_t text_len, const struct work *work, uint64_t *times, size_t copies);
 
-// It takes long to grant many sessions, so it is done less often, for more steps.
-static const struct { int tries; uint32_t copies, steps; } sizes[SIZES] = {
-    {50, 100, 1000}, {20, 100, 1000}, {12, 500, 1000}};
+// The kinds of crates/bench_c, in its order.
+enum { ACCEPT, POOLED, NO_ADDRESS, REJECT, START, STOP, STATUS, REPEAT, CHALLENGE, ANSWER };
 
-// The best times of a cell of the table: of tries of one step on each copy, and of those with the steps that are measured.
-static struct cell { double first, whole; } cells[KINDS][SIZES];
+// What the pool is like at each step.
+enum pool { FREE, ONE_LEFT, NONE_LEFT };
 
-static void keep_best(uint32_t kind, uint32_t sessions, uint32_t copies, uint32_t steps, double *best) {
-    double start = processor_time();
-    if (radpool_step(kind, sessions, copies, steps) != (size_t)copies * steps) end("A reply is missing.");
-    double spent = processor_time() - start;
-    if (spent < *best) *best = spent;
+// Before the steps each table is full: so many sessions, as many kept replies, and as many challenges or as may wait. A row lives for
+// LIFE seconds. Rows came one after the other, LIFE seconds divided by their number apart, and steps go on so. So at each step the oldest
+// row of each table is no longer live. The new reply has the key of the kept one that goes, and those of all other keys are live: 4,095
+// where the tables are full. An accepted request adds a session, and a challenged one a challenge; what isn't added gets fewer by one.
+// Starts, Stops and answers mean another session or challenge at each step, the youngest first. The repeated request is the last one
+// before the steps.
+static const struct { const char *name; uint32_t kind; enum pool pool; } kinds[KINDS] = {
+    {"Access-Request, accepted, no pool", ACCEPT, FREE},
+    {"Access-Request, accepted, pool free", POOLED, FREE},
+    {"Access-Request, accepted, one address left", POOLED, ONE_LEFT},
+    {"Access-Request, rejected, no address left", NO_ADDRESS, NONE_LEFT},
+    {"Access-Request, rejected, wrong password", REJECT, FREE},
+    {"Accounting-Request, Start", START, FREE},
+    {"Accounting-Request, Stop", STOP, FREE},
+    {"Status-Server", STATUS, FREE},
+    {"Access-Request, repeated", REPEAT, FREE},
+    {"Access-Request, challenged", CHALLENGE, FREE},
+    {"Access-Request, challenge answered", ANSWER, FREE}};
+
+// There are few steps on each copy, so that tables stay about as full: what gets fewer loses half of 16 rows, a 16th of 256 and a 32nd
+// of 4,096, of whose challenges an eighth. Where challenges are answered, twice as many of them go. 16 rows are a quarter of a block of
+// rad_rows, 256 are four blocks.
+static const struct { uint32_t rows, challenges, steps, copies; } sizes[SIZES] = {
+    {16, 16, 8, 400}, {256, 256, 16, 200}, {4096, 1024, 128, 50}};
+
+// The best times of a copy.
+static double cells[KINDS][SIZES];
+
+// How many sessions have no address: all, none, or those that go at the steps, so that none of the others gives its address back.
+static uint32_t plain_of(enum pool pool, int size) {
+    return pool == FREE ? sizes[size].rows : pool == ONE_LEFT ? 0 : sizes[size].steps;
 }
 
-static uint32_t copies_of(uint32_t kind, int size) {
-    return kind == ACCEPT ? sizes[size].copies : 1;
+// A free pool has 4,096 addresses, another as many as sessions have.
+static size_t lay_out(enum pool pool, int size, char *text, size_t room) {
+    uint32_t last = (pool == FREE ? 4096 : sizes[size].rows - plain_of(pool, size)) - 1;
+    int len = snprintf(text, room,
+                       "window = %d\nhold = %d\n[[client]]\naddress = \"192.168.1.16\"\nsecret = \"xyzzy5461\"\n"
+                       "[[pool]]\nname = \"hall\"\nfirst = \"10.0.0.0\"\nlast = \"10.0.%u.%u\"\n"
+                       "[[user]]\nname = \"plain\"\npassword = \"a good password\"\nsessions = 4096\n"
+                       "service = 2\nprotocol = 1\ntimeout = 3600\n"
+                       "[[user]]\nname = \"pooled\"\npassword = \"a good password\"\nsessions = 4096\npool = \"hall\"\n"
+                       "service = 2\nprotocol = 1\ntimeout = 3600\n"
+                       "[[user]]\nname = \"asked\"\npassword = \"a good password\"\nsessions = 4096\n"
+                       "challenge = \"And?\"\nanswer = \"an answer\"\n",
+                       LIFE, LIFE, last / 256, last % 256);
+    if (len < 0 || (size_t)len >= room) end("The configuration is too long.");
+    return (size_t)len;
 }
 
-static uint32_t steps_of(uint32_t kind, int size) {
-    return kind == ACCEPT ? 1 : sizes[size].steps;
+static void measure(int kind, int size) {
+    static char text[2048];
+    static uint64_t times[COPIES_MAX];
+    uint32_t copies = sizes[size].copies;
+    struct work work = {.kind = kinds[kind].kind,
+                        .rows = sizes[size].rows,
+                        .challenges = sizes[size].challenges,
+                        .plain = plain_of(kinds[kind].pool, size),
+                        .gap = LIFE * 1000 / sizes[size].rows,
+                        .steps = sizes[size].steps};
+    size_t len = lay_out(kinds[kind].pool, size, text, sizeof text);
+    if (radpool_step(text, len, &work, times, copies) != (size_t)copies * sizes[size].steps) end("A reply is missing.");
+    for (uint32_t k = 0; k < copies; k++)
+        if ((double)times[k] < cells[kind][size]) cells[kind][size] = (double)times[k];
 }
 
-static void measure(uint32_t kind, int size) {
-    uint32_t granted = rows[kind].sessions[size] - (kind == ACCEPT), copies = copies_of(kind, size);
-    for (int k = 0; k < sizes[size].tries; k++) {
-        keep_best(kind, granted, copies, 1, &cells[kind][size].first);
-        keep_best(kind, granted, copies, 1 + steps_of(kind, size), &cells[kind][size].whole);
-    }
+// The time of reading the clock once is taken off.
+static double step_time(int kind, int size, double clock) {
+    return (cells[kind][size] - clock) / (sizes[size].steps - 1);
 }
 
-// A try of one step on each copy makes the server and the copies as the others do, and its time is taken off.
-static double step_time(uint32_t kind, int size) {
-    return (cells[kind][size].whole - cells[kind][size].first) / copies_of(kind, size) / steps_of(kind, size);
-}
-
-static void print_row(uint32_t kind, int size) {
-    double ns = step_time(kind, size);
-    printf("| %s | %u | %.1f | %.0f |", rows[kind].name, rows[kind].sessions[size], ns, 1e9 / ns);
-    if (size == 0) puts(" |");
-    else printf(" %.2f |\n", (ns - step_time(kind, 0)) / (rows[kind].sessions[size] - rows[kind].sessions[0]));
+static void print_row(int kind, double clock) {
+    double least = step_time(kind, 0, clock), some = step_time(kind, 1, clock), full = step_time(kind, 2, clock);
+    printf("| %s | %.0f | %.0f | %.0f | %.2f | %.2f |\n", kinds[kind].name, least, some, full, full / least, full / some);
 }
 
 // The rows take turns, so that what else the machine does for a while disturbs none of them alone.
 int main(void) {
-    for (uint32_t kind = 0; kind < KINDS; kind++)
-        for (int size = 0; size < SIZES; size++) cells[kind][size] = (struct cell){1e18, 1e18};
+    for (int kind = 0; kind < KINDS; kind++)
+        for (int size = 0; size < SIZES; size++) cells[kind][size] = 1e18;
     for (int pass = 0; pass < PASSES; pass++)
-        for (uint32_t kind = 0; kind < KINDS; kind++)
+        for (int kind = 0; kind < KINDS; kind++)
             for (int size = 0; size < SIZES; size++) measure(kind, size);
-    puts("| request | sessions | ns | a second | ns more a session |\n|---|---|---|---|---|");
-    for (uint32_t kind = 0; kind < KINDS; kind++)
-        for (int size = 0; size < SIZES; size++) print_row(kind, size);
+    double clock = clock_time();
+    puts("| request | 16 rows ns | 256 rows ns | full ns | full/16 | full/256 |\n|---|---|---|---|---|---|");
+    for (int kind = 0; kind < KINDS; kind++) print_row(kind, clock);
     return 0;
 }

@@ -2,8 +2,10 @@
 #![tactic(auto)]
 
 mod admission;
+mod clock;
 mod config;
 mod digests;
 mod passwords;
 mod plain;
+mod rows;
 mod step;

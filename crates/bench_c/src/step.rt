@@ -1,150 +1,125 @@
 //! Steps of the server: `bench/step.c`.
 //!
-//! The export opens a server, grants it sessions, and takes steps with one admitted request on copies of it. A reply is kept for a
-//! second, which passes between two steps, so that each is answered afresh, but for those that measure repeats. No session expires
-//! within a day. It returns how many replies had the wanted Code; 0 without memory.
-ghost use Rattle.std.specs.Prelude.{◌≡◌, IfSome};
+//! The export opens a server with the configuration that it is given, fills its tables, and takes steps on copies of it. Rows come one
+//! after the other, the same time apart, and so do steps: at each step the oldest row of each table is no longer live. It puts down
+//! how many nanoseconds the steps on each copy took, without the first, which may make room that the others find. It returns how many
+//! replies had the wanted Code; 0 without memory, or if the tables can't be filled.
+ghost use Rattle.std.specs.Prelude.{◌≡◌, All};
 ghost use Rattle.rad_auth.specs.Admission.{IsAdmitted};
 
+mod datagrams;
+mod filling;
 mod requests;
+mod work;
 
-use crate::step::requests::{AUTHENTICATOR, CLIENT, Kind, request};
-use rad_auth::{Arrival, Clients, Request, check8, sign_request};
+use crate::clock;
+use crate::step::datagrams::{admit_each, datagrams};
+use crate::step::filling::full_server;
+use crate::step::requests::Kind;
+use crate::step::work::{DRAW, Work};
+use rad_auth::Request;
 use rad_config::Config;
-use rad_packet::Frame;
-use rad_server::{Answer, Server};
+use rad_packet::Octets;
+use rad_server::Server;
 use std::alloc::Global;
-
-// One client, a user who may have as many sessions as there may be, and one who is challenged.
-const CONFIGURATION: &str =
-    "window = 1\nhold = 86400\n[[client]]\naddress = \"192.168.1.16\"\nsecret = \"xyzzy5461\"\n\
-    [[user]]\nname = \"many\"\npassword = \"a good password\"\nsessions = 4096\n\
-    service = 2\nprotocol = 1\ntimeout = 3600\n\
-    [[user]]\nname = \"asked\"\npassword = \"a good password\"\nchallenge = \"And?\"\nanswer = \"So\"\n";
-
-// Steps with requests of a kind, on copies of a server that has so many sessions.
-#[derive(Clone, Copy)]
-struct Work {
-    kind: Kind,
-    sessions: u32,
-    copies: u32,
-    steps: u32,
-}
+use std::str;
 
 // What is alive at a `?` is dropped there, and each such drop is proved: so a function of its own makes each big value.
-fn read_and_step(alloc: Global, work: Work) -> Option<usize> {
-    let config = Config::read(alloc, CONFIGURATION).ok()?;
-    open_and_step(alloc, &config, work)
+fn read_and_step(alloc: Global, text: &[u8], work: Work, times: &mut [u64]) -> Option<usize> {
+    let text = str::from_utf8(text).ok()?;
+    let config = Config::read(alloc, text).ok()?;
+    open_and_step(alloc, &config, work, times)
 }
 
-fn open_and_step(alloc: Global, config: &Config, work: Work) -> Option<usize> {
-    let server = server_with(alloc, config, work.sessions)?;
-    step_on_copies(alloc, &server, work)
+fn open_and_step(alloc: Global, config: &Config, work: Work, times: &mut [u64]) -> Option<usize> {
+    let server = full_server(alloc, config, work)?;
+    sign_and_step(alloc, &server, work, times)
 }
 
-fn step_on_copies(alloc: Global, server: &Server, work: Work) -> Option<usize> {
-    let clients = server.config().clients();
-    let datagram = datagram(alloc, clients, work.kind, work.sessions)?;
-    let request = admit(clients, work.kind, datagram.octets())?;
+fn sign_and_step(alloc: Global, server: &Server, work: Work, times: &mut [u64]) -> Option<usize> {
+    let datagrams = datagrams(alloc, server.config().clients(), work)?;
+    admit_and_step(alloc, server, &datagrams, work, times)
+}
+
+fn admit_and_step(
+    alloc: Global,
+    server: &Server,
+    datagrams: &[Octets],
+    work: Work,
+    times: &mut [u64],
+) -> Option<usize> {
+    let requests = admit_each(alloc, server.config().clients(), datagrams, work)?;
+    step_on_copies(server, &requests, work, times)
+}
+
+fn step_on_copies(
+    server: &Server,
+    requests: &[Request],
+    work: Work,
+    times: &mut [u64],
+) -> Option<usize>
+    requires { All (IsAdmitted server.now.configuration.clients) requests.now }
+{
     let mut replies: usize = 0;
-    for _ in 0..work.copies {
-        replies = replies.wrapping_add(step_on_copy(server, &request, work)?);
+    for time in times.iter_mut() {
+        replies = replies.wrapping_add(step_on_copy(server, requests, work, time)?);
     }
     Some(replies)
 }
 
-fn step_on_copy(server: &Server, request: &Request, work: Work) -> Option<usize>
-    requires { IsAdmitted server.now.configuration.clients request.now }
+fn step_on_copy(server: &Server, requests: &[Request], work: Work, time: &mut u64) -> Option<usize>
+    requires { All (IsAdmitted server.now.configuration.clients) requests.now }
 {
     let mut copy = server.copy().ok()?;
-    take_steps(&mut copy, request, work.kind, work.sessions, work.steps)
+    time_steps(&mut copy, requests, work, time)
 }
 
-// A server that has so many sessions, all Pending.
-fn server_with<'c>(alloc: Global, config: &'c Config, sessions: u32) -> Option<Server<'c>>
-    ensures { IfSome result (λ server. server.configuration ≡ config.now) }
+// Takes the first step, and then the others, which are timed.
+fn time_steps(
+    server: &mut Server,
+    requests: &[Request],
+    work: Work,
+    time: &mut u64,
+) -> Option<usize>
+    requires { All (IsAdmitted server.old.configuration.clients) requests.now }
 {
-    let datagram = datagram(alloc, config.clients(), Kind::Accept, 0)?;
-    let request = admit(config.clients(), Kind::Accept, datagram.octets())?;
-    let mut server = Server::open(alloc, config).ok()?;
-    let granted = take_steps(&mut server, &request, Kind::Accept, 0, sessions);
-    if granted == Some(sessions as usize) {
-        Some(server)
-    } else {
-        None
-    }
+    let first = take_steps(server, requests, work, 0, 1)?;
+    let start = clock::now();
+    let others = take_steps(server, requests, work, 1, requests.len())?;
+    *time = clock::now().wrapping_sub(start);
+    Some(first.wrapping_add(others))
 }
 
-// Takes steps with one request, after so many others, and returns how many replies were as wanted.
+// Takes the steps from a place up to another, and returns how many replies were as wanted.
 fn take_steps(
     server: &mut Server,
-    request: &Request,
-    kind: Kind,
-    first: u32,
-    steps: u32,
+    requests: &[Request],
+    work: Work,
+    from: usize,
+    to: usize,
 ) -> Option<usize>
-    requires { IsAdmitted server.old.configuration.clients request.now }
+    requires { All (IsAdmitted server.old.configuration.clients) requests.now }
     ensures { server.new.configuration ≡ server.old.configuration }
 {
+    let kind = Kind::of(work.kind);
     let mut replies: usize = 0;
-    'steps: for step in 0..steps {
-        let answer = server
-            .step(request, kind.moment(first, step), &[0; 16])
-            .ok()?;
-        if is_wanted(&answer, kind) {
+    'steps: for step in from..to.min(requests.len()) {
+        let moment = work.moment_of_step(step);
+        let answer = server.step(&requests[step], moment, &DRAW).ok()?;
+        if kind.is_wanted(&answer) {
             replies = replies.wrapping_add(1);
         }
     }
     Some(replies)
 }
 
-fn is_wanted(answer: &Answer, kind: Kind) -> bool {
-    match answer {
-        Answer::Send(body) => body.code() == kind.reply_code(),
-        Answer::Busy => false,
-    }
-}
-
-// The request of a kind, signed.
-fn datagram(alloc: Global, clients: &Clients, kind: Kind, sessions: u32) -> Option<Frame> {
-    let secret = clients.secret(clients.find(CLIENT)?);
-    let body = request(alloc, kind, secret, sessions).ok()?;
-    let mut frame = Frame::new(alloc).ok()?;
-    sign_request(&body, 0, &AUTHENTICATOR, secret, &mut frame).ok()?;
-    Some(frame)
-}
-
-fn admit<'a>(clients: &Clients, kind: Kind, octets: &'a [u8]) -> Option<Request<'a>>
-    ensures { IfSome result (IsAdmitted clients.now) }
-{
-    let arrival = Arrival {
-        source: CLIENT,
-        port: 1024,
-        door: kind.door(),
-        octets,
-    };
-    let arrivals = [Some(arrival), None, None, None, None, None, None, None];
-    let mut verdicts = check8(clients, &arrivals).into_iter();
-    match verdicts.next() {
-        Some(Some(Ok(request))) => Some(request),
-        _ => None,
-    }
-}
-
-/// So many steps on each of so many copies of a server with so many sessions.
+/// Takes the steps on as many copies as there are times, and puts down the nanoseconds of each copy.
 #[unsafe(no_mangle)]
 pub extern "C" fn radpool_step(
     alloc: Global,
-    kind: u32,
-    sessions: u32,
-    copies: u32,
-    steps: u32,
+    text: &[u8],
+    work: &Work,
+    times: &mut [u64],
 ) -> usize {
-    let work = Work {
-        kind: Kind::of(kind),
-        sessions,
-        copies,
-        steps,
-    };
-    read_and_step(alloc, work).unwrap_or(0)
+    read_and_step(alloc, text, *work, times).unwrap_or(0)
 }
