@@ -328,9 +328,18 @@ fn fails<R: Threads + Wait + Sync>(
     let made = made(row);
     have_come
         && ends(&ports, ended, row)
-        && service.server().recent().rows().count() == made
+        && keeps(service, made)
         && is_after(random, made)
         && goes_on(rt, alloc, service, &mut ports, row)
+}
+
+// Whether so many replies are kept.
+fn keeps(service: &Service, count: usize) -> bool {
+    let mut kept: usize = 0;
+    for _reply in service.server().recent().rows() {
+        kept = kept.wrapping_add(1);
+    }
+    kept == count
 }
 
 // Whether a second call, in which one more request comes, leads to the server of one call without a fault, of those datagrams that the
