@@ -1,6 +1,5 @@
-use Rattle.std.proofs.Common.{zero, suc, true, false, cond, remove, subst, sym, Result, Ok, Err, OnOk, ◌≡◌, ℕ, ◌+◌, ◌≤◌, ◌<◌, List, [], ◌∷◌, ◌++◌, Bool, arith, refl, ap, ◌∙◌, filter, take, get_or, length, set, ltb}
+use Rattle.std.proofs.Common.{zero, suc, true, false, cond, remove, subst, sym, Result, Ok, Err, OnOk, ◌≡◌, ℕ, ◌≤◌, ◌<◌, List, [], ◌∷◌, ◌++◌, Bool, arith, refl, ap, ◌∙◌, filter, get_or, length, set, ltb}
 use Rattle.std.specs.List.{All, FoldsTo}
-use Rattle.std.proofs.lemmas.List.{take_more, take_all}
 use Rattle.std.proofs.lemmas.List.Sums.{length-filter, count_by-le-length}
 use Rattle.std.proofs.lemmas.List.Elements.{All-weaker, All-head, All-tail, All-push, All-set}
 use Rattle.std.proofs.lemmas.Bool.{lt-ltb}
@@ -32,15 +31,9 @@ module _ {T S : Type 0} (live : S → ℕ → T → Bool) (spans : S) where
   lives_more bound last early rows row le le' h k =
       All-push (LivesUntil live spans early) rows row (all_lives_less bound early rows le h) (lives_less last early row le' k)
 
-  pub rows_more : (bound last early : ℕ) (xs : List T) (i : ℕ) (d : T) → i < length xs → early ≤ bound → early ≤ last → All (LivesUntil live spans bound) (take i xs) → LivesUntil live spans last (get_or xs i d) → All (LivesUntil live spans early) (take (i + 1) xs)
-  rows_more bound last early xs i d lt le le' h k = rw (take_more xs i d lt) (lives_more bound last early (take i xs) (get_or xs i d) le le' h k)
-
   -- a row in the place of another, and an earlier moment
   pub lives_set : (bound early : ℕ) (xs : List T) (i : ℕ) (row : T) → early ≤ bound → All (LivesUntil live spans bound) xs → LivesUntil live spans early row → All (LivesUntil live spans early) (set xs i row)
   lives_set bound early xs i row le h k = All-set (LivesUntil live spans early) xs i row k (all_lives_less bound early xs le h)
-
-pub all_at_end : {X : Type 0} (P : X → Type 0) (xs : List X) (i : ℕ) → length xs ≤ i → All P (take i xs) → All P xs
-all_at_end P xs i le h = rw (take_all i xs le) at h
 
 pub same_rows : {T S : Type 0} (block : SeenBlock T S) (xs : List T) → xs ≡ block.rows → block ≡ with_rows block xs
 same_rows block xs e = rw e refl

@@ -104,6 +104,11 @@ module _ {T S : Type 0} where
   get_set P (e ∷ es) (suc i) zero w d new h = h
   get_set P (e ∷ es) (suc i) (suc place) w d new h = get_set P es i place w d (λ is. new (ap suc is)) h
 
+  get_new : (P : ℕ × SeenBlock T S → Type 0) (es : List (ℕ × SeenBlock T S)) (i : ℕ) (w : SeenBlock T S) (d : ℕ × SeenBlock T S) → i < length es → ((key : ℕ) → P (key, w)) → P (get_or (set_value_at es i w) i d)
+  get_new P [] i w d lt new = absurd (omega (arith, lt))
+  get_new P (e ∷ es) zero w d lt new = new e.0
+  get_new P (e ∷ es) (suc i) w d lt new = get_new P es i w d (omega (arith, lt)) new
+
   pub set_length : (es : List (ℕ × SeenBlock T S)) (i : ℕ) (w : SeenBlock T S) → length (set_value_at es i w) ≡ length es
   set_length [] i w = refl
   set_length (e ∷ es) zero w = refl
@@ -285,16 +290,20 @@ module _ {T S : Type 0} where
     pub front_all : (bound n : ℕ) (es : List (ℕ × SeenBlock T S)) → length es ≤ n → BlocksLive live bound 0 n es → All (EntryLives live bound) es
     front_all bound n es le h = λ place d lt. h.lives place d (omega arith) (omega (arith, lt, le)) lt
 
-    -- one block more of those whose bound is sought
-    pub group_more : (bound last early k i : ℕ) (es : List (ℕ × SeenBlock T S)) (v : SeenBlock T S) → early ≤ bound → early ≤ last → slice_get (values_of es) (k + i) ≡ Some v → BlockLives live last v → BlocksLive live bound k (k + i) es → BlocksLive live early k (k + (i + 1)) es
-    group_more bound last early k i es v le le' at b h = record {
-      lives = λ place d low high lt. elim (cases_lt place (k + i)) [
-        | inl less ↦ entry_lives_less live bound early (get_or es place d) le (h.lives place d low less lt)
-        | inr ge ↦
-            let is : place ≡ k + i = omega (arith, ge, high) in
-            let value : (get_or es place d).1 ≡ v = (get_value es place v d (ap (slice_get (values_of es)) is ∙ at)).1 in
-            entry_lives_less live last early (get_or es place d) le' (record { block = subst (BlockLives live last) (sym value) b })
-      ];
+    -- one block more of those whose bound is sought, where it becomes another
+    pub group_more : (bound last early k i m : ℕ) (es : List (ℕ × SeenBlock T S)) (w : SeenBlock T S) → m ≡ k + i → early ≤ bound → early ≤ last → BlockLives live last w → BlocksLive live bound k (k + i) es
+        → BlocksLive live early k (k + (i + 1)) (set_value_at es m w)
+    group_more bound last early k i m es w is le le' b h = record {
+      lives = λ place d low high lt.
+          let within : place < length es = omega (arith, lt, set_length es m w) in
+          elim (cases_lt place (k + i)) [
+            | inl less ↦ get_set (EntryLives live early) es m place w d (λ e key. absurd (omega (arith, e, less, is)))
+                (entry_lives_less live bound early (get_or es place d) le (h.lives place d low less within))
+            | inr ge ↦
+                let here : m ≡ place = omega (arith, ge, high, is) in
+                subst (λ n. EntryLives live early (get_or (set_value_at es n w) place d)) (sym here)
+                (get_new (EntryLives live early) es place w d within (λ key. entry_lives_less live last early (key, w) le' (record { block = b })))
+          ];
     }
 
     pub group_end : (bound k i n : ℕ) (es : List (ℕ × SeenBlock T S)) → length es ≤ k + i → BlocksLive live bound k (k + i) es → BlocksLive live bound k (k + n) es

@@ -5,3 +5,4 @@ pub mod LastLemmas
 pub mod RowsLemmas
 pub mod OrderLemmas
 pub mod GroupLemmas
+pub mod SweepLemmas

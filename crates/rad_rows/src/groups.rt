@@ -156,12 +156,11 @@ fn sweep_group<T: Row<S>, S: Copy, G: Tally<T>>(
     if now < before.bound {
         return before;
     }
-    let count = sweep_blocks(blocks, spans, tally, now, group, before.count);
-    let bound = group_bound(blocks, group);
-    Swept { count, bound }
+    sweep_blocks(blocks, spans, tally, now, group, before.count)
 }
 
-// Removes the rows of a group that aren't live at a moment, of `count` rows of all blocks, and returns how many of these are left.
+// Removes the rows of a group that aren't live at a moment, of `count` rows of all blocks. The result has how many of these are left,
+// and a bound of the group.
 fn sweep_blocks<T: Row<S>, S: Copy, G: Tally<T>>(
     blocks: &mut IndexMap<u64, Block<T, S>>,
     spans: &S,
@@ -169,7 +168,7 @@ fn sweep_blocks<T: Row<S>, S: Copy, G: Tally<T>>(
     now: u64,
     group: usize,
     count: usize,
-) -> usize
+) -> Swept
     requires now { now ≤ moment_max }
     requires within { 64 * group < length blocks.old.entries }
     requires spans { All (HasSpans spans.now) blocks.old.entries }
@@ -178,31 +177,21 @@ fn sweep_blocks<T: Row<S>, S: Copy, G: Tally<T>>(
         ≡ on_some (cut_block T.is_live now) (64 * group) 64 blocks.old.entries }
     ensures told { TellsOn G.told T.is_live spans.now now
         (64 * group) (64 * group + 64) blocks.old.entries tally.old tally.new }
-    ensures count { result ≡ length (all_rows blocks.new.entries) }
+    ensures count { result.count ≡ length (all_rows blocks.new.entries) }
+    ensures lives { BlocksLive T.is_live result.bound
+        (64 * group) (64 * group + 64) blocks.new.entries }
 {
     let len = blocks.len();
     let from = group * GROUP;
     let mut count = count;
+    let mut bound: u64 = u64::MAX;
     for step in 0..GROUP.min(len - from) {
         let block = &mut blocks[from + step];
         let before = block.len();
         block.sweep(tally, now);
         let after = block.len();
         count -= before - after;
+        bound = bound.min(block.bound());
     }
-    count
-}
-
-// The least bound of the blocks of a group.
-fn group_bound<T: Row<S>, S: Copy>(blocks: &IndexMap<u64, Block<T, S>>, group: usize) -> u64
-    requires { 64 * group < length blocks.now.entries }
-    ensures { BlocksLive T.is_live result (64 * group) (64 * group + 64) blocks.now.entries }
-{
-    let len = blocks.len();
-    let from = group * GROUP;
-    let mut bound: u64 = u64::MAX;
-    for step in 0..GROUP.min(len - from) {
-        bound = bound.min(blocks[from + step].bound());
-    }
-    bound
+    Swept { count, bound }
 }

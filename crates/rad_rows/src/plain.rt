@@ -41,9 +41,21 @@ pub(crate) fn sweep<T: Row<S>, S, G: Tally<T>>(
     ensures bound { All (LivesUntil T.is_live spans.now result) rows.new.items }
     ensures capacity { vec_capacity rows.new ≡ vec_capacity rows.old }
 {
-    tell(rows, spans, tally, now);
-    keep_live(rows, spans, now);
-    earliest(rows, spans)
+    let mut bound: u64 = u64::MAX;
+    let mut kept: usize = 0;
+    for at in 0..rows.len() {
+        let row = &rows[at];
+        let ends = row.ends(spans);
+        if now < ends {
+            bound = bound.min(ends);
+            rows.swap(kept, at);
+            kept += 1;
+        } else {
+            tally.leave(row);
+        }
+    }
+    rows.truncate(kept);
+    bound
 }
 
 /// Tells the tally of each row that isn't live at a moment.
@@ -56,31 +68,6 @@ pub(crate) fn tell<T: Row<S>, S, G: Tally<T>>(rows: &[T], spans: &S, tally: &mut
             tally.leave(row);
         }
     }
-}
-
-// Keeps the live rows alone, in their order.
-fn keep_live<T: Row<S>, S>(rows: &mut Vec<T>, spans: &S, now: u64)
-    requires { now ≤ moment_max }
-    ensures items { rows.new.items ≡ filter (T.is_live spans.now now) rows.old.items }
-    ensures len { vec_len rows.new ≤ vec_len rows.old }
-    ensures capacity { vec_capacity rows.new ≡ vec_capacity rows.old }
-{
-    rows.retain(
-        |row|
-            requires { now ≤ moment_max }
-        { is_live(row, spans, now) },
-    );
-}
-
-// The moment at which the first row ends, which is the latest bound of them all.
-fn earliest<T: Row<S>, S>(rows: &[T], spans: &S) -> u64
-    ensures { All (LivesUntil T.is_live spans.now result) rows.now }
-{
-    let mut bound: u64 = u64::MAX;
-    for row in rows {
-        bound = bound.min(row.ends(spans));
-    }
-    bound
 }
 
 /// The row of this number.

@@ -3,10 +3,10 @@ use Rattle.std.specs.Map.{values_of}
 use Rattle.std.proofs.lemmas.Bool.{cases_lt}
 use Rattle.indexmap.specs.IndexMap.{set_value_at}
 use Rattle.rad_rows.specs.Blocks.{cut_block}
-use Rattle.rad_rows.specs.Entries.{HasSpans, all_rows, on_some}
+use Rattle.rad_rows.specs.Entries.{BlocksLive, HasSpans, all_rows, on_some}
 use Rattle.rad_rows.specs.Rows.{Tells}
 use Rattle.rad_rows.proofs.EntryLemmas.{block_holds, count_more, cut_length, length_part, told_step}
-use Rattle.rad_rows.proofs.GroupLemmas.{some_length, some_next, some_none, some_rest, some_step}
+use Rattle.rad_rows.proofs.GroupLemmas.{group_end, group_more, some_length, some_next, some_none, some_rest, some_step}
 use Rattle.rad_rows.proofs.groups.sweep_blocks.Goals as goal
 
 pub overflow_mul-from : goal.overflow_mul-from
@@ -20,6 +20,7 @@ loop-step-init g c =
       entries = sym (some_none (cut_block g.T.Row.is_live c.args.now) es (64 * c.args.group));
       told = λ last h. subst (λ n. Tells g.G.Tally.told g.T.Row.is_live c.args.spans.now c.args.now (all_rows (drop n es)) c.args.tally.now last) none h;
       count = c.requires.count;
+      lives = record { lives = λ place d low high lt. absurd (omega (arith, low, high)) };
     }
 
 pub index_mut-block-requires : goal.index_mut-block-requires
@@ -61,6 +62,7 @@ loop-step-preserved g c =
           (subst (λ n. Tells g.G.Tally.told live c.args.spans.now now (all_rows (drop n es)) c.sweep.new.tally last) next h);
       count = count_more ys m v w c.loop-step.count c.len-before.result c.len-after.result here c.len-before.ensures c.len-after.ensures
           (omega (arith, cut_length live now v w c.sweep.ensures.cut)) c.loop-step.invariant.count;
+      lives = group_more live c.loop-step.bound c.bound.result c.min-bound.result k i m ys w place (omega arith) (omega arith) c.bound.ensures c.loop-step.invariant.lives;
     }
 
 pub returns-clause-entries : goal.returns-clause-entries
@@ -74,4 +76,18 @@ returns-clause-entries g c =
       | inr ge ↦
           let full : c.loop-step.step ≡ 64 = omega (arith, ge, c.loop-step.auto.step-end, c.min-step-end.ensures) in
           ap (λ n. on_some f k n es) full
+    ]
+
+pub returns-clause-lives : goal.returns-clause-lives
+returns-clause-lives g c =
+    let es = c.args.blocks.now.entries in
+    let ys = c.loop-step.blocks.entries in
+    let k : ℕ = 64 * c.args.group in
+    let long : length ys ≡ length es = ap length c.loop-step.invariant.entries ∙ some_length (cut_block g.T.Row.is_live c.args.now) es k c.loop-step.step in
+    elim (cases_lt c.loop-step.step 64) as (λ _. BlocksLive g.T.Row.is_live c.loop-step.bound k (k + 64) ys) [
+      | inl less ↦ group_end g.T.Row.is_live c.loop-step.bound k c.loop-step.step 64 ys
+          (omega (arith, long, less, c.requires.within, c.len-len.ensures.len, c.loop-step-test.false, c.min-step-end.ensures)) c.loop-step.invariant.lives
+      | inr ge ↦
+          let full : c.loop-step.step ≡ 64 = omega (arith, ge, c.loop-step.auto.step-end, c.min-step-end.ensures) in
+          subst (λ n. BlocksLive g.T.Row.is_live c.loop-step.bound k (k + n) ys) full c.loop-step.invariant.lives
     ]
