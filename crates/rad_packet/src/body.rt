@@ -39,6 +39,17 @@ impl Body {
         }
     }
 
+    /// A body of this Code with no attribute, and with memory for attributes of so many octets.
+    ///
+    /// To push them then takes no more memory, which no clause tells.
+    pub fn with_room(alloc: Global, code: u8, size: usize) -> Result<Body, AllocError>
+        ensures code { IfOk result (λ body. body.code ≡ code) }
+        ensures attributes { IfOk result (λ body. body.attributes ≡ []) }
+    {
+        let octets = Octets::new(Vec::with_capacity(alloc, size)?);
+        Ok(Body { code, octets })
+    }
+
     /// Appends an attribute.
     ///
     /// The Value has at most `VALUE_MAX` octets. Bodies that share their octets with this one don't change. If memory is refused,

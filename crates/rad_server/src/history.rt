@@ -43,7 +43,7 @@ pub fn exchange(
 {
     let octets_copy = octets.copy()?;
     history.reserve(1)?;
-    let (answer, answer_copy) = server.step_with_copy(request, &octets, moment, draw)?;
+    let (answer, answer_copy) = server.step_with_copy(request, Some(&octets), moment, draw)?;
     history.push_reserved(Entry {
         tag,
         source: request.source,

@@ -1,5 +1,5 @@
 //! What a step does is planned before anything changes: planning only reads.
-ghost use Rattle.std.specs.Prelude.{◌≡◌, ◌≤◌, ℕ, IfOk, List, option_copied};
+ghost use Rattle.std.specs.Prelude.{◌≡◌, ◌≤◌, ℕ, IfOk, IfSome, List, option_copied};
 ghost use Rattle.rad_packet.specs.Packets.{packet_octets};
 ghost use Rattle.rad_auth.specs.Admission.{IsAnswerable, proxy_states_max, proxy_states_size};
 ghost use Rattle.rad_auth.specs.Sealing.{IsReply};
@@ -24,7 +24,7 @@ use crate::tables::Tables;
 use rad_auth::{Door, Request};
 use rad_config::Config;
 use rad_packet::code::STATUS_SERVER;
-use rad_packet::{Body, Octets};
+use rad_packet::{Body, Octets, Packet};
 use rad_recent::{Kept, Key, Recent};
 use std::alloc::{AllocError, Global};
 
@@ -61,31 +61,45 @@ impl Plan<'_> {
     }
 }
 
-/// The plan for a request, with its octets up to Length, at a moment. What is kept shares them and the body.
+/// A request to be answered.
+#[derive(Drop)]
+pub(crate) struct Asked<'r, 'a> {
+    pub request: &'r Request<'a>,
+    /// The octets of the request up to Length, if what is kept is to share them. Otherwise it gets a copy.
+    pub octets: Option<&'r Octets>,
+    /// The draw for the State of a challenge.
+    pub draw: &'r [u8; 16],
+}
+
+/// The plan for a request at a moment. What is kept shares the body.
 pub(crate) fn plan_step<'a>(
     alloc: Global,
     config: &Config,
     tables: &Tables,
     now: u64,
-    request: &Request<'a>,
-    octets: &Octets,
-    draw: &[u8; 16],
+    asked: Asked<'_, 'a>,
 ) -> Result<Plan<'a>, AllocError>
     requires moment { now ≤ moment_max }
-    requires answerable { IsAnswerable config.now.clients request.now }
-    requires octets { octets.now ≡ packet_octets request.now.packet }
+    requires answerable { IsAnswerable config.now.clients asked.request.now }
+    requires octets { IfSome asked.octets
+        (λ octets. octets.now ≡ packet_octets asked.request.now.packet) }
     requires usable { AreUsable config.now tables.now }
-    ensures planned { IfOk result
-        (IsPlanOf config.now (live_state now tables.now) request.now draw.now) }
+    ensures planned { IfOk result (IsPlanOf config.now (live_state now tables.now)
+        asked.entry.request.now asked.entry.draw.now) }
     ensures sealable { IfOk result (λ plan. IsSealable (planned_answer plan)) }
 {
+    let Asked {
+        request,
+        octets,
+        draw,
+    } = asked;
     if request.packet.code() == STATUS_SERVER {
         let mut body = status_reply(alloc, request.door, &request.packet)?;
         body.share()?;
         return Ok(Plan::Unchanged(body));
     }
     let key = key_of(request);
-    if let Some(kept) = tables.recent.look(&key, octets.octets(), now) {
+    if let Some(kept) = tables.recent.look(&key, request.packet.octets(), now) {
         return Ok(Plan::Unchanged(kept.copy()?));
     }
     if is_full(&tables.recent, &key, now) {
@@ -95,11 +109,26 @@ pub(crate) fn plan_step<'a>(
     reply.body.share()?;
     let kept = Kept {
         key,
-        octets: octets.copy()?,
+        octets: octets_to_keep(alloc, &request.packet, octets)?,
         body: reply.body.copy()?,
         made: now,
     };
     Ok(Plan::New(reply, kept))
+}
+
+// The octets of a packet: those that are there to share, or else a copy.
+fn octets_to_keep(
+    alloc: Global,
+    packet: &Packet,
+    octets: Option<&Octets>,
+) -> Result<Octets, AllocError>
+    requires { IfSome octets (λ octets. octets.now ≡ packet_octets packet.now) }
+    ensures { IfOk result (λ kept. kept ≡ packet_octets packet.now) }
+{
+    match octets {
+        Some(octets) => octets.copy(),
+        None => Octets::of(alloc, packet.octets()),
+    }
 }
 
 /// What a request is recognised by, besides its octets.

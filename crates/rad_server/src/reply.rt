@@ -1,5 +1,5 @@
 //! What replies say.
-ghost use Rattle.std.specs.Prelude.{◌≡◌, ◌≤◌, [], IfOk, IfSome, OnOk, length, option_map};
+ghost use Rattle.std.specs.Prelude.{◌≡◌, ◌+◌, ◌≤◌, [], IfOk, IfSome, OnOk, length, option_map};
 ghost use Rattle.rad_packet.specs.Attributes.{of_kind, value_max};
 ghost use Rattle.rad_packet.specs.Codes.{code_access_accept};
 ghost use Rattle.rad_packet.specs.Types.{type_proxy_state};
@@ -10,7 +10,7 @@ ghost use Rattle.rad_server.specs.Replies.{accept_attributes, access_accept, acc
 
 use crate::denial::Denial;
 use rad_auth::Door;
-use rad_config::User;
+use rad_config::{Text, User};
 use rad_packet::attribute::{
     CLASS, FRAMED_IP_ADDRESS, FRAMED_PROTOCOL, MESSAGE_AUTHENTICATOR, PROXY_STATE, REPLY_MESSAGE,
     SERVICE_TYPE, SESSION_TIMEOUT, STATE,
@@ -20,6 +20,15 @@ use rad_packet::{Body, Packet};
 use rad_pool::Grant;
 use rad_recent::state_value;
 use std::alloc::{AllocError, Global};
+
+// The sizes of attributes in octets, Type and Length counted. The front is the Message-Authenticator.
+const FRONT_SIZE: usize = 18;
+
+const INTEGER_SIZE: usize = 6;
+
+const STATE_SIZE: usize = 26;
+
+const CLASS_SIZE: usize = 14;
 
 /// The Access-Accept of a session.
 #[tactic(auto, using(crate::proofs::ReplyLemmas::accept_is_reply))]
@@ -34,7 +43,9 @@ pub(crate) fn access_accept(
     ensures value { IfOk result (λ body. body ≡ access_accept user.now grant packet.now) }
     ensures reply { IfOk result IsReply }
 {
-    let mut body = grant_body(alloc, user, grant)?;
+    let own = 4 * INTEGER_SIZE + text_size(user.message.as_ref()) + CLASS_SIZE;
+    let size = FRONT_SIZE + own + proxy_states_size(packet);
+    let mut body = grant_body(alloc, user, grant, size)?;
     copy_proxy_states(packet, &mut body)?;
     Ok(body)
 }
@@ -50,8 +61,10 @@ pub(crate) fn access_reject(
     ensures value { IfOk result (λ body. body ≡ access_reject denial packet.now) }
     ensures reply { IfOk result IsReply }
 {
-    let mut body = access_body(alloc, ACCESS_REJECT)?;
-    body.push(REPLY_MESSAGE, denial.text().as_bytes())?;
+    let text = denial.text().as_bytes();
+    let size = FRONT_SIZE + text.len() + 2 + proxy_states_size(packet);
+    let mut body = access_body(alloc, ACCESS_REJECT, size)?;
+    body.push(REPLY_MESSAGE, text)?;
     copy_proxy_states(packet, &mut body)?;
     Ok(body)
 }
@@ -70,7 +83,9 @@ pub(crate) fn access_challenge(
         (λ body. body ≡ access_challenge user.now number draw.now packet.now) }
     ensures reply { IfOk result IsReply }
 {
-    let mut body = access_body(alloc, ACCESS_CHALLENGE)?;
+    let own = text_size(user.challenge.as_ref()) + STATE_SIZE;
+    let size = FRONT_SIZE + own + proxy_states_size(packet);
+    let mut body = access_body(alloc, ACCESS_CHALLENGE, size)?;
     if let Some(text) = &user.challenge {
         body.push(REPLY_MESSAGE, text.octets())?;
     }
@@ -86,7 +101,7 @@ pub(crate) fn accounting_response(alloc: Global, packet: &Packet) -> Result<Body
     ensures value { IfOk result (λ body. body ≡ accounting_response packet.now) }
     ensures reply { IfOk result IsReply }
 {
-    let mut body = Body::new(alloc, ACCOUNTING_RESPONSE);
+    let mut body = Body::with_room(alloc, ACCOUNTING_RESPONSE, proxy_states_size(packet))?;
     copy_proxy_states(packet, &mut body)?;
     Ok(body)
 }
@@ -110,27 +125,29 @@ fn status_accept(alloc: Global, packet: &Packet) -> Result<Body, AllocError>
     ensures value { IfOk result (λ body. body ≡ access_reply code_access_accept [] packet.now) }
     ensures reply { IfOk result IsReply }
 {
-    let mut body = access_body(alloc, ACCESS_ACCEPT)?;
+    let size = FRONT_SIZE + proxy_states_size(packet);
+    let mut body = access_body(alloc, ACCESS_ACCEPT, size)?;
     copy_proxy_states(packet, &mut body)?;
     Ok(body)
 }
 
-// The front of a reply to an Access-Request. Sealing puts in the octets of its Message-Authenticator.
-fn access_body(alloc: Global, code: u8) -> Result<Body, AllocError>
+// The front of a reply to an Access-Request, with memory for a reply of this size. Sealing puts in the octets of its
+// Message-Authenticator.
+fn access_body(alloc: Global, code: u8, size: usize) -> Result<Body, AllocError>
     ensures { IfOk result (λ body. body ≡ access_front code) }
 {
-    let mut body = Body::new(alloc, code);
+    let mut body = Body::with_room(alloc, code, size)?;
     body.push(MESSAGE_AUTHENTICATOR, &[0; 16])?;
     Ok(body)
 }
 
-// An Access-Accept, but for the Proxy-States.
-fn grant_body(alloc: Global, user: &User, grant: Grant) -> Result<Body, AllocError>
+// An Access-Accept, but for the Proxy-States, with memory for a reply of this size.
+fn grant_body(alloc: Global, user: &User, grant: Grant, size: usize) -> Result<Body, AllocError>
     requires { IfSome user.now.message (λ message. length message ≤ value_max) }
     ensures { IfOk result (λ body. body
         ≡ with_attributes (accept_attributes user.now grant) (access_front code_access_accept)) }
 {
-    let mut body = access_body(alloc, ACCESS_ACCEPT)?;
+    let mut body = access_body(alloc, ACCESS_ACCEPT, size)?;
     push_integer(&mut body, SERVICE_TYPE, user.service)?;
     push_integer(&mut body, FRAMED_PROTOCOL, user.protocol)?;
     push_integer(&mut body, FRAMED_IP_ADDRESS, grant.address)?;
@@ -159,6 +176,33 @@ fn class_value(number: u64) -> [u8; 12]
 {
     let [a, b, c, d, e, f, g, h] = number.to_be_bytes();
     [b'R', b'A', b'P', b'1', a, b, c, d, e, f, g, h]
+}
+
+// The size of the attribute of a text, or 0 if there is none.
+fn text_size(text: Option<&Text>) -> usize
+    requires { IfSome text (λ text. length text.now ≤ value_max) }
+    ensures { result ≤ value_max + 2 }
+{
+    match text {
+        None => 0,
+        Some(text) => text.octets().len() + 2,
+    }
+}
+
+// The size of the packet's Proxy-State attributes. The packet's length would do as a bound, but then a kept reply would hold memory
+// that it doesn't use.
+fn proxy_states_size(packet: &Packet) -> usize
+    requires { proxy_states_size packet.now ≤ proxy_states_max }
+    ensures { result ≡ proxy_states_size packet.now }
+{
+    let mut size = 0;
+    let mut rest = packet.attributes();
+    while let Some(attribute) = rest.next() {
+        if attribute.kind == PROXY_STATE {
+            size += attribute.value.len() + 2;
+        }
+    }
+    size
 }
 
 // Appends copies of the packet's Proxy-State attributes.

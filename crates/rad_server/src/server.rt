@@ -1,5 +1,5 @@
 //! The server, and its step.
-ghost use Rattle.std.specs.Prelude.{◌≡◌, ◌≤◌, ◌↔◌, IfOk, IsTrue, OnErr, OnOk};
+ghost use Rattle.std.specs.Prelude.{◌≡◌, ◌≤◌, ◌↔◌, IfOk, IfSome, IsTrue, OnErr, OnOk};
 ghost use Rattle.rad_packet.specs.Packets.{packet_octets};
 ghost use Rattle.rad_auth.specs.Admission.{IsAdmitted};
 ghost use Rattle.rad_config.specs.Ranges.{IsConfiguration};
@@ -15,7 +15,7 @@ use crate::answered::plan_answered;
 use crate::commit::{commit, make_room};
 use crate::entry::Entry;
 use crate::lawful::lawful_steps;
-use crate::plan::{Plan, plan_step};
+use crate::plan::{Asked, Plan, plan_step};
 use crate::tables::Tables;
 use rad_auth::{Arrival, Request, admitted_is_answerable, readmit};
 use rad_config::Config;
@@ -141,23 +141,24 @@ impl<'c> Server<'c> {
         ensures configuration { self.new.configuration ≡ self.old.configuration }
         ensures unchanged { OnErr result (self.new ≡ self.old) }
     {
-        let octets = Octets::of(self.alloc, request.packet.octets())?;
-        let (answer, _copy) = self.step_with_copy(request, &octets, moment, draw)?;
+        let (answer, _copy) = self.step_with_copy(request, None, moment, draw)?;
         Ok(answer)
     }
 
-    /// The step of a request, with its octets up to Length, and a copy of its answer: the memory for it is there before the state
-    /// changes. What is kept shares the octets and the body.
+    /// The step of a request, and a copy of its answer: the memory for it is there before the state changes.
+    ///
+    /// What is kept shares the body, and the octets if they are given: those of the request up to Length.
     pub(crate) fn step_with_copy(
         &mut self,
         request: &Request,
-        octets: &Octets,
+        octets: Option<&Octets>,
         moment: u64,
         draw: &[u8; 16],
     ) -> Result<(Answer, Answer), AllocError>
         requires moment { moment ≤ moment_max }
         requires admitted { IsAdmitted self.old.configuration.clients request.now }
-        requires octets { octets.now ≡ packet_octets request.now.packet }
+        requires octets { IfSome octets
+            (λ octets. octets.now ≡ packet_octets request.now.packet) }
         ensures answered { IfOk result (λ answers.
             step self.old.configuration self.old.state request.now moment draw.now
             ≡ (answers.0, self.new.state)) }
@@ -174,7 +175,12 @@ impl<'c> Server<'c> {
             tables,
         } = self;
         let now = (*clock).max(moment);
-        let plan = plan_step(*alloc, config, tables, now, request, octets, draw)?;
+        let asked = Asked {
+            request,
+            octets,
+            draw,
+        };
+        let plan = plan_step(*alloc, config, tables, now, asked)?;
         let copy = plan.answer()?;
         let answer = self.carry_out(request, moment, draw, plan)?;
         Ok((answer, copy))

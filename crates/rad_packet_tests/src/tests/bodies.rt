@@ -38,7 +38,12 @@ fn says(body: &Body, code: u8, attributes: &[u8]) -> bool {
 }
 
 fn reply(alloc: Global) -> Result<Body, AllocError> {
-    let body = body_of(alloc, code::ACCESS_ACCEPT, 6, &[0, 0, 0, 1])?;
+    with_reply(Body::new(alloc, code::ACCESS_ACCEPT))
+}
+
+// The body with the attributes of the reply.
+fn with_reply(body: Body) -> Result<Body, AllocError> {
+    let body = with(body, 6, &[0, 0, 0, 1])?;
     let body = with(body, 15, &[0, 0, 0, 0])?;
     with(body, 14, &[192, 168, 1, 3])
 }
@@ -68,6 +73,18 @@ fn is_reply_written(alloc: Global) -> Result<bool, AllocError> {
 #[test]
 fn writes_the_reply(rt: HostRuntime) {
     holds(&rt, is_reply_written(rt.alloc()), "the reply");
+}
+
+fn is_reply_with_room(alloc: Global, size: usize) -> Result<bool, AllocError> {
+    let reply = with_reply(Body::with_room(alloc, code::ACCESS_ACCEPT, size)?)?;
+    Ok(says(&reply, 2, &REPLY[20..]))
+}
+
+#[test]
+fn any_room_will_do(rt: HostRuntime) {
+    holds(&rt, is_reply_with_room(rt.alloc(), 18), "its size");
+    holds(&rt, is_reply_with_room(rt.alloc(), 7), "too little room");
+    holds(&rt, is_reply_with_room(rt.alloc(), 0), "no room");
 }
 
 fn is_empty_written(alloc: Global) -> Result<bool, AllocError> {
