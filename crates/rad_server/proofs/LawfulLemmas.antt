@@ -39,7 +39,7 @@ use Rattle.rad_recent.specs.declared.kept.Kept.{Kept}
 use Rattle.rad_server.proofs.AddressLemmas.{KeepsSessions, accept_has_session, grant_keeps, live_has, start_keeps, still_has, stop_keeps}
 use Rattle.rad_server.proofs.ReplyLemmas.{accept_is_reply, accounting_is_reply, challenge_is_reply, reject_is_reply}
 use Rattle.rad_server.specs.Access.{Challenged, Decision, Granted, access, access_with, answer_matches, answered_challenge, challenge_for, challenge_or_denial, decided, decision, decision_on_answer, decision_on_password, is_name_of, password_matches, session_for, session_or_denial, user_at, user_by_answer, user_by_password, without_challenge}
-use Rattle.rad_server.specs.Accounting.{account, changed, first_integer, reported, session_meant, status_start, status_stop}
+use Rattle.rad_server.specs.Accounting.{account, changed, first_integer, reported, session_meant, shows_start, status_stop}
 use Rattle.rad_server.specs.Credentials.{Credentials, credentials_in}
 use Rattle.rad_server.specs.Lawful.{HasItsSession, IsChallengeOf, IsLawful, IsRepeatable}
 use Rattle.rad_server.specs.Replies.{accounting_response}
@@ -459,7 +459,7 @@ account_is_lawful laws configuration state request answerable lawful =
 
     with_status : (o : Option ℕ) → IsKept (reported o session state.table)
     with_status None = same
-    with_status (Some status) = with_number (status == status_start) (status == status_stop)
+    with_status (Some status) = with_number (shows_start status) (status == status_stop)
 
 -- ---- the step
 

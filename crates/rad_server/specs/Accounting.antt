@@ -1,6 +1,6 @@
--- What an Accounting-Request reports of a session (RFC 2866, sections 4.1 and 5.1). A Start or a Stop is recorded in the table of
--- sessions. An Accounting-Response is made even if no session is meant (section 4.2).
-use Rattle.std.specs.Prelude.{ℕ, ◌==◌, ◌&&◌, Bool, if◌then◌else◌, List, length, drop, find, take, Option, Some, None, option_map}
+-- What an Accounting-Request reports of a session (RFC 2866, sections 4.1 and 5.1). A Start, an Interim-Update or a Stop is recorded
+-- in the table of sessions. An Accounting-Response is made even if no session is meant (section 4.2).
+use Rattle.std.specs.Prelude.{ℕ, ◌==◌, ◌&&◌, ◌||◌, Bool, if◌then◌else◌, List, length, drop, find, take, Option, Some, None, option_map}
 use Rattle.std.specs.Int.{w32, w64, from_be_bytes}
 use lib.Pointwise.{pointwise}
 use Rattle.rad_packet.specs.Attributes.{Attribute, first_value, first_value_of_len, integer_size, is_of_len}
@@ -19,6 +19,13 @@ status_start = 1
 
 abbrev pub status_stop : ℕ
 status_stop = 2
+
+abbrev pub status_interim_update : ℕ
+status_interim_update = 3
+
+-- Whether a status shows that the session has started. An Interim-Update does too: its Start may have been lost.
+abbrev pub shows_start : ℕ → Bool
+shows_start status = (status == status_start) || (status == status_interim_update)
 
 -- the integer of the first attribute of a Type that has four octets
 abbrev pub first_integer : ℕ → List Attribute → Option ℕ
@@ -51,12 +58,12 @@ abbrev pub changed : (ℕ → Table → Table) → Option ℕ → Table → Tabl
 changed change None table = table
 changed change (Some number) table = change number table
 
--- the table after a status of a session was reported: every other status changes nothing
+-- the table after a status was reported; `number` is that of the session meant, if one is: every other status changes nothing
 abbrev pub reported : Option ℕ → Option ℕ → Table → Table
-reported None session table = table
-reported (Some status) session table =
-    if status == status_start then changed started session table
-    else if status == status_stop then changed stopped session table
+reported None number table = table
+reported (Some status) number table =
+    if shows_start status then changed started number table
+    else if status == status_stop then changed stopped number table
     else table
 
 -- the reply to an Accounting-Request, and the state after it

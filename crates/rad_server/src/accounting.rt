@@ -12,6 +12,9 @@ pub(crate) const START: u32 = 1;
 /// The Acct-Status-Type of a Stop.
 pub(crate) const STOP: u32 = 2;
 
+/// The Acct-Status-Type of an Interim-Update.
+pub(crate) const INTERIM_UPDATE: u32 = 3;
+
 /// What the attributes of an Accounting-Request say of the session that it means.
 #[derive(Clone, Copy)]
 pub(crate) struct Report<'a> {

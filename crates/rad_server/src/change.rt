@@ -9,7 +9,7 @@ ghost use Rattle.rad_server.specs.Servers.{state_with};
 ghost use Rattle.rad_server.specs.States.{State};
 
 use crate::access::NewSession;
-use crate::accounting::{Report, START, STOP};
+use crate::accounting::{INTERIM_UPDATE, Report, START, STOP};
 use crate::tables::Tables;
 use rad_auth::Request;
 use rad_config::Config;
@@ -34,7 +34,7 @@ pub(crate) enum Change {
     Challenge(u32),
     /// A session, as it is granted.
     Grant(NewSession),
-    /// A Start of the session that is meant.
+    /// A Start or an Interim-Update of the session that is meant.
     Start(Reference),
     /// A Stop of it.
     Stop(Reference),
@@ -53,7 +53,8 @@ pub(crate) fn reported_change(config: &Config, request: &Request) -> Change
         name: name_asked(config, &report),
     };
     match report.status {
-        Some(START) => Change::Start(reference),
+        // Its Start may have been lost.
+        Some(START | INTERIM_UPDATE) => Change::Start(reference),
         Some(STOP) => Change::Stop(reference),
         _ => Change::Nothing,
     }

@@ -2,8 +2,8 @@ use super::Step::{Ask, Sessions};
 use super::requests::Asked::{Account, OtherAccount};
 use super::requests::Sent::Plain;
 use super::requests::{EXAMPLE, FIRST_CLASS, NEMO, START, STOP, Sent};
-use super::texts::{NEMO_FIRST, RESPONSE};
-use super::{Row, play};
+use super::texts::{DORY_SECOND, NEMO_FIRST, NO_ADDRESS_LEFT, RESPONSE};
+use super::{Row, play, requests};
 use rad_packet::attribute::{ACCT_STATUS_TYPE, CLASS, FRAMED_IP_ADDRESS, USER_NAME};
 use rad_pool::Phase::{Active, Ended, Pending};
 use std::test::Fail;
@@ -92,14 +92,9 @@ fn a_session_is_meant_by_its_address_and_user(rt: HostRuntime) -> Result<(), Fai
 }
 
 #[test]
-fn other_reports_change_nothing(rt: HostRuntime) -> Result<(), Fail> {
+fn an_accounting_on_changes_nothing(rt: HostRuntime) -> Result<(), Fail> {
     const ROWS: &[Row] = &[
         (0, Ask(EXAMPLE, NEMO_FIRST), "nemo"),
-        (
-            1_000,
-            Ask(Account(0, &[INTERIM_UPDATE, FIRST_CLASS]), RESPONSE),
-            "an Interim-Update",
-        ),
         (
             1_000,
             Ask(Account(1, &[ACCOUNTING_ON]), RESPONSE),
@@ -117,11 +112,6 @@ fn other_reports_change_nothing(rt: HostRuntime) -> Result<(), Fail> {
         ),
         (
             3_000,
-            Ask(Account(3, &[INTERIM_UPDATE, FIRST_CLASS]), RESPONSE),
-            "an Interim-Update after it",
-        ),
-        (
-            3_000,
             Ask(Account(4, &[ACCOUNTING_ON, FIRST_CLASS]), RESPONSE),
             "an Accounting-On with its Class",
         ),
@@ -131,6 +121,60 @@ fn other_reports_change_nothing(rt: HostRuntime) -> Result<(), Fail> {
             "a Stop of a session that isn't there",
         ),
         (3_000, Sessions(&[(1, Active, 0)]), "the session is active"),
+    ];
+    play(&rt, rt.alloc(), ROWS)
+}
+
+#[test]
+fn an_interim_update_makes_up_for_a_lost_start(rt: HostRuntime) -> Result<(), Fail> {
+    const ROWS: &[Row] = &[
+        (0, Ask(EXAMPLE, NEMO_FIRST), "nemo"),
+        (
+            1_000,
+            Ask(Account(0, &[INTERIM_UPDATE, FIRST_CLASS]), RESPONSE),
+            "an Interim-Update",
+        ),
+        (1_000, Sessions(&[(1, Active, 0)]), "the session is active"),
+        (
+            2_000,
+            Ask(Account(1, &[INTERIM_UPDATE, FIRST_CLASS]), RESPONSE),
+            "another",
+        ),
+        (2_000, Sessions(&[(1, Active, 0)]), "it still is"),
+        (
+            60_000,
+            Ask(requests::DORY, NO_ADDRESS_LEFT),
+            "dory, after the hold",
+        ),
+        (
+            61_000,
+            Ask(Account(2, &[STOP, FIRST_CLASS]), RESPONSE),
+            "its Stop",
+        ),
+        (
+            61_000,
+            Ask(requests::DORY_AGAIN, DORY_SECOND),
+            "dory, after the Stop",
+        ),
+    ];
+    play(&rt, rt.alloc(), ROWS)
+}
+
+#[test]
+fn an_interim_update_revives_no_session(rt: HostRuntime) -> Result<(), Fail> {
+    const ROWS: &[Row] = &[
+        (0, Ask(EXAMPLE, NEMO_FIRST), "nemo"),
+        (
+            1_000,
+            Ask(Account(0, &[STOP, FIRST_CLASS]), RESPONSE),
+            "a Stop",
+        ),
+        (
+            2_000,
+            Ask(Account(1, &[INTERIM_UPDATE, FIRST_CLASS]), RESPONSE),
+            "an Interim-Update after it",
+        ),
+        (2_000, Sessions(&[(1, Ended, 0)]), "it has ended"),
     ];
     play(&rt, rt.alloc(), ROWS)
 }
