@@ -9,19 +9,20 @@ use Rattle.std.proofs.lemmas.List.Quantifiers.{all_pairs_push}
 use Rattle.std.proofs.lemmas.List.Kept.{AllPairs-filter}
 use Rattle.std.proofs.lemmas.List.Sums.{length-filter, count_by-le-length}
 use Rattle.std.proofs.lemmas.Option.{slice_get-map}
-use Rattle.rad_rows.specs.Blocks.{LivesUntil, SeenBlock, block_changed, block_without, cut_block}
+use Rattle.rad_rows.specs.Blocks.{LivesUntil, SeenBlock, block_mapped, block_without, cut_block}
 use Rattle.rad_rows.specs.Entries.{Ascends, BelongsTo, EntryLives, HasSpans, IsConsistent, IsGrouped, IsPlaced, IsSound, IsUpTo, all_rows, has_room_at, has_rows, is_roomy, key_of, on_block, on_blocks}
 use Rattle.rad_rows.specs.Rows.{IsBefore, IsGiven, IsRising, Tells, change_row, has_other, is_dead, moment_max}
 use Rattle.rad_rows.proofs.BlockLemmas.{filter_live, none_dead}
 use Rattle.rad_rows.proofs.GroupLemmas.{grouped_without}
 
-changed_number : {T : Type 0} (number : T → ℕ) (n : ℕ) (to : T → T) → ((row : T) → number (to row) ≡ number row) → (row : T) → number (change_row number n to row) ≡ number row
+-- the row of one number is changed, and each row keeps its number
+pub changed_number : {T : Type 0} (number : T → ℕ) (n : ℕ) (to : T → T) → ((row : T) → number (to row) ≡ number row) → (row : T) → number (change_row number n to row) ≡ number row
 changed_number number n to keeps row = elim (eqb (number row) n) as (λ b. number (cond b (to row) row) ≡ number row) [ true ↦ keeps row | false ↦ refl ]
 
-pub placed_changed : {T : Type 0} (number : T → ℕ) (n : ℕ) (to : T → T) → ((row : T) → number (to row) ≡ number row) → (key : ℕ) (rows : List T) → All (BelongsTo number key) rows → All (BelongsTo number key) (map (change_row number n to) rows)
-placed_changed number n to keeps key rows h =
-    All-map (BelongsTo number key) (change_row number n to) rows (All-weaker (BelongsTo number key) (λ row. BelongsTo number key (change_row number n to row))
-    (λ row k. record { belongs = ap key_of (changed_number number n to keeps row) ∙ k.belongs }) rows h)
+pub placed_mapped : {T : Type 0} (number : T → ℕ) (to : T → T) → ((row : T) → number (to row) ≡ number row) → (key : ℕ) (rows : List T) → All (BelongsTo number key) rows → All (BelongsTo number key) (map to rows)
+placed_mapped number to keeps key rows h =
+    All-map (BelongsTo number key) to rows (All-weaker (BelongsTo number key) (λ row. BelongsTo number key (to row))
+    (λ row k. record { belongs = ap key_of (keeps row) ∙ k.belongs }) rows h)
 
 -- ---- the order of the rows
 
@@ -31,18 +32,17 @@ rising_filter number last p rows h = record { given = All-filter p (IsGiven numb
 pub rising_later : {T : Type 0} (number : T → ℕ) (last late : ℕ) (rows : List T) → last ≤ late → IsRising number last rows → IsRising number late rows
 rising_later number last late rows le h = record { given = All-weaker (IsGiven number last) (IsGiven number late) (λ row k. record { one = k.one; le = omega (arith, k.le, le) }) rows h.given; rising = h.rising }
 
-pub rising_changed : {T : Type 0} (number : T → ℕ) (last n : ℕ) (to : T → T) → ((row : T) → number (to row) ≡ number row) → (rows : List T) → IsRising number last rows → IsRising number last (map (change_row number n to) rows)
-rising_changed number last n to same rows h = record {
-  given = All-map (IsGiven number last) (change_row number n to) rows
-      (All-weaker (IsGiven number last) (λ row. IsGiven number last (change_row number n to row)) (λ row k. record { one = omega (arith, k.one, changed_number number n to same row); le = omega (arith, k.le, changed_number number n to same row) }) rows h.given);
+pub rising_mapped : {T : Type 0} (number : T → ℕ) (last : ℕ) (to : T → T) → ((row : T) → number (to row) ≡ number row) → (rows : List T) → IsRising number last rows → IsRising number last (map to rows)
+rising_mapped number last to keeps rows h = record {
+  given = All-map (IsGiven number last) to rows
+      (All-weaker (IsGiven number last) (λ row. IsGiven number last (to row)) (λ row k. record { one = omega (arith, k.one, keeps row); le = omega (arith, k.le, keeps row) }) rows h.given);
   rising = λ i j d lt within.
-      let f = change_row number n to in
-      let short : j < length rows = omega (arith, length-map rows f) in
+      let short : j < length rows = omega (arith, length-map rows to) in
       let row = get_or rows i d in
       let other = get_or rows j d in
-      let one : get_or (map f rows) i d ≡ f row = get_or-map f rows i d d (omega arith) in
-      let two : get_or (map f rows) j d ≡ f other = get_or-map f rows j d d short in
-      record { lt = omega (arith, (h.rising i j d lt short).lt, ap number one, ap number two, changed_number number n to same row, changed_number number n to same other) };
+      let one : get_or (map to rows) i d ≡ to row = get_or-map to rows i d d (omega arith) in
+      let two : get_or (map to rows) j d ≡ to other = get_or-map to rows j d d short in
+      record { lt = omega (arith, (h.rising i j d lt short).lt, ap number one, ap number two, keeps row, keeps other) };
 }
 
 pub rising_push : {T : Type 0} (number : T → ℕ) (last : ℕ) (rows : List T) (row : T) → number row ≡ last + 1 → IsRising number last rows → IsRising number (last + 1) (rows ++ row ∷ [])
@@ -74,9 +74,9 @@ module _ {T S : Type 0} where
   rows_without number n [] = refl
   rows_without number n (e ∷ es) = ap (λ l. filter (has_other number n) e.1.rows ++ l) (rows_without number n es) ∙ sym (filter-append (has_other number n) e.1.rows (all_rows es))
 
-  pub rows_changed : (number : T → ℕ) (n : ℕ) (to : T → T) (es : List (ℕ × SeenBlock T S)) → all_rows (on_blocks (block_changed number n to) es) ≡ map (change_row number n to) (all_rows es)
-  rows_changed number n to [] = refl
-  rows_changed number n to (e ∷ es) = ap (λ l. map (change_row number n to) e.1.rows ++ l) (rows_changed number n to es) ∙ sym (map-append (change_row number n to) e.1.rows (all_rows es))
+  pub rows_mapped : (to : T → T) (es : List (ℕ × SeenBlock T S)) → all_rows (on_blocks (block_mapped to) es) ≡ map to (all_rows es)
+  rows_mapped to [] = refl
+  rows_mapped to (e ∷ es) = ap (λ l. map to e.1.rows ++ l) (rows_mapped to es) ∙ sym (map-append to e.1.rows (all_rows es))
 
   -- ---- what stays sound
 
@@ -121,6 +121,9 @@ module _ {T S : Type 0} where
           both : (a b c : Bool) → (a && b) ≡ true → (b ≡ true → c ≡ true) → (a && c) ≡ true
           both true b c h k = k h
           both false b c h k = h
+
+  pub room_mapped : (to : T → T) (key : ℕ) (es : List (ℕ × SeenBlock T S)) → has_room_at key es ≡ true → has_room_at key (on_blocks (block_mapped to) es) ≡ true
+  room_mapped to key es h = room_on (block_mapped to) key es (λ b. refl) (λ b. omega (arith, length-map b.rows to)) h
 
   -- ---- without blocks that have no row
 
@@ -187,9 +190,6 @@ module _ {T S : Type 0} where
     pub room_without : (n key : ℕ) (es : List (ℕ × SeenBlock T S)) → has_room_at key es ≡ true → has_room_at key (on_blocks (block_without number n) es) ≡ true
     room_without n key es h = room_on (block_without number n) key es (λ b. refl) (λ b. omega (arith, length-filter (has_other number n) b.rows, count_by-le-length (has_other number n) b.rows)) h
 
-    pub room_changed : (n key : ℕ) (to : T → T) (es : List (ℕ × SeenBlock T S)) → has_room_at key es ≡ true → has_room_at key (on_blocks (block_changed number n to) es) ≡ true
-    room_changed n key to es h = room_on (block_changed number n to) key es (λ b. refl) (λ b. omega (arith, length-map b.rows (change_row number n to))) h
-
     pub consistent_without : (n last len left bound : ℕ) (bounds : List ℕ) (ready : Bool) (es new : List (ℕ × SeenBlock T S)) → IsConsistent number live es bounds spans last len bound ready → new ≡ on_blocks (block_without number n) es → left ≡ length (all_rows new)
         → IsConsistent number live new bounds spans last left bound ready
     consistent_without n last len left bound bounds ready es new k is count = record {
@@ -202,18 +202,18 @@ module _ {T S : Type 0} where
       room = λ is_ready. ap (has_room_at (key_of (last + 1))) is ∙ room_without n (key_of (last + 1)) es (k.room is_ready);
     }
 
-    pub consistent_changed : (n last len bound late : ℕ) (bounds lower : List ℕ) (ready : Bool) (to : T → T) (es new : List (ℕ × SeenBlock T S)) → ((row : T) → number (to row) ≡ number row) → IsConsistent number live es bounds spans last len bound ready
-        → new ≡ on_blocks (block_changed number n to) es → All (EntryLives live late) new → IsGrouped live lower new → IsConsistent number live new lower spans last len late ready
-    consistent_changed n last len bound late bounds lower ready to es new same k is lives grouped =
-        let rows : all_rows new ≡ map (change_row number n to) (all_rows es) = ap all_rows is ∙ rows_changed number n to es in
+    pub consistent_mapped : (last len bound late : ℕ) (bounds lower : List ℕ) (ready : Bool) (to : T → T) (es new : List (ℕ × SeenBlock T S)) → ((row : T) → number (to row) ≡ number row) → IsConsistent number live es bounds spans last len bound ready
+        → new ≡ on_blocks (block_mapped to) es → All (EntryLives live late) new → IsGrouped live lower new → IsConsistent number live new lower spans last len late ready
+    consistent_mapped last len bound late bounds lower ready to es new keeps k is lives grouped =
+        let rows : all_rows new ≡ map to (all_rows es) = ap all_rows is ∙ rows_mapped to es in
         record {
           grouped = grouped;
           sound = subst (IsSound number live spans late (key_of (last + 1))) (sym is)
-              (sound_on number live spans bound late (key_of (last + 1)) (block_changed number n to) es k.sound (λ b. refl) (λ key b h. placed_changed number n to same key b.rows h)
+              (sound_on number live spans bound late (key_of (last + 1)) (block_mapped to) es k.sound (λ b. refl) (λ key b h. placed_mapped number to keeps key b.rows h)
               (subst (All (EntryLives live late)) is lives));
-          count = k.count ∙ sym (ap length rows ∙ length-map (all_rows es) (change_row number n to));
-          order = subst (IsRising number last) (sym rows) (rising_changed number last n to same (all_rows es) k.order);
-          room = λ is_ready. ap (has_room_at (key_of (last + 1))) is ∙ room_changed n (key_of (last + 1)) to es (k.room is_ready);
+          count = k.count ∙ sym (ap length rows ∙ length-map (all_rows es) to);
+          order = subst (IsRising number last) (sym rows) (rising_mapped number last to keeps (all_rows es) k.order);
+          room = λ is_ready. ap (has_room_at (key_of (last + 1))) is ∙ room_mapped to (key_of (last + 1)) es (k.room is_ready);
         }
 
     pub consistent_cut : (now last len left bound late : ℕ) (bounds renewed : List ℕ) (ready : Bool) (es new : List (ℕ × SeenBlock T S)) → IsConsistent number live es bounds spans last len bound ready → new ≡ on_blocks (cut_block live now) es → left ≡ length (all_rows new)

@@ -28,6 +28,10 @@ cut_block live now block = with_rows block (filter (live block.spans now) block.
 abbrev pub block_without : {T S : Type 0} → (T → ℕ) → ℕ → SeenBlock T S → SeenBlock T S
 block_without number n block = with_rows block (filter (has_other number n) block.rows)
 
+-- a block with each row changed
+abbrev pub block_mapped : {T S : Type 0} → (T → T) → SeenBlock T S → SeenBlock T S
+block_mapped to block = with_rows block (map to block.rows)
+
 -- a block with the row of this number changed
 abbrev pub block_changed : {T S : Type 0} → (T → ℕ) → ℕ → (T → T) → SeenBlock T S → SeenBlock T S
-block_changed number n to block = with_rows block (map (change_row number n to) block.rows)
+block_changed number n to block = block_mapped (change_row number n to) block

@@ -1,6 +1,6 @@
 //! A block of rows.
 ghost use Rattle.std.specs.Prelude.{◌≡◌, ◌≤◌, ◌<◌, ◌++◌, ◌∷◌, [], filter, find, length, option_copied, IfOk, OnOk, nat_lt};
-ghost use Rattle.rad_rows.specs.Blocks.{BlockLives, block_changed, block_without, cut_block};
+ghost use Rattle.rad_rows.specs.Blocks.{BlockLives, block_changed, block_mapped, block_without, cut_block};
 ghost use Rattle.rad_rows.specs.Rows.{Tells, has_number, moment_max};
 
 use crate::plain;
@@ -118,6 +118,14 @@ impl<T: Row<S>, S: Copy> Block<T, S> {
     {
         let Block { rows, spans, bound } = self;
         *bound = plain::change(rows, spans, number, by, *bound);
+    }
+
+    /// Changes each row.
+    pub fn change_all<C: Change<T>>(&mut self, by: &C)
+        ensures { self.new ≡ block_mapped (C.to by.now) self.old }
+    {
+        let Block { rows, spans, bound } = self;
+        *bound = plain::change_all(rows, spans, by);
     }
 
     /// How many rows are live at a moment.

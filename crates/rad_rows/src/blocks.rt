@@ -1,7 +1,7 @@
 //! What is done to the block that a number belongs to, and to the row of blocks.
 ghost use Rattle.std.specs.Prelude.{◌≡◌, ◌≤◌, ◌<◌, ◌-◌, ◌*◌, ◌++◌, ◌∷◌, [], All, OnOk, false, filter, find, length, option_copied, slice_get, true};
 ghost use Rattle.indexmap.specs.IndexMap.{keys};
-ghost use Rattle.rad_rows.specs.Blocks.{block_changed, block_without};
+ghost use Rattle.rad_rows.specs.Blocks.{block_changed, block_mapped, block_without};
 ghost use Rattle.rad_rows.specs.Entries.{Ascends, EntryLives, HasSpans, IsGrouped, IsPlaced, IsSound, all_rows, has_room_at, has_rows, is_at_key, key_of, on_blocks};
 ghost use Rattle.rad_rows.specs.Rows.{has_number, moment_max};
 
@@ -81,6 +81,29 @@ pub(crate) fn change<T: Row<S>, S: Copy, C: Change<T>>(
     let until = block.bound();
     groups::lower(bounds, at / GROUP, until);
     bound.min(until)
+}
+
+/// Changes each row, and returns a bound.
+pub(crate) fn change_all<T: Row<S>, S: Copy, C: Change<T>>(
+    blocks: &mut IndexMap<u64, Block<T, S>>,
+    bounds: &mut Vec<u64>,
+    by: &C,
+) -> u64
+    requires { IsGrouped T.is_live bounds.old.items blocks.old.entries }
+    ensures entries { blocks.new.entries
+        ≡ on_blocks (block_mapped (C.to by.now)) blocks.old.entries }
+    ensures lives { All (EntryLives T.is_live result) blocks.new.entries }
+    ensures grouped { IsGrouped T.is_live bounds.new.items blocks.new.entries }
+{
+    let mut bound: u64 = u64::MAX;
+    for at in 0..blocks.len() {
+        let block = &mut blocks[at];
+        block.change_all(by);
+        bound = bound.min(block.bound());
+    }
+    // The next sweep finds the bounds of the groups anew.
+    bounds.fill(0);
+    bound
 }
 
 /// Puts a row last, and returns a bound, where `bound` was one before.

@@ -149,3 +149,18 @@ fn change_one<T: Row<S>, S, C: Change<T>>(
     by.change(row);
     bound.min(row.ends(spans))
 }
+
+/// Changes each row, and returns a bound.
+pub(crate) fn change_all<T: Row<S>, S, C: Change<T>>(rows: &mut Vec<T>, spans: &S, by: &C) -> u64
+    ensures items { rows.new.items ≡ map (C.to by.now) rows.old.items }
+    ensures bound { All (LivesUntil T.is_live spans.now result) rows.new.items }
+    ensures len { vec_len rows.new ≡ vec_len rows.old }
+    ensures capacity { vec_capacity rows.new ≡ vec_capacity rows.old }
+{
+    let mut bound: u64 = u64::MAX;
+    for row in rows.iter_mut() {
+        by.change(row);
+        bound = bound.min(row.ends(spans));
+    }
+    bound
+}

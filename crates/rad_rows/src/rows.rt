@@ -207,6 +207,18 @@ impl<T: Row<S>, S: Copy> Rows<T, S> {
         self.bound = bound;
     }
 
+    /// Changes each row, which keeps its number. It goes over every row.
+    pub fn change_all<C: Change<T>>(&mut self, by: &C)
+        requires { (row : T) → T.number (C.to by.now row) ≡ T.number row }
+        ensures rows { self.new.rows ≡ map (C.to by.now) self.old.rows }
+        ensures last { self.new.last ≡ self.old.last }
+        ensures spans { self.new.spans ≡ self.old.spans }
+        ensures room { self.new.has_room ≡ self.old.has_room }
+    {
+        let bound = blocks::change_all(&mut self.blocks, &mut self.bounds, by);
+        self.bound = bound;
+    }
+
     /// Tells the tally of each row that isn't live at a moment, oldest first. The rows stay.
     pub fn tell_dead<G: Tally<T>>(&self, tally: &mut G, now: u64)
         requires { now ≤ moment_max }

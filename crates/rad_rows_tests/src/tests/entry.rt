@@ -1,5 +1,5 @@
 //! A row, its change, and who is told of it.
-ghost use Rattle.std.specs.Prelude.{◌+◌, nat_lt};
+ghost use Rattle.std.specs.Prelude.{◌+◌, ◌-◌, nat_lt};
 
 use rad_rows::{Change, Row, Tally};
 use std::alloc::AllocError;
@@ -45,6 +45,20 @@ impl Change<Entry> for Renewal {
 
     fn change(&self, entry: &mut Entry) {
         entry.made = self.made;
+    }
+}
+
+/// The row was made so much earlier, but not before 0.
+#[derive(Clone, Copy)]
+pub struct Ageing {
+    pub by: u64,
+}
+
+impl Change<Entry> for Ageing {
+    ghost to = { λ ageing entry. record entry { made = entry.made - ageing.by } };
+
+    fn change(&self, entry: &mut Entry) {
+        entry.made = entry.made.saturating_sub(self.by);
     }
 }
 

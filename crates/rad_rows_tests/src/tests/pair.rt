@@ -2,7 +2,7 @@
 ghost use Rattle.std.specs.Prelude.{◌≤◌};
 ghost use Rattle.rad_rows.specs.Rows.{moment_max};
 
-use super::entry::{Entry, Gone, Renewal};
+use super::entry::{Ageing, Entry, Gone, Renewal};
 use rad_rows::{Row, Rows};
 use std::alloc::{AllocError, Global};
 
@@ -35,6 +35,7 @@ impl Pair {
             4 => self.counts(now),
             5 => self.copies() != Ok(false),
             6 => self.finds(number),
+            7 => self.change_all(draw / 16 % 8),
             _ => self.push(now),
         };
         answers && self.has_same_rows()
@@ -65,6 +66,14 @@ impl Pair {
             if entry.number == number {
                 entry.made = now;
             }
+        }
+        true
+    }
+
+    fn change_all(&mut self, by: u64) -> bool {
+        self.rows.change_all(&Ageing { by });
+        for entry in self.plain.iter_mut() {
+            entry.made = entry.made.saturating_sub(by);
         }
         true
     }
