@@ -1,7 +1,7 @@
 -- The faults of a configuration text, its parts and its keys: numbers and names.
 use Rattle.std.specs.Prelude.{ℕ, List, codes}
 use Rattle.rad_config_fault.specs.declared.config_fault.ConfigFault.{ConfigFault}
-use Rattle.rad_config_fault.specs.declared.config_fault.ConfigFault.TheVariants.{Syntax, Missing, BadValue, HoldBelowWindow, PoolsOverlap, TooMany, NoMemory}
+use Rattle.rad_config_fault.specs.declared.config_fault.ConfigFault.TheVariants.{Syntax, Missing, BadValue, HoldBelowWindow, PoolsOverlap, TooMany, NoMemory, StaleBelowWindow}
 use Rattle.rad_config_fault.specs.declared.config_fault.Key.{Key}
 use Rattle.rad_config_fault.specs.declared.config_fault.Key.TheVariants as keys
 use Rattle.rad_config_fault.specs.declared.config_fault.Part.{Part}
@@ -15,6 +15,7 @@ fault_number HoldBelowWindow = 4
 fault_number PoolsOverlap = 5
 fault_number (TooMany part) = 6
 fault_number NoMemory = 7
+fault_number StaleBelowWindow = 8
 
 abbrev pub fault_name : ConfigFault → List ℕ
 fault_name Syntax = codes "Syntax"
@@ -24,6 +25,7 @@ fault_name HoldBelowWindow = codes "HoldBelowWindow"
 fault_name PoolsOverlap = codes "PoolsOverlap"
 fault_name (TooMany part) = codes "TooMany"
 fault_name NoMemory = codes "NoMemory"
+fault_name StaleBelowWindow = codes "StaleBelowWindow"
 
 -- a part as it is printed; a list of entries has this key
 abbrev pub part_name : Part → List ℕ
@@ -38,6 +40,7 @@ key_name keys.List = codes "list"
 key_name keys.Entry = codes "entry"
 key_name keys.Window = codes "window"
 key_name keys.Hold = codes "hold"
+key_name keys.Stale = codes "stale"
 key_name keys.Address = codes "address"
 key_name keys.Secret = codes "secret"
 key_name keys.RequireMessageAuthenticator = codes "require_message_authenticator"

@@ -29,6 +29,9 @@ pub enum ConfigFault {
     /// An allocation failed.
     #[error("config fault {number} {name}", number = self.label().0, name = self.label().1)]
     NoMemory,
+    /// `stale` is less than `window`.
+    #[error("config fault {number} {name}", number = self.label().0, name = self.label().1)]
+    StaleBelowWindow,
 }
 
 impl ConfigFault {
@@ -45,6 +48,7 @@ impl ConfigFault {
             ConfigFault::PoolsOverlap => (5, "PoolsOverlap"),
             ConfigFault::TooMany(_) => (6, "TooMany"),
             ConfigFault::NoMemory => (7, "NoMemory"),
+            ConfigFault::StaleBelowWindow => (8, "StaleBelowWindow"),
         }
     }
 }
@@ -102,6 +106,7 @@ pub enum Key {
     Entry,
     Window,
     Hold,
+    Stale,
     Address,
     Secret,
     RequireMessageAuthenticator,
@@ -129,6 +134,7 @@ impl Key {
             Key::Entry => "entry",
             Key::Window => "window",
             Key::Hold => "hold",
+            Key::Stale => "stale",
             Key::Address => "address",
             Key::Secret => "secret",
             Key::RequireMessageAuthenticator => "require_message_authenticator",
