@@ -13,8 +13,9 @@ use Rattle.rad_config_fault.specs.declared.config_fault.Part.{Part}
 use Rattle.rad_config_fault.specs.declared.config_fault.Part.TheVariants as parts
 use Rattle.rad_config_fault.specs.declared.config_fault.Spot.{Spot}
 use Rattle.rad_config_fault.specs.declared.config_fault.ConfigFault.{ConfigFault}
-use Rattle.rad_config_fault.specs.declared.config_fault.ConfigFault.TheVariants.{Syntax, Missing, BadValue, HoldBelowWindow, PoolsOverlap, TooMany, NoMemory}
+use Rattle.rad_config_fault.specs.declared.config_fault.ConfigFault.TheVariants.{Syntax, Missing, BadValue, HoldBelowWindow, PoolsOverlap, TooMany, NoMemory, StaleBelowWindow}
 use Rattle.rad_config.specs.declared.pool.Pool.{Pool}
+use Rattle.rad_config.specs.declared.spans.Times.{Times}
 use Rattle.rad_config.specs.declared.user.User.{User}
 use Rattle.rad_config_fault.specs.Faults.{key_name, part_name}
 use Rattle.rad_config.specs.Keys.{Row, pool_place}
@@ -27,10 +28,11 @@ pools_max = 16
 abbrev pub users_max : ℕ
 users_max = 4096
 
--- times are in seconds
+-- times are in seconds; without `stale` an active session lives on until it is stopped
 pub record Configuration : Type 0 where
   pub window : ℕ
   pub hold : ℕ
+  pub stale : Option ℕ
   pub clients : List Client
   pub pools : List Pool
   pub users : List User
@@ -185,13 +187,20 @@ users_of pools members = list_of parts.User users_max (user_in pools) members
 abbrev pub top : Members → EntryData
 top members = record { part = parts.Top; index = 0; members = members }
 
--- window and hold, which is not below it
-unfoldable pub ordered_spans : Members → Result (ℕ × ℕ) ConfigFault
+-- whether a time is there, and below the window
+abbrev pub is_below : Option ℕ → ℕ → Bool
+is_below None window = false
+is_below (Some time) window = nat_lt time window
+
+-- window, hold and stale; neither of the last two is below the window
+unfoldable pub ordered_spans : Members → Result Times ConfigFault
 ordered_spans members = do
   window ← value (top members) rows.window
   hold ← value (top members) rows.hold
-  ordered ← refuse_if (nat_lt hold window) HoldBelowWindow
-  Ok (window, hold)
+  stale ← value (top members) rows.stale
+  held ← refuse_if (is_below (Some hold) window) HoldBelowWindow
+  heard ← refuse_if (is_below stale window) StaleBelowWindow
+  Ok (record { window = window; hold = hold; stale = stale })
 
 -- the pools, no two of which share an address
 unfoldable pub separate_pools : Members → Result (List Pool) ConfigFault
@@ -208,4 +217,11 @@ configuration_of text = do
   clients ← clients_of members
   pools ← separate_pools members
   users ← users_of pools members
-  Ok (record { window = spans.0; hold = spans.1; clients = clients; pools = pools; users = users })
+  Ok (record {
+    window = spans.window;
+    hold = spans.hold;
+    stale = spans.stale;
+    clients = clients;
+    pools = pools;
+    users = users;
+  })

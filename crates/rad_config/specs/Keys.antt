@@ -99,6 +99,10 @@ window = with_default 30 keys.Window (number 1 3600)
 abbrev pub hold : Row ℕ
 hold = with_default 60 keys.Hold (number 1 86400)
 
+-- seconds
+abbrev pub stale : Row (Option ℕ)
+stale = optional keys.Stale (number 1 604800)
+
 abbrev pub client_address : Row ℕ
 client_address = required keys.Address (address 0 number_max)
 

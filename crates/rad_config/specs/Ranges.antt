@@ -48,6 +48,7 @@ AreNamedApart users = (place : ℕ) (user : User) → slice_get users place ≡ 
 pub record IsConfiguration (configuration : Configuration) : Type 0 where
   pub window : IsInRange 1 3600 configuration.window
   pub hold : IsInRange configuration.window 86400 configuration.hold
+  pub stale : IfSome configuration.stale (IsInRange configuration.window 604800)
   pub pool_count : length configuration.pools ≤ pools_max
   pub pools : All IsPool configuration.pools
   pub apart : AreApart configuration.pools

@@ -1,5 +1,5 @@
 -- Moments, and how long things are remembered: in milliseconds, where the configuration has seconds.
-use Rattle.std.specs.Prelude.{ℕ, ◌*◌, ◌^◌}
+use Rattle.std.specs.Prelude.{ℕ, ◌*◌, ◌^◌, option_map}
 use Rattle.rad_config.specs.Configurations.{Configuration}
 use Rattle.rad_config.specs.declared.spans.Spans.{Spans}
 
@@ -11,4 +11,8 @@ abbrev pub milliseconds : ℕ → ℕ
 milliseconds seconds = 1000 * seconds
 
 abbrev pub spans_of : Configuration → Spans
-spans_of configuration = record { window = milliseconds configuration.window; hold = milliseconds configuration.hold }
+spans_of configuration = record {
+  window = milliseconds configuration.window;
+  hold = milliseconds configuration.hold;
+  stale = option_map milliseconds configuration.stale;
+}

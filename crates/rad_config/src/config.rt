@@ -1,18 +1,19 @@
 //! The configuration of a server.
-ghost use Rattle.std.specs.Prelude.{◌≡◌, ◌≤◌, All, IfOk, false, length, ok_or};
+ghost use Rattle.std.specs.Prelude.{◌≡◌, ◌≤◌, All, IfOk, IfSome, false, length, ok_or};
 ghost use Rattle.std.specs.Int.{IsInRange};
 ghost use Rattle.toml.specs.Parse.{parse_document};
 ghost use Rattle.toml.specs.View.{table_view};
-ghost use Rattle.rad_config.specs.Configurations.{Gives, ordered_spans, overlap, pools_max, separate_pools};
+ghost use Rattle.rad_config.specs.Configurations.{Gives, is_below, ordered_spans, overlap, pools_max, separate_pools};
 ghost use Rattle.rad_config.specs.Ranges.{IsPool};
+ghost use Rattle.rad_config.specs.Spans.{milliseconds};
 
 use crate::entry::Entry;
-use crate::keys::{HOLD, WINDOW};
+use crate::keys::{HOLD, STALE, WINDOW};
 use crate::lists::{read_clients, read_pools, read_users};
 use crate::pool::Pool;
 use crate::read_pool::some_overlap;
 use crate::same::{same_pools, same_users};
-use crate::spans::Spans;
+use crate::spans::{Spans, Times};
 use crate::user::{User, Users};
 use rad_auth::Clients;
 use rad_config_fault::{ConfigFault, Part};
@@ -25,6 +26,7 @@ use toml::Table;
 pub struct Config {
     window: u32,
     hold: u32,
+    stale: Option<u32>,
     clients: Clients,
     pools: Vec<Pool>,
     users: Users,
@@ -39,6 +41,7 @@ impl Model for Config {
     ghost view = { λ config. record {
       window = config.window;
       hold = config.hold;
+      stale = config.stale;
       clients = config.clients;
       pools = config.pools.items;
       users = config.users;
@@ -47,6 +50,7 @@ impl Model for Config {
     ghost invariant = { λ config. IsConfiguration (record {
       window = config.window;
       hold = config.hold;
+      stale = config.stale;
       clients = config.clients;
       pools = config.pools.items;
       users = config.users;
@@ -62,9 +66,9 @@ impl Config {
     /// The configuration that a text says, or its first fault.
     ///
     /// The text is TOML; `docs/FORMATS.md` has the table of its keys. Checks are made in this order: `Syntax`; the keys at the
-    /// top, then `HoldBelowWindow`; the clients; the pools, then `PoolsOverlap`; the users. A list must be an array (`BadValue`),
-    /// and not too long (`TooMany`); then each entry is checked in order, key by key in the table's order. If an allocation
-    /// fails, `NoMemory` is returned before any later check.
+    /// top, then `HoldBelowWindow`, then `StaleBelowWindow`; the clients; the pools, then `PoolsOverlap`; the users. A list must be
+    /// an array (`BadValue`), and not too long (`TooMany`); then each entry is checked in order, key by key in the table's order.
+    /// If an allocation fails, `NoMemory` is returned before any later check.
     #[tactic(auto, unfolding(crate::specs::Configurations::configuration_of, crate::specs::Configurations::separate_pools))]
     pub fn read(alloc: Global, text: &str) -> Result<Config, ConfigFault>
         ensures { Gives (λ config. config) result (configuration_of text.now) }
@@ -74,10 +78,15 @@ impl Config {
         let clients = read_clients(alloc, &document)?;
         let pools = separate_pools(alloc, &document)?;
         let users = read_users(alloc, &pools, &document)?;
-        let (window, hold) = spans;
+        let Times {
+            window,
+            hold,
+            stale,
+        } = spans;
         Ok(Config {
             window,
             hold,
+            stale,
             clients,
             pools,
             users,
@@ -102,15 +111,30 @@ impl Config {
         self.hold
     }
 
+    /// How long an active session of which nothing is heard lives on, in seconds: from `window` to 604,800. If it is absent,
+    /// such a session lives on until it is stopped.
+    pub fn stale(&self) -> Option<u32>
+        ensures value { result ≡ self.now.stale }
+        ensures configuration { IsConfiguration self.now }
+    {
+        self.stale
+    }
+
     /// The same spans in milliseconds.
     pub fn spans(&self) -> Spans
         ensures value { result ≡ spans_of self.now }
         ensures configuration { IsConfiguration self.now }
     {
-        let Config { window, hold, .. } = self;
+        let Config {
+            window,
+            hold,
+            stale,
+            ..
+        } = self;
         Spans {
-            window: u64::from(*window) * 1_000,
-            hold: u64::from(*hold) * 1_000,
+            window: milliseconds(*window),
+            hold: milliseconds(*hold),
+            stale: stale.map(milliseconds),
         }
     }
 
@@ -171,12 +195,14 @@ impl Config {
         let Config {
             window,
             hold,
+            stale,
             clients,
             pools,
             users,
         } = self;
         *window == other.window
             && *hold == other.hold
+            && *stale == other.stale
             && clients.same(&other.clients)
             && same_pools(pools, &other.pools)
             && same_users(users.rows(), other.users.rows())
@@ -196,12 +222,19 @@ fn document(alloc: Global, text: &str) -> Result<Table, ConfigFault>
     })
 }
 
-// Window and hold, in seconds.
+fn milliseconds(seconds: u32) -> u64
+    ensures { result ≡ milliseconds seconds }
+{
+    u64::from(seconds) * 1_000
+}
+
+// Window, hold and stale; neither of the last two is below the window.
 #[tactic(auto, unfolding(crate::specs::Configurations::ordered_spans))]
-fn ordered_spans(document: &Table) -> Result<(u32, u32), ConfigFault>
+fn ordered_spans(document: &Table) -> Result<Times, ConfigFault>
     ensures read { Gives (λ spans. spans) result (ordered_spans (table_view document.now)) }
-    ensures window { IfOk result (λ spans. IsInRange 1 3600 spans.0) }
-    ensures hold { IfOk result (λ spans. IsInRange spans.0 86400 spans.1) }
+    ensures window { IfOk result (λ spans. IsInRange 1 3600 spans.window) }
+    ensures hold { IfOk result (λ spans. IsInRange spans.window 86400 spans.hold) }
+    ensures stale { IfOk result (λ spans. IfSome spans.stale (IsInRange spans.window 604800)) }
 {
     let top = Entry {
         part: Part::Top,
@@ -210,10 +243,25 @@ fn ordered_spans(document: &Table) -> Result<(u32, u32), ConfigFault>
     };
     let window = top.number_or_default(&WINDOW)?;
     let hold = top.number_or_default(&HOLD)?;
-    if hold < window {
+    let stale = top.number(&STALE)?;
+    if is_below(Some(hold), window) {
         return Err(ConfigFault::HoldBelowWindow);
     }
-    Ok((window, hold))
+    if is_below(stale, window) {
+        return Err(ConfigFault::StaleBelowWindow);
+    }
+    Ok(Times {
+        window,
+        hold,
+        stale,
+    })
+}
+
+// Whether a time is there, and below the window.
+fn is_below(time: Option<u32>, window: u32) -> bool
+    ensures { result ≡ is_below time window }
+{
+    time.is_some_and(|time| time < window)
 }
 
 // The pools of a document, no two of which share an address.

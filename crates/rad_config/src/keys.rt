@@ -73,6 +73,13 @@ pub const HOLD: DefaultRow = DefaultRow {
     default: 60,
 };
 
+/// In seconds.
+pub const STALE: NumberRow = NumberRow {
+    key: Key::Stale,
+    least: 1,
+    most: 604_800,
+};
+
 pub const CLIENT_ADDRESS: AddressRow = AddressRow {
     key: Key::Address,
     least: 0,

@@ -10,4 +10,14 @@ pub struct Spans {
     pub window: u64,
     /// How long an address is held for a session that hasn't reported its start, and a challenge can be answered.
     pub hold: u64,
+    /// How long an active session of which nothing is heard lives on; if it is absent, until it is stopped.
+    pub stale: Option<u64>,
+}
+
+/// The same in seconds, as a text says it.
+#[derive(Clone, Copy)]
+pub struct Times {
+    pub window: u32,
+    pub hold: u32,
+    pub stale: Option<u32>,
 }
