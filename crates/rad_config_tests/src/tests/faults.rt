@@ -13,6 +13,11 @@ fn each_fault_is_printed(rt: HostRuntime) {
         ("hold = \"x\"", "config fault 3 BadValue at top 0 hold"),
         ("hold = 29", "config fault 4 HoldBelowWindow"),
         ("window = 61", "config fault 4 HoldBelowWindow"),
+        ("stale = 0", "config fault 3 BadValue at top 0 stale"),
+        ("stale = 29", "config fault 8 StaleBelowWindow"),
+        ("stale = 30", "read"),
+        ("window = 60\nstale = 59", "config fault 8 StaleBelowWindow"),
+        ("hold = 90\nstale = 60", "read"),
         ("client = 3", "config fault 3 BadValue at client 0 list"),
         ("[client]", "config fault 3 BadValue at client 0 list"),
         ("client = [1]", "config fault 3 BadValue at client 1 entry"),
@@ -81,6 +86,16 @@ fn the_first_fault_is_reported(rt: HostRuntime) {
             "config fault 3 BadValue at top 0 window",
         ),
         ("hold = 29\nclient = 3", "config fault 4 HoldBelowWindow"),
+        (
+            "stale = 0\nhold = 0",
+            "config fault 3 BadValue at top 0 hold",
+        ),
+        (
+            "stale = 0\nhold = 29",
+            "config fault 3 BadValue at top 0 stale",
+        ),
+        ("stale = 29\nhold = 29", "config fault 4 HoldBelowWindow"),
+        ("stale = 29\nclient = 3", "config fault 8 StaleBelowWindow"),
         (
             "user = 3\npool = 3\nclient = 3",
             "config fault 3 BadValue at client 0 list",

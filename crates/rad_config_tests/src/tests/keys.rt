@@ -17,6 +17,12 @@ const NUMBERS: &[(&str, [i64; 2], [i64; 2], &str)] = &[
         "config fault 3 BadValue at top 0 hold",
     ),
     (
+        "window = 1\nstale",
+        [1, 604_800],
+        [0, 604_801],
+        "config fault 3 BadValue at top 0 stale",
+    ),
+    (
         "[[user]]\nname = \"a\"\npassword = \"b\"\nsessions",
         [1, 4_096],
         [0, 4_097],

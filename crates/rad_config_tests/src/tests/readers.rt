@@ -8,9 +8,11 @@ use std::test::Fail;
 fn is_empty(rt: &impl Abort, config: &Config) {
     holds(rt, config.window() == 30, "window");
     holds(rt, config.hold() == 60, "hold");
+    holds(rt, config.stale().is_none(), "no stale");
     let spans = Spans {
         window: 30_000,
         hold: 60_000,
+        stale: None,
     };
     holds(rt, config.spans() == spans, "spans");
     holds(rt, config.clients().is_empty(), "no clients");
@@ -23,6 +25,26 @@ fn is_empty(rt: &impl Abort, config: &Config) {
 fn the_empty_text_is_a_configuration(rt: HostRuntime) -> Result<(), Fail> {
     let config = Config::read(rt.alloc(), "")?;
     is_empty(&rt, &config);
+    Ok(())
+}
+
+// Asserts the three times of a text.
+fn is_timed(rt: &impl Abort, config: &Config) {
+    holds(rt, config.window() == 20, "window");
+    holds(rt, config.hold() == 40, "hold");
+    holds(rt, config.stale() == Some(604_800), "stale");
+    let spans = Spans {
+        window: 20_000,
+        hold: 40_000,
+        stale: Some(604_800_000),
+    };
+    holds(rt, config.spans() == spans, "spans");
+}
+
+#[test]
+fn times_are_seconds(rt: HostRuntime) -> Result<(), Fail> {
+    let config = Config::read(rt.alloc(), "stale = 604800\nhold = 40\nwindow = 20")?;
+    is_timed(&rt, &config);
     Ok(())
 }
 
@@ -142,12 +164,13 @@ fn a_user_has_what_the_text_says(rt: HostRuntime) -> Result<(), Fail> {
     Ok(())
 }
 
-const LINE_COUNT: usize = 18;
+const LINE_COUNT: usize = 19;
 
 // The lines of a configuration, each with another that says something else.
 const LINES: &[(&str, &str); LINE_COUNT] = &[
     ("window = 30", "window = 29"),
     ("hold = 60", "hold = 61"),
+    ("stale = 90", "stale = 91"),
     (
         "[[client]]\naddress = \"1.2.3.4\"",
         "[[client]]\naddress = \"1.2.3.5\"",
@@ -258,6 +281,10 @@ fn equal_texts_give_equal_configurations(rt: HostRuntime) -> Result<(), Fail> {
         (
             "hold = 60\n[[user]]\nname = \"n\"\npassword = \"p\"\n",
             true,
+        ),
+        (
+            "stale = 60\n[[user]]\nname = \"n\"\npassword = \"p\"\n",
+            false,
         ),
         (
             "\n[[user]]\nname = \"n\"\npassword = \"p\"\nservice_type = 3",
