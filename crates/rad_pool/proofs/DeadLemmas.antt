@@ -6,7 +6,7 @@ use Rattle.rad_config.specs.declared.pool.Pool.{Pool}
 use Rattle.rad_config.specs.declared.spans.Spans.{Spans}
 use Rattle.rad_places.specs.Places.{SeenPlaces}
 use Rattle.rad_rows.specs.Rows.{Tells, is_dead}
-use Rattle.rad_pool.specs.Counts.{IsCounted, one_open}
+use Rattle.rad_pool.specs.Counts.{IsCounted, one_open_by, user_of}
 use Rattle.rad_pool.specs.Dead.{IsLeastFreed, TakesLesser, TakesOpen, dead_sessions}
 use Rattle.rad_pool.specs.Grants.{has_address, is_held, least_free, open_sessions}
 use Rattle.rad_pool.specs.Sessions.{is_live, live_sessions}
@@ -22,7 +22,7 @@ open_fold : (dead : List Session) (old new : LiveOpen) → FoldsTo TakesOpen old
 open_fold [] old new h = omega (arith, ap (λ (t : LiveOpen). t.count) h)
 open_fold (x ∷ dead) old new h =
     let step : TakesOpen old x h.0 = h.1 in
-    omega (arith, open_fold dead h.0 new h.2, step.count, count_cons old.user x dead, ap (λ user. open_sessions user dead) step.user)
+    omega (arith, open_fold dead h.0 new h.2, step.count, count_cons user_of old.user x dead, ap (λ user. open_sessions user dead) step.user)
 
 pub live_open : (spans : Spans) (now : ℕ) (rows : List Session) (old new : LiveOpen) → old.count ≡ open_sessions old.user rows → Tells TakesOpen is_live spans now rows old new
     → new.count ≡ open_sessions old.user (live_sessions spans now rows)
@@ -31,7 +31,7 @@ live_open spans now rows old new is told =
       arith,
       open_fold (dead_sessions spans now rows) old new told,
       is,
-      sum_by-filter_both (is_live spans now) (is_dead is_live spans now) (λ x. refl) (one_open old.user) rows,
+      sum_by-filter_both (is_live spans now) (is_dead is_live spans now) (λ x. refl) (one_open_by user_of old.user) rows,
     )
 
 -- ---- the addresses of dead sessions

@@ -16,12 +16,11 @@ use Rattle.rad_config.specs.declared.pool.Pool.{Pool}
 use Rattle.rad_config.specs.declared.spans.Spans.{Spans}
 use Rattle.rad_pool.specs.Grants.{address_from, granted, has_address, is_held, last_number, least_free, open_sessions, pool_of, session_limit, with_session}
 use Rattle.rad_pool.specs.Lawful.{HaveOwnAddresses, IsInPool, IsLawful, IsLawfulSession, IsNumberedBefore}
-use Rattle.rad_pool.specs.Sessions.{Table, after_start, after_stop, cut, is_live, is_open, opening, sessions_max, started, stopped, with_phase}
+use Rattle.rad_pool.specs.Sessions.{Table, cut, if_numbered, is_live, is_open, opening, renewed, session_ended, session_renewed, session_reset, sessions_max, source_reset, stopped, with_each}
 use Rattle.rad_pool.specs.declared.grant.Grant.{Grant}
 use Rattle.rad_pool.specs.declared.grant.Refusal.{Refusal}
 use Rattle.rad_pool.specs.declared.grant.Refusal.TheVariants.{SessionLimit, NoAddress, Full}
-use Rattle.rad_pool.specs.declared.session.Phase.{Phase}
-use Rattle.rad_pool.specs.declared.session.Phase.TheVariants.{Pending, Active, Ended}
+use Rattle.rad_pool.specs.declared.session.Phase.TheVariants.{Pending, Active}
 use Rattle.rad_pool.specs.declared.session.Session.{Session}
 
 -- ---- lists
@@ -110,7 +109,7 @@ later_is_lawful configuration clock now table later lawful = record {
     client = known.client;
     user = known.user;
     address = known.address;
-    made = omega arith;
+    seen = (known.seen.0, omega (arith, known.seen.1));
   }) table.sessions lawful.sessions;
 }
 
@@ -186,22 +185,24 @@ granted_says configuration user table grant is =
     }
 
 -- a session that is granted is lawful by itself
-new_is_lawful : (configuration : Configuration) (client user now : ℕ) (grant : Grant) (table : Table)
+new_is_lawful : (configuration : Configuration) (client source user now : ℕ) (grant : Grant) (table : Table)
     → client < length configuration.clients → user < length configuration.users → AllowsGrant configuration user table grant → 1 ≤ table.next
     → IsLawfulSession configuration now (table.next + 1) (record {
       number = grant.number;
       client = client;
+      source = source;
       user = user;
       address = grant.address;
       phase = Pending;
       made = now;
+      seen = now;
     })
-new_is_lawful configuration client user now grant table known_client known_user facts counted = record {
+new_is_lawful configuration client source user now grant table known_client known_user facts counted = record {
   number = (omega arith, omega arith);
   client = known_client;
   user = known_user;
   address = IfSome_then grant.address (address_is_free table.sessions (pool_of configuration user) grant.address facts.address) (λ given free. free.0);
-  made = omega arith;
+  seen = (omega arith, omega arith);
 }
 
 -- one more open session of a user who may have one more
@@ -252,13 +253,13 @@ addresses_with_session sessions new own free one other address there here is sam
     by_cases (inr first) (inl second) = absurd (is_free other second same (ap (λ s. s.address) first ∙ is))
     by_cases (inr first) (inr second) = ap (λ s. s.number) (sym first ∙ second)
 
-pub with_session_is_lawful : (configuration : Configuration) (client user now : ℕ) (grant : Grant) (table : Table)
+pub with_session_is_lawful : (configuration : Configuration) (client source user now : ℕ) (grant : Grant) (table : Table)
     → client < length configuration.clients → user < length configuration.users → granted configuration user table ≡ Ok grant
-    → IsLawful configuration now table → IsLawful configuration now (with_session client user now grant table)
-with_session_is_lawful configuration client user now grant table known_client known_user is lawful =
+    → IsLawful configuration now table → IsLawful configuration now (with_session client source user now grant table)
+with_session_is_lawful configuration client source user now grant table known_client known_user is lawful =
     let sessions : List Session = table.sessions in
     let facts = granted_says configuration user table grant is in
-    let new : Session = record { number = grant.number; client = client; user = user; address = grant.address; phase = Pending; made = now } in
+    let new : Session = record { number = grant.number; client = client; source = source; user = user; address = grant.address; phase = Pending; made = now; seen = now } in
     let first : 1 ≤ table.next = lawful.next.0 in
     record {
       next = (omega arith, omega (arith, facts.last));
@@ -270,97 +271,125 @@ with_session_is_lawful configuration client user now grant table known_client kn
             client = known.client;
             user = known.user;
             address = known.address;
-            made = known.made;
+            seen = known.seen;
           }) sessions lawful.sessions)
-          (new_is_lawful configuration client user now grant table known_client known_user facts first);
+          (new_is_lawful configuration client source user now grant table known_client known_user facts first);
       limits = λ other. limits_with_session configuration user other sessions new refl facts.below (lawful.limits other);
       addresses = addresses_with_session sessions new lawful.addresses
           (IfSome_then grant.address (address_is_free sessions (pool_of configuration user) grant.address facts.address) (λ given free. free.1));
     }
 
--- ---- Start and Stop
+-- ---- reports
 
--- what a change of a session's phase keeps
-number_kept : (change : Phase → Phase) (number : ℕ) (session : Session) → (with_phase change number session).number ≡ session.number
-number_kept change number session =
-    cond_both (session.number == number) (record session { phase = change session.phase }) session (λ s. s.number ≡ session.number) (λ _. refl) (λ _. refl)
+-- a change of sessions that keeps what the law reads of others, keeps each session lawful, and opens none
+record IsLawfulChange (configuration : Configuration) (clock : ℕ) (change : Session → Session) : Type 0 where
+  number : (session : Session) → (change session).number ≡ session.number
+  address : (session : Session) → (change session).address ≡ session.address
+  law : (next : ℕ) (session : Session) → IsLawfulSession configuration clock next session → IsLawfulSession configuration clock next (change session)
+  opens_none : (user : ℕ) (session : Session) → (((change session).user == user) && is_open (change session).phase) ≡ true → ((session.user == user) && is_open session.phase) ≡ true
 
-address_kept : (change : Phase → Phase) (number : ℕ) (session : Session) → (with_phase change number session).address ≡ session.address
-address_kept change number session =
-    cond_both (session.number == number) (record session { phase = change session.phase }) session (λ s. s.address ≡ session.address) (λ _. refl) (λ _. refl)
+-- the same change of those that pass a test
+chosen : (configuration : Configuration) (clock : ℕ) (test : Session → Bool) (change : Session → Session) → IsLawfulChange configuration clock change
+    → IsLawfulChange configuration clock (λ session. cond (test session) (change session) session)
+chosen configuration clock test change lawful = record {
+  number = λ session. cond_both (test session) (change session) session (λ s. s.number ≡ session.number) (λ _. lawful.number session) (λ _. refl);
+  address = λ session. cond_both (test session) (change session) session (λ s. s.address ≡ session.address) (λ _. lawful.address session) (λ _. refl);
+  law = λ next session known.
+      cond_both (test session) (change session) session (IsLawfulSession configuration clock next) (λ _. lawful.law next session known) (λ _. known);
+  opens_none = λ user session.
+      cond_both (test session) (change session) session
+      (λ s. ((s.user == user) && is_open s.phase) ≡ true → ((session.user == user) && is_open session.phase) ≡ true)
+      (λ _. lawful.opens_none user session) (λ _ is. is);
+}
 
-law_kept : (configuration : Configuration) (clock next : ℕ) (change : Phase → Phase) (number : ℕ) (session : Session)
-    → IsLawfulSession configuration clock next session → IsLawfulSession configuration clock next (with_phase change number session)
-law_kept configuration clock next change number session known =
-    cond_both (session.number == number) (record session { phase = change session.phase }) session (IsLawfulSession configuration clock next)
-    (λ _. record {
-      number = known.number;
-      client = known.client;
-      user = known.user;
-      address = known.address;
-      made = known.made;
-    })
-    (λ _. known)
+-- an open session that is heard of now
+renewal_is_lawful : (configuration : Configuration) (clock : ℕ) → IsLawfulChange configuration clock (session_renewed clock)
+renewal_is_lawful configuration clock = record {
+  number = λ session. cond_both (is_open session.phase) (active session) session (λ s. s.number ≡ session.number) (λ _. refl) (λ _. refl);
+  address = λ session. cond_both (is_open session.phase) (active session) session (λ s. s.address ≡ session.address) (λ _. refl) (λ _. refl);
+  law = λ next session known.
+      cond_both (is_open session.phase) (active session) session (IsLawfulSession configuration clock next)
+      (λ _. record {
+        number = known.number;
+        client = known.client;
+        user = known.user;
+        address = known.address;
+        seen = (omega (arith, known.seen.0, known.seen.1), omega arith);
+      })
+      (λ _. known);
+  opens_none = λ user session.
+      cond_both (is_open session.phase) (active session) session
+      (λ s. ((s.user == user) && is_open s.phase) ≡ true → ((session.user == user) && is_open session.phase) ≡ true)
+      (λ opened is. and_from (session.user == user) (is_open session.phase) (and_parts (session.user == user) true is).0 opened)
+      (λ _ is. is);
+}
+  where
+    active : Session → Session
+    active session = record session { phase = Active; seen = clock }
 
--- the number at a place, after a change of phases
-number_at : (change : Phase → Phase) (number : ℕ) (sessions : List Session) (k : ℕ) (d : Session) → k < length sessions
-    → (get_or (map (with_phase change number) sessions) k d).number ≡ (get_or sessions k d).number
-number_at change number sessions k d within =
-    ap (λ s. s.number) (get_or-map (with_phase change number) sessions k d d within) ∙ number_kept change number (get_or sessions k d)
+-- a session that ends
+end_is_lawful : (configuration : Configuration) (clock : ℕ) → IsLawfulChange configuration clock session_ended
+end_is_lawful configuration clock = record {
+  number = λ session. refl;
+  address = λ session. refl;
+  law = λ next session known. record {
+    number = known.number;
+    client = known.client;
+    user = known.user;
+    address = known.address;
+    seen = known.seen;
+  };
+  opens_none = λ user session is. absurd (both_ways false refl (and_parts (session.user == user) false is).1);
+}
 
--- a session that is open after a change that opens none was open before
-was_open : (change : Phase → Phase) → ((phase : Phase) → is_open (change phase) ≡ true → is_open phase ≡ true)
-    → (number user : ℕ) (session : Session)
-    → (((with_phase change number session).user == user) && is_open (with_phase change number session).phase) ≡ true
-    → ((session.user == user) && is_open session.phase) ≡ true
-was_open change opens_none number user session =
-    cond_both (session.number == number) (record session { phase = change session.phase }) session
-    (λ s. ((s.user == user) && is_open s.phase) ≡ true → ((session.user == user) && is_open session.phase) ≡ true)
-    (λ _ is.
-    let parts = and_parts (session.user == user) (is_open (change session.phase)) is in
-    and_from (session.user == user) (is_open session.phase) parts.0 (opens_none session.phase parts.1))
-    (λ _ is. is)
+-- the number at a place, after a change
+number_at : (change : Session → Session) → ((session : Session) → (change session).number ≡ session.number) → (sessions : List Session) (k : ℕ) (d : Session) → k < length sessions
+    → (get_or (map change sessions) k d).number ≡ (get_or sessions k d).number
+number_at change keeps sessions k d within =
+    ap (λ s. s.number) (get_or-map change sessions k d d within) ∙ keeps (get_or sessions k d)
 
--- a change of one session's phase that opens none
-change_is_lawful : (change : Phase → Phase) → ((phase : Phase) → is_open (change phase) ≡ true → is_open phase ≡ true)
-    → (configuration : Configuration) (clock number : ℕ) (table : Table) → IsLawful configuration clock table
-    → IsLawful configuration clock (record table { sessions = map (with_phase change number) table.sessions })
-change_is_lawful change opens_none configuration clock number table lawful =
+change_is_lawful : (configuration : Configuration) (clock : ℕ) (change : Session → Session) → IsLawfulChange configuration clock change
+    → (table : Table) → IsLawful configuration clock table → IsLawful configuration clock (with_each change table)
+change_is_lawful configuration clock change changes table lawful =
     let sessions : List Session = table.sessions in
-    let changed : Session → Session = with_phase change number in
     record {
       next = lawful.next;
-      few = omega (arith, length-map sessions changed, lawful.few);
+      few = omega (arith, length-map sessions change, lawful.few);
       rising = λ i j d before within.
-          let there : j < length sessions = omega (arith, length-map sessions changed) in
-          let first = number_at change number sessions i d (omega arith) in
-          let second = number_at change number sessions j d there in
+          let there : j < length sessions = omega (arith, length-map sessions change) in
+          let first = number_at change changes.number sessions i d (omega arith) in
+          let second = number_at change changes.number sessions j d there in
           omega (arith, first, second, lawful.rising i j d before there);
-      sessions = All-map (IsLawfulSession configuration clock table.next) changed sessions
-          (All-weaker (IsLawfulSession configuration clock table.next) (λ s. IsLawfulSession configuration clock table.next (changed s))
-          (law_kept configuration clock table.next change number) sessions lawful.sessions);
+      sessions = All-map (IsLawfulSession configuration clock table.next) change sessions
+          (All-weaker (IsLawfulSession configuration clock table.next) (λ s. IsLawfulSession configuration clock table.next (change s))
+          (changes.law table.next) sessions lawful.sessions);
       limits = λ user.
           let is_counted : Session → Bool = λ session. (session.user == user) && is_open session.phase in
-          omega (arith, lawful.limits user, count_by-map-le is_counted changed sessions (was_open change opens_none number user));
+          omega (arith, lawful.limits user, count_by-map-le is_counted change sessions (changes.opens_none user));
       addresses = λ one other address there here is same.
-          let first = Contains-map changed sessions one there in
-          let second = Contains-map changed sessions other here in
-          let held = sym (address_kept change number first.0) ∙ ap (λ s. s.address) (sym first.2) ∙ is in
-          let held_too = sym (address_kept change number second.0) ∙ ap (λ s. s.address) (sym second.2) ∙ same in
-          let one_is = ap (λ s. s.number) first.2 ∙ number_kept change number first.0 in
-          let other_is = ap (λ s. s.number) second.2 ∙ number_kept change number second.0 in
+          let first = Contains-map change sessions one there in
+          let second = Contains-map change sessions other here in
+          let held = sym (changes.address first.0) ∙ ap (λ s. s.address) (sym first.2) ∙ is in
+          let held_too = sym (changes.address second.0) ∙ ap (λ s. s.address) (sym second.2) ∙ same in
+          let one_is = ap (λ s. s.number) first.2 ∙ changes.number first.0 in
+          let other_is = ap (λ s. s.number) second.2 ∙ changes.number second.0 in
           one_is ∙ lawful.addresses first.0 second.0 address first.1 second.1 held held_too ∙ sym other_is;
     }
 
-pub started_is_lawful : (configuration : Configuration) (clock number : ℕ) (table : Table) → IsLawful configuration clock table
-    → IsLawful configuration clock (started number table)
-started_is_lawful = change_is_lawful after_start (λ phase. opens_none phase)
-  where
-    opens_none : (phase : Phase) → is_open (after_start phase) ≡ true → is_open phase ≡ true
-    opens_none Pending is = refl
-    opens_none Active is = refl
-    opens_none Ended is = is
+pub renewed_is_lawful : (configuration : Configuration) (clock number : ℕ) (table : Table) → IsLawful configuration clock table
+    → IsLawful configuration clock (renewed number clock table)
+renewed_is_lawful configuration clock number table lawful =
+    change_is_lawful configuration clock (if_numbered (session_renewed clock) number)
+    (chosen configuration clock (λ session. session.number == number) (session_renewed clock) (renewal_is_lawful configuration clock)) table lawful
 
 pub stopped_is_lawful : (configuration : Configuration) (clock number : ℕ) (table : Table) → IsLawful configuration clock table
     → IsLawful configuration clock (stopped number table)
-stopped_is_lawful = change_is_lawful after_stop (λ phase is. absurd (cc))
+stopped_is_lawful configuration clock number table lawful =
+    change_is_lawful configuration clock (if_numbered session_ended number)
+    (chosen configuration clock (λ session. session.number == number) session_ended (end_is_lawful configuration clock)) table lawful
+
+pub reset_is_lawful : (configuration : Configuration) (clock source : ℕ) (table : Table) → IsLawful configuration clock table
+    → IsLawful configuration clock (source_reset source table)
+reset_is_lawful configuration clock source table lawful =
+    change_is_lawful configuration clock (session_reset source)
+    (chosen configuration clock (λ session. session.source == source) session_ended (end_is_lawful configuration clock)) table lawful

@@ -4,7 +4,7 @@ use Rattle.std.proofs.lemmas.Bool.{and_parts, cases_lt, eqb-true, eqb-false, leb
 use Rattle.std.proofs.lemmas.List.{get_or_past, get_or-set_same, get_or-set_other, length-set, get_or-replicate, length-replicate}
 use Rattle.std.proofs.lemmas.List.Elements.{All-map, All-weaker}
 use Rattle.std.proofs.lemmas.List.Filters.{sum_by-filter_both}
-use Rattle.std.proofs.lemmas.List.Sums.{count_by-le-length, sum_by-cons, sum_by_push}
+use Rattle.std.proofs.lemmas.List.Sums.{count_by-le-length, sum_by-append, sum_by-cons, sum_by_push}
 use Rattle.rad_config.specs.declared.spans.Spans.{Spans}
 use Rattle.rad_rows.specs.Rows.{Tells, is_dead}
 use Rattle.rad_places.specs.Places.{SeenPlaces, is_inside, place_of, without_use}
@@ -12,7 +12,7 @@ use Rattle.rad_pool.specs.declared.counts.Counts.{Counts}
 use Rattle.rad_pool.specs.declared.session.Session.{Session}
 use Rattle.rad_pool.specs.Counts.{HasLowUses, IsCounted, Leaves, change_at, place_in, places_come, places_left, with_holder}
 use Rattle.rad_pool.specs.Grants.{has_address}
-use Rattle.rad_pool.specs.Sessions.{after_stop, is_live, live_sessions, with_phase}
+use Rattle.rad_pool.specs.Sessions.{is_live, live_sessions, session_ended}
 
 -- ---- one address of one session
 
@@ -154,22 +154,37 @@ places_gone spans now rows left old new h is told =
       uses = λ a lt. omega (arith, uses_split spans now rows places a counted lt, ap (held_by (places.first + a)) is);
     }) old.pools.items h)
 
--- ---- a session that stops keeps its address
+-- ---- sessions that change, and keep their addresses
 
-phase_keeps : (address n : ℕ) (rows : List Session) → held_by address (map (with_phase after_stop n) rows) ≡ held_by address rows
-phase_keeps address n [] = refl
-phase_keeps address n (row ∷ rows) =
-    omega (arith, sum_by-cons (one address) (with_phase after_stop n row) (map (with_phase after_stop n) rows), sum_by-cons (one address) row rows, phase_keeps address n rows, same (eqb row.number n))
-  where
-    same : (b : Bool) → one address (cond b (record row { phase = after_stop row.phase }) row) ≡ one address row
-    same true = refl
-    same false = refl
-
-pub places_stopped : (n : ℕ) (rows rows' : List Session) (old new : Counts) → All (IsCounted rows) old.pools.items → rows' ≡ map (with_phase after_stop n) rows → new.pools.items ≡ old.pools.items → All (IsCounted rows') new.pools.items
-places_stopped n rows rows' old new h changed kept =
+-- other sessions, with the same addresses as often
+places_same : (rows rows' : List Session) (old new : Counts) → All (IsCounted rows) old.pools.items → ((address : ℕ) → held_by address rows' ≡ held_by address rows) → new.pools.items ≡ old.pools.items → All (IsCounted rows') new.pools.items
+places_same rows rows' old new h same kept =
     subst (All (IsCounted rows')) (sym kept) (All-weaker (IsCounted rows) (IsCounted rows') (λ places counted. record {
-      uses = λ a lt. counted.uses a lt ∙ sym (phase_keeps (places.first + a) n rows) ∙ sym (ap (held_by (places.first + a)) changed);
+      uses = λ a lt. counted.uses a lt ∙ sym (same (places.first + a));
     }) old.pools.items h)
+
+one_same : (address : ℕ) (x y : Session) → x.address ≡ y.address → one address x ≡ one address y
+one_same address x y same = sym (one_is address x) ∙ ap (λ o. cond {A = ℕ} (is_at address o) 1 0) same ∙ one_is address y
+
+held_changed : (change : Session → Session) → ((x : Session) → Session.address (change x) ≡ x.address) → (address : ℕ) (rows : List Session) → held_by address (map change rows) ≡ held_by address rows
+held_changed change keeps address [] = refl
+held_changed change keeps address (x ∷ rows) =
+    omega (arith, sum_by-cons (one address) (change x) (map change rows), sum_by-cons (one address) x rows, held_changed change keeps address rows, one_same address (change x) x (keeps x))
+
+pub places_changed : (change : Session → Session) (rows rows' : List Session) (old new : Counts) → ((x : Session) → Session.address (change x) ≡ x.address) → All (IsCounted rows) old.pools.items → rows' ≡ map change rows → new.pools.items ≡ old.pools.items → All (IsCounted rows') new.pools.items
+places_changed change rows rows' old new keeps h changed kept =
+    places_same rows rows' old new h (λ address. ap (held_by address) changed ∙ held_changed change keeps address rows) kept
+
+pub places_between : (before rest : List Session) (x : Session) (old new : Counts) → All (IsCounted (before ++ x ∷ rest)) old.pools.items → new.pools.items ≡ old.pools.items → All (IsCounted (before ++ session_ended x ∷ rest)) new.pools.items
+places_between before rest x old new h kept =
+    places_same (before ++ x ∷ rest) (before ++ session_ended x ∷ rest) old new h (λ address. omega (
+      arith,
+      sum_by-append (one address) before (x ∷ rest),
+      sum_by-append (one address) before (session_ended x ∷ rest),
+      sum_by-cons (one address) x rest,
+      sum_by-cons (one address) (session_ended x) rest,
+      one_same address (session_ended x) x refl,
+    )) kept
 
 -- ---- a session that comes
 

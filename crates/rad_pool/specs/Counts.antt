@@ -1,40 +1,62 @@
--- Counts of sessions: of the open ones of each user, and of those that have each address of a pool.
-use Rattle.std.specs.Prelude.{◌≡◌, ℕ, ◌+◌, ◌-◌, ◌<◌, ◌^◌, ◌==◌, ◌&&◌, Bool, List, length, slice_index, cond, count_by, map, All, Option, None, Some}
+-- Counts of sessions: of the open ones of each user and of each group of sources, and of those that have each address of a pool.
+use Rattle.std.specs.Prelude.{◌≡◌, ℕ, ◌+◌, ◌-◌, ◌<◌, ◌^◌, ◌==◌, ◌%◌, ◌&&◌, Bool, List, length, slice_index, cond, count_by, map, All, Option, None, Some}
 use Rattle.rad_places.specs.Places.{SeenPlaces, place_of, uses_at, with_note, with_use, without_use}
-use Rattle.rad_pool.specs.Grants.{has_address, open_sessions}
+use Rattle.rad_pool.specs.Grants.{has_address}
 use Rattle.rad_pool.specs.Sessions.{is_open}
 use Rattle.rad_pool.specs.declared.counts.Counts.{Counts}
+use Rattle.rad_pool.specs.declared.session.Phase.{Phase}
 use Rattle.rad_pool.specs.declared.session.Session.{Session}
 
+-- ---- open sessions by a key
+
+-- how many groups of sources there are: a prime, so that neighbours have groups of their own
+abbrev pub source_groups : ℕ
+source_groups = 4093
+
+-- the keys: a session's user, and the group of its source
+abbrev pub user_of : Session → ℕ
+user_of session = session.user
+
+abbrev pub group_of : Session → ℕ
+group_of session = session.source % source_groups
+
+-- whether a session is open and its key is this one
+abbrev pub is_open_by : (Session → ℕ) → ℕ → Session → Bool
+is_open_by key n session = (key session == n) && is_open session.phase
+
+-- how many it is of the open sessions with this key: one or none
+abbrev pub one_open_by : (Session → ℕ) → ℕ → Session → ℕ
+one_open_by key n session = cond (is_open_by key n session) 1 0
+
+-- the same of a session that was perhaps found
+abbrev pub found_open_by : (Session → ℕ) → ℕ → Option Session → ℕ
+found_open_by key n None = 0
+found_open_by key n (Some session) = one_open_by key n session
+
+-- how many open sessions have this key
+abbrev pub open_by : (Session → ℕ) → ℕ → List Session → ℕ
+open_by key n sessions = count_by (is_open_by key n) sessions
+
 -- ---- the counts of a list of sessions
+
+-- as many as there are open sessions with each key that there is a count for
+pub record CountsOpen (key : Session → ℕ) (sessions : List Session) (counts : List ℕ) : Type 0 where
+  pub is : (n : ℕ) → n < length counts → slice_index counts n ≡ open_by key n sessions
 
 -- as many uses of each address of a pool as sessions have it
 pub record IsCounted (sessions : List Session) (places : SeenPlaces) : Type 0 where
   pub uses : (place : ℕ) → place < length places.uses → uses_at place places ≡ count_by (has_address (places.first + place)) sessions
 
--- the counts of the users and of the pools that there are counts for
+-- the counts of all groups, and of the users and the pools that there are counts for
 pub record HoldsCounts (sessions : List Session) (counts : Counts) : Type 0 where
-  pub users : (user : ℕ) → user < length counts.users.items → slice_index counts.users.items user ≡ open_sessions user sessions
+  pub users : CountsOpen user_of sessions counts.users.items
+  pub sources : CountsOpen group_of sessions counts.sources.items
+  pub groups : length counts.sources.items ≡ source_groups
   pub pools : All (IsCounted sessions) counts.pools.items
 
 -- one use more of each address can be counted
 pub record HasLowUses (places : SeenPlaces) : Type 0 where
   pub low : (place : ℕ) → uses_at place places + 1 < 2 ^ 64
-
--- ---- a user's open sessions
-
--- whether a session is open and this user's
-abbrev pub is_open_of : ℕ → Session → Bool
-is_open_of user session = (session.user == user) && is_open session.phase
-
--- how many it is of this user's open sessions: one or none
-abbrev pub one_open : ℕ → Session → ℕ
-one_open user session = cond (is_open_of user session) 1 0
-
--- the same of a session that was perhaps found
-abbrev pub found_open : ℕ → Option Session → ℕ
-found_open user None = 0
-found_open user (Some session) = one_open user session
 
 -- ---- the addresses of a pool
 
@@ -62,23 +84,35 @@ places_left address places = change_at without_use (place_in address places) pla
 
 -- ---- changes of the counts
 
--- a session comes, Pending, with a user, an address and a number
-pub record Comes (old : Counts) (user : ℕ) (address : Option ℕ) (number : ℕ) (new : Counts) : Type 0 where
-  pub len : length new.users.items ≡ length old.users.items
-  pub users : (other : ℕ) → other < length old.users.items → slice_index old.users.items other + 1 < 2 ^ 64
-      → slice_index new.users.items other ≡ slice_index old.users.items other + cond (user == other) 1 0
-  pub pools : new.pools.items ≡ map (places_come address number) old.pools.items
+-- one more at a place, where one more can be counted
+pub record GainsOpen (at : ℕ) (old new : List ℕ) : Type 0 where
+  pub len : length new ≡ length old
+  pub is : (n : ℕ) → n < length old → slice_index old n + 1 < 2 ^ 64 → slice_index new n ≡ slice_index old n + cond (at == n) 1 0
+
+-- one less at a place, if the session whose phase it is was open
+pub record LosesAt (at : ℕ) (phase : Phase) (old new : List ℕ) : Type 0 where
+  pub len : length new ≡ length old
+  pub is : (n : ℕ) → n < length old → slice_index new n ≡ slice_index old n - cond ((at == n) && is_open phase) 1 0
+
+-- one less at the key of a session, if one was found and was open
+pub record LosesOpen (key : Session → ℕ) (found : Option Session) (old new : List ℕ) : Type 0 where
+  pub len : length new ≡ length old
+  pub is : (n : ℕ) → n < length old → slice_index new n ≡ slice_index old n - found_open_by key n found
+
+-- a session comes, Pending
+pub record Comes (old : Counts) (session : Session) (new : Counts) : Type 0 where
+  pub users : GainsOpen (user_of session) old.users.items new.users.items
+  pub sources : GainsOpen (group_of session) old.sources.items new.sources.items
+  pub pools : new.pools.items ≡ map (places_come session.address session.number) old.pools.items
 
 -- a session goes
 pub record Leaves (old : Counts) (session : Session) (new : Counts) : Type 0 where
-  pub len : length new.users.items ≡ length old.users.items
-  pub users : (user : ℕ) → user < length old.users.items
-      → slice_index new.users.items user ≡ slice_index old.users.items user - one_open user session
+  pub users : LosesOpen user_of (Some session) old.users.items new.users.items
+  pub sources : LosesOpen group_of (Some session) old.sources.items new.sources.items
   pub pools : new.pools.items ≡ map (places_left session.address) old.pools.items
 
 -- a session that was perhaps found ends, and keeps its address
 pub record Ends (old : Counts) (found : Option Session) (new : Counts) : Type 0 where
-  pub len : length new.users.items ≡ length old.users.items
-  pub users : (user : ℕ) → user < length old.users.items
-      → slice_index new.users.items user ≡ slice_index old.users.items user - found_open user found
+  pub users : LosesOpen user_of found old.users.items new.users.items
+  pub sources : LosesOpen group_of found old.sources.items new.sources.items
   pub pools : new.pools.items ≡ old.pools.items

@@ -3,7 +3,7 @@ use Rattle.std.specs.Prelude.{◌≡◌, ◌≢◌, ℕ, ◌+◌, ◌-◌, ◌<�
 use Rattle.rad_config.specs.declared.spans.Spans.{Spans}
 use Rattle.rad_places.specs.Places.{SeenPlaces, uses_at}
 use Rattle.rad_rows.specs.Rows.{is_dead}
-use Rattle.rad_pool.specs.Counts.{one_open}
+use Rattle.rad_pool.specs.Counts.{one_open_by, user_of}
 use Rattle.rad_pool.specs.Grants.{has_address, is_held}
 use Rattle.rad_pool.specs.Sessions.{is_live}
 use Rattle.rad_pool.specs.declared.free.LeastFreed.{LeastFreed}
@@ -17,7 +17,7 @@ dead_sessions spans now sessions = filter (is_dead is_live spans now) sessions
 -- one open session less, if it is one of the user's
 pub record TakesOpen (old : LiveOpen) (session : Session) (new : LiveOpen) : Type 0 where
   pub user : new.user ≡ old.user
-  pub count : new.count ≡ old.count - one_open old.user session
+  pub count : new.count ≡ old.count - one_open_by user_of old.user session
 
 -- the place of the session's address, if that is the lesser one
 pub record TakesLesser (old : LeastFreed) (session : Session) (new : LeastFreed) : Type 0 where

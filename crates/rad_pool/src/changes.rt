@@ -1,7 +1,7 @@
 //! Changes of the sessions that their counts follow.
 ghost use Rattle.std.specs.Prelude.{◌≡◌, ◌+◌, ◌++◌, ◌∷◌, [], map, true};
 ghost use Rattle.rad_pool.specs.Counts.{HoldsCounts};
-ghost use Rattle.rad_pool.specs.Sessions.{after_stop, is_open, with_phase};
+ghost use Rattle.rad_pool.specs.Sessions.{if_numbered, is_open, session_ended, session_reset};
 
 use crate::counts::Counts;
 use crate::report::Report;
@@ -21,7 +21,7 @@ pub(crate) fn add(rows: &mut Rows<Session, Spans>, counts: &mut Counts, session:
     ensures spans { rows.new.spans ≡ rows.old.spans }
 {
     let _last = rows.last();
-    counts.come(session.user, session.address, session.number);
+    counts.come(&session);
     rows.push(session);
 }
 
@@ -29,7 +29,7 @@ pub(crate) fn add(rows: &mut Rows<Session, Spans>, counts: &mut Counts, session:
 pub(crate) fn stop(rows: &mut Rows<Session, Spans>, counts: &mut Counts, number: u64)
     requires { HoldsCounts rows.old.rows counts.old }
     ensures counts { HoldsCounts rows.new.rows counts.new }
-    ensures rows { rows.new.rows ≡ map (with_phase after_stop number) rows.old.rows }
+    ensures rows { rows.new.rows ≡ map (if_numbered session_ended number) rows.old.rows }
     ensures last { rows.new.last ≡ rows.old.last }
     ensures spans { rows.new.spans ≡ rows.old.spans }
     ensures room { rows.new.has_room ≡ rows.old.has_room }
@@ -38,4 +38,32 @@ pub(crate) fn stop(rows: &mut Rows<Session, Spans>, counts: &mut Counts, number:
     let found = rows.get(number).copied();
     counts.end(found);
     rows.change(number, &Report::Stop);
+}
+
+/// Each session of this source has ended.
+pub(crate) fn reset(rows: &mut Rows<Session, Spans>, counts: &mut Counts, source: u32)
+    requires { HoldsCounts rows.old.rows counts.old }
+    ensures counts { HoldsCounts rows.new.rows counts.new }
+    ensures rows { rows.new.rows ≡ map (session_reset source) rows.old.rows }
+    ensures last { rows.new.last ≡ rows.old.last }
+    ensures spans { rows.new.spans ≡ rows.old.spans }
+    ensures room { rows.new.has_room ≡ rows.old.has_room }
+{
+    if counts.none_open(source) {
+        return;
+    }
+    end_all(rows, counts, source);
+    rows.change_all(&Report::Reset(source));
+}
+
+// The counts follow before the sessions change.
+fn end_all(rows: &Rows<Session, Spans>, counts: &mut Counts, source: u32)
+    requires { HoldsCounts rows.now.rows counts.old }
+    ensures { HoldsCounts (map (session_reset source) rows.now.rows) counts.new }
+{
+    for session in rows.iter() {
+        if session.source == source {
+            counts.end(Some(*session));
+        }
+    }
 }

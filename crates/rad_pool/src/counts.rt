@@ -1,7 +1,7 @@
-//! How many open sessions each user has, and how many sessions have each address of a pool.
-ghost use Rattle.std.specs.Prelude.{◌≡◌, ℕ, ◌<◌, ◌+◌, ◌-◌, ◌^◌, [], All, IfOk, cond, length, map, nat_eq, slice_index};
+//! How many open sessions each user and each group of sources has, and how many sessions have each address of a pool.
+ghost use Rattle.std.specs.Prelude.{◌≡◌, ◌%◌, ◌==◌, ◌<◌, [], All, IfOk, length, map, replicate, slice_index};
 ghost use Rattle.rad_config.specs.Ranges.{IsPool};
-ghost use Rattle.rad_pool.specs.Counts.{Comes, Ends, HasLowUses, HoldsCounts, IsCounted, Leaves, one_open, places_come, places_left};
+ghost use Rattle.rad_pool.specs.Counts.{Comes, Ends, GainsOpen, HasLowUses, HoldsCounts, IsCounted, Leaves, LosesAt, places_come, places_left, source_groups};
 
 use crate::session::{Phase, Session};
 use rad_config::{Config, Pool};
@@ -9,11 +9,16 @@ use rad_places::Places;
 use rad_rows::Tally;
 use std::alloc::{AllocError, Global};
 
-/// Counts for the users and the pools of the configuration that the table was opened with.
+// How many groups of sources there are: a prime, so that neighbours have groups of their own.
+const SOURCE_GROUPS: usize = 4_093;
+
+/// Counts for the groups of sources, and for the users and the pools of the configuration that the table was opened with.
 #[derive(Drop)]
 pub(crate) struct Counts {
     /// How many Pending and Active sessions each user has.
     pub(crate) users: Vec<u64>,
+    /// How many Pending and Active sessions each group of sources has.
+    pub(crate) sources: Vec<u64>,
     /// How many sessions, ended ones included, have each address, and the number of the one that got it last.
     pub(crate) pools: Vec<Places>,
 }
@@ -23,28 +28,40 @@ impl Counts {
     pub(crate) fn open(alloc: Global, config: &Config) -> Result<Counts, AllocError>
         ensures { IfOk result (HoldsCounts []) }
     {
-        let users = vec![in alloc; 0; config.users().len()]?;
+        let users = zeros(alloc, config.users().len())?;
+        let sources = zeros(alloc, SOURCE_GROUPS)?;
         let pools = open_pools(alloc, config.pools())?;
-        Ok(Counts { users, pools })
+        Ok(Counts {
+            users,
+            sources,
+            pools,
+        })
     }
 
     /// Equal counts.
     pub(crate) fn copy(&self) -> Result<Counts, AllocError>
         ensures users { IfOk result (λ copy. copy.users.items ≡ self.now.users.items) }
+        ensures sources { IfOk result (λ copy. copy.sources.items ≡ self.now.sources.items) }
         ensures pools { IfOk result (λ copy. copy.pools.items ≡ self.now.pools.items) }
     {
         let users = self.users.clone()?;
+        let sources = self.sources.clone()?;
         let pools = copy_pools(&self.pools)?;
-        Ok(Counts { users, pools })
+        Ok(Counts {
+            users,
+            sources,
+            pools,
+        })
     }
 
     /// A session comes, which is Pending.
-    pub(crate) fn come(&mut self, user: u32, address: Option<u32>, number: u64)
+    pub(crate) fn come(&mut self, session: &Session)
         requires { All HasLowUses self.old.pools.items }
-        ensures { Comes self.old user address number self.new }
+        ensures { Comes self.old session.now self.new }
     {
-        add_open(&mut self.users, user);
-        come_to_pools(&mut self.pools, address, number);
+        add_open(&mut self.users, session.user as usize);
+        add_open(&mut self.sources, group_of(session.source));
+        come_to_pools(&mut self.pools, session.address, session.number);
     }
 
     /// The session that was found, if one was, ends. It keeps its address.
@@ -52,8 +69,17 @@ impl Counts {
         ensures { Ends self.old found self.new }
     {
         if let Some(session) = found {
-            remove_open(&mut self.users, &session);
+            remove_open(&mut self.users, session.user as usize, session.phase);
+            remove_open(&mut self.sources, group_of(session.source), session.phase);
         }
+    }
+
+    /// Whether no session of a group of sources is open: that of this source, and perhaps of others.
+    pub(crate) fn none_open(&self, source: u32) -> bool
+        requires { length self.now.sources.items ≡ source_groups }
+        ensures { result ≡ (slice_index self.now.sources.items (source % source_groups) == 0) }
+    {
+        self.sources[group_of(source)] == 0
     }
 }
 
@@ -62,30 +88,41 @@ impl Tally<Session> for Counts {
     ghost told = { λ old session new. Leaves old session new };
 
     fn leave(&mut self, session: &Session) {
-        remove_open(&mut self.users, session);
+        remove_open(&mut self.users, session.user as usize, session.phase);
+        remove_open(&mut self.sources, group_of(session.source), session.phase);
         leave_pools(&mut self.pools, session.address);
     }
 }
 
-// One open session more of a user.
-fn add_open(users: &mut [u64], user: u32)
-    ensures { (other : ℕ) → other < length users.old → slice_index users.old other + 1 < 2 ^ 64 →
-        slice_index users.new other ≡ slice_index users.old other + cond (nat_eq user other) 1 0 }
+fn zeros(alloc: Global, len: usize) -> Result<Vec<u64>, AllocError>
+    ensures { IfOk result (λ counts. counts.items ≡ replicate len 0) }
 {
-    let place = user as usize;
-    if place < users.len() {
-        users[place] = users[place].saturating_add(1);
+    vec![in alloc; 0; len]
+}
+
+// The group of a source.
+fn group_of(source: u32) -> usize
+    ensures is { result ≡ source % source_groups }
+    ensures within { result < source_groups }
+{
+    source as usize % SOURCE_GROUPS
+}
+
+// One open session more at a place.
+fn add_open(counts: &mut [u64], place: usize)
+    ensures { GainsOpen place counts.old counts.new }
+{
+    if place < counts.len() {
+        counts[place] = counts[place].saturating_add(1);
     }
 }
 
-// One open session less of its user, if the session was open.
-fn remove_open(users: &mut [u64], session: &Session)
-    ensures { (user : ℕ) → user < length users.old →
-        slice_index users.new user ≡ slice_index users.old user - one_open user session.now }
+// One open session less at a place, if the session of this phase was open.
+fn remove_open(counts: &mut [u64], place: usize, phase: Phase)
+    ensures { LosesAt place phase counts.old counts.new }
 {
-    let place = session.user as usize;
-    if session.phase != Phase::Ended && place < users.len() {
-        users[place] = users[place].saturating_sub(1);
+    if phase != Phase::Ended && place < counts.len() {
+        counts[place] = counts[place].saturating_sub(1);
     }
 }
 

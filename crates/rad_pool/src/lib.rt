@@ -2,7 +2,8 @@
 //! 2.2.2).
 //!
 //! `Sessions` is a list, oldest first, which `expire` and `grant` cut to the live sessions. `grant` adds a session with the least
-//! free address of the user's pool, `start` and `stop` change its phase, and `find` is how an Accounting-Request names one.
+//! free address of the user's pool, `start`, `renew`, `stop` and `end_source` follow what is reported, and `find` is how an
+//! Accounting-Request names one.
 //!
 //! Other crates rest on this: what each call does to the list is what `specs/Sessions.antt`, `specs/Grants.antt` and
 //! `specs/Meant.antt` say. `lawful_tables` says what these calls keep true of a lawful table (`specs/Lawful.antt`).

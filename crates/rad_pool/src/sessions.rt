@@ -4,7 +4,7 @@ ghost use Rattle.std.specs.Iterator.{YieldsFirst, item_count};
 ghost use Rattle.rad_config.specs.Spans.{moment_max, spans_of};
 ghost use Rattle.rad_pool.specs.Grants.{IsGranted, granted, with_session};
 ghost use Rattle.rad_pool.specs.Meant.{meant};
-ghost use Rattle.rad_pool.specs.Sessions.{AreSame, cut, opening, started, stopped};
+ghost use Rattle.rad_pool.specs.Sessions.{AreSame, cut, opening, renewed, source_reset, stopped};
 
 use crate::counts::Counts;
 use crate::grant::{Grant, Refusal};
@@ -22,26 +22,19 @@ pub const SESSIONS_MAX: usize = 4_096;
 /// The sessions, oldest first, and the number of the next one.
 ///
 /// Contracts see the list, the next number, how long sessions are remembered, and whether memory is ready for one more. Moments
-/// are in milliseconds, at most `MOMENT_MAX`, and need not rise.
+/// are in milliseconds, at most `MOMENT_MAX`, and need not rise; but a lawful table stays lawful only while they don't fall.
+#[derive(Drop)]
 pub struct Sessions {
     rows: rad_rows::Rows<Session, Spans>,
     counts: Counts,
 }
 
-impl Drop for Sessions {
-    fn drop(self) {
-        let Sessions { rows, counts } = self;
-        drop(rows);
-        drop(counts);
-    }
-}
-
 impl Model for Sessions {
     ghost use Rattle.std.specs.Prelude.{◌+◌};
     ghost use Rattle.rad_pool.specs.Counts.{HoldsCounts};
-    ghost use Rattle.rad_pool.specs.Sessions.{Seen};
+    ghost use Rattle.rad_pool.specs.Sessions.{SeenSessions};
 
-    ghost Value = { Seen };
+    ghost Value = { SeenSessions };
 
     ghost view = { λ sessions. record {
       table = record {
@@ -129,19 +122,20 @@ impl Sessions {
     }
 
     /// Removes the sessions that are no longer live, and adds one for the user at place `user`: Pending, with the next number, and
-    /// with the least address of the user's pool that no session has.
+    /// with the least address of the user's pool that no session has. `source` is the address that the Access-Request came from.
     ///
     /// Refusals are reported in the order of `Refusal`. After `NoMemory` nothing has changed; after `room` it doesn't come.
     pub fn grant(
         &mut self,
         config: &Config,
         client: u32,
+        source: u32,
         user: u32,
         now: u64,
     ) -> Result<Grant, Refusal>
         requires user { user < length config.now.users }
         requires moment { now ≤ moment_max }
-        ensures outcome { IsGranted config.now client user now
+        ensures outcome { IsGranted config.now client source user now
             self.old.table result self.new.table }
         ensures after_room { self.old.has_room ≡ true → IsErrOf result Refusal.NoMemory → ⊥ }
     {
@@ -156,47 +150,70 @@ impl Sessions {
             return Err(Refusal::NoMemory);
         }
         self.expire(now);
-        self.add(client, user, grant, now);
+        self.add(client, source, user, grant, now);
         Ok(grant)
     }
 
-    /// Adds a session that `peek` granted: Pending, for the client at place `client` and the user at place `user`. Memory was made
-    /// ready for it.
-    pub fn add(&mut self, client: u32, user: u32, grant: Grant, now: u64)
+    /// Adds a session that `peek` granted, after `expire` at the same moment: Pending, for the client at place `client` and the user
+    /// at place `user`, with the source of the Access-Request. Memory was made ready for it.
+    pub fn add(&mut self, client: u32, source: u32, user: u32, grant: Grant, now: u64)
         requires room { self.old.has_room ≡ true }
         requires number { grant.number ≡ self.old.table.next }
-        ensures table { self.new.table ≡ with_session client user now grant self.old.table }
+        ensures table { self.new.table ≡ with_session client source user now grant self.old.table }
     {
         let session = Session {
             number: grant.number,
             client,
+            source,
             user,
             address: grant.address,
             phase: Phase::Pending,
             made: now,
+            seen: now,
         };
         changes::add(&mut self.rows, &mut self.counts, session);
     }
 
-    /// A Start was reported: the session of this number is Active if it was Pending.
+    /// A Start was reported: the session of this number is Active, and was seen now. One that has ended stays so.
     ///
     /// With a number of no session nothing changes. Source: RFC 2866, section 5.1.
-    pub fn start(&mut self, number: u64)
-        ensures started { self.new.table ≡ started number self.old.table }
+    pub fn start(&mut self, number: u64, now: u64)
+        ensures renewed { self.new.table ≡ renewed number now self.old.table }
         ensures room { self.old.has_room ≡ true → self.new.has_room ≡ true }
     {
-        self.rows.change(number, &Report::Start);
+        self.renew(number, now);
+    }
+
+    /// An Interim-Update was reported. It does what a Start does, so it makes up for one that was lost.
+    ///
+    /// With a number of no session nothing changes. Source: RFC 2866, section 5.1.
+    pub fn renew(&mut self, number: u64, now: u64)
+        ensures renewed { self.new.table ≡ renewed number now self.old.table }
+        ensures room { self.old.has_room ≡ true → self.new.has_room ≡ true }
+    {
+        self.rows.change(number, &Report::Renewal(now));
     }
 
     /// A Stop was reported: the session of this number has ended.
     ///
-    /// It keeps its address until `window` after its grant. With a number of no session nothing changes. Source: RFC 2866,
-    /// section 5.1.
+    /// It keeps its address until `window` after its grant, or until the next expiry if that has passed. With a number of no session
+    /// nothing changes. Source: RFC 2866, section 5.1.
     pub fn stop(&mut self, number: u64)
         ensures stopped { self.new.table ≡ stopped number self.old.table }
         ensures room { self.old.has_room ≡ true → self.new.has_room ≡ true }
     {
         changes::stop(&mut self.rows, &mut self.counts, number);
+    }
+
+    /// An Accounting-On or an Accounting-Off was reported: each session whose Access-Request came from this address has ended.
+    ///
+    /// Only the address counts, not the client. The sessions keep their addresses as after a Stop. Where no open session is of that
+    /// address nothing changes, and mostly none is looked at. Source: RFC 2866, section 5.1.
+    pub fn end_source(&mut self, source: u32)
+        ensures reset { self.new.table ≡ source_reset source self.old.table }
+        ensures room { self.old.has_room ≡ true → self.new.has_room ≡ true }
+    {
+        changes::reset(&mut self.rows, &mut self.counts, source);
     }
 
     /// The number of the session that an Accounting-Request of a client means.

@@ -5,6 +5,8 @@ mod limits;
 mod pair;
 mod pairs;
 mod plain;
+mod resets;
+mod silent;
 mod wide;
 
 use rad_config::{Config, MOMENT_MAX};
@@ -13,8 +15,8 @@ use std::alloc::Global;
 use std::process::Abort;
 use std::test::Fail;
 
-/// Two clients; users who share a pool of one address, one with two sessions and two addresses, and one with many sessions and
-/// no address.
+/// Two clients; users who share a pool of one address, one with two sessions and two addresses, and without addresses one with many
+/// sessions and one with one.
 const CAMPUS: &str = r#"
 window = 30
 hold = 60
@@ -57,6 +59,10 @@ sessions = 2
 name = "many"
 password = "p"
 sessions = 4096
+
+[[user]]
+name = "solo"
+password = "p"
 "#;
 
 const NEMO: u32 = 0;
@@ -67,6 +73,8 @@ const BRUCE: u32 = 2;
 
 const MANY: u32 = 3;
 
+const SOLO: u32 = 4;
+
 /// The address of the pool `one`, and those of the pool `two`.
 const ONE: u32 = 0x0A00_0001;
 
@@ -74,15 +82,34 @@ const TWO: u32 = 0x0A00_0201;
 
 const TWO_NEXT: u32 = 0x0A00_0202;
 
+/// Who asks for a session: the client's place, and the address that its Access-Request comes from.
+#[derive(Clone, Copy)]
+struct Asker {
+    client: u32,
+    source: u32,
+}
+
+/// The first client, at its own address.
+const HERE: Asker = Asker {
+    client: 0,
+    source: 0xC0A8_0110,
+};
+
 /// A call, and what it must return or leave.
 #[derive(Clone, Copy)]
 enum Call {
     /// A user of the first client is granted the session with this number and address.
     Grant(u32, u64, Option<u32>),
+    /// The same of a session that another asks for.
+    GrantFrom(Asker, u32, u64, Option<u32>),
     /// A user is refused a session.
     Refuse(u32, Refusal),
     Start(u64),
+    /// An Interim-Update.
+    Renew(u64),
     Stop(u64),
+    /// An Accounting-On or an Accounting-Off of a source.
+    Reset(u32),
     Expire,
     /// The number and phase of each session, oldest first.
     Rows(&'static [(u64, Phase)]),
@@ -102,6 +129,13 @@ fn play(rt: &impl Abort, alloc: Global, rows: &[Row]) -> Result<(), Fail> {
     play_over(rt, alloc, &config, rows)
 }
 
+// The same where a session is stale after 100 seconds.
+fn play_with_stale(rt: &impl Abort, alloc: Global, rows: &[Row]) -> Result<(), Fail> {
+    let text = format!(in alloc; "stale = 100\n{CAMPUS}")?;
+    let config = Config::read(alloc, &text)?;
+    play_over(rt, alloc, &config, rows)
+}
+
 fn play_over(rt: &impl Abort, alloc: Global, config: &Config, rows: &[Row]) -> Result<(), Fail> {
     let mut sessions = Sessions::open(alloc, config)?;
     for row in rows.iter() {
@@ -115,23 +149,35 @@ fn play_over(rt: &impl Abort, alloc: Global, config: &Config, rows: &[Row]) -> R
 fn make(sessions: &mut Sessions, config: &Config, now: u64, call: &Call) -> bool {
     match call {
         Call::Grant(user, number, address) => {
-            let grant = Grant {
-                number: *number,
-                address: *address,
-            };
-            ask(sessions, config, *user, now) == Some(Ok(grant))
+            let grant = grant_of(*number, *address);
+            ask(sessions, config, *user, now) == grant
+        }
+        Call::GrantFrom(asker, user, number, address) => {
+            let grant = grant_of(*number, *address);
+            ask_from(sessions, config, *asker, *user, now) == grant
         }
         Call::Refuse(user, refusal) => ask(sessions, config, *user, now) == Some(Err(*refusal)),
-        Call::Start(number) => {
-            sessions.start(*number);
-            true
-        }
-        Call::Stop(number) => {
-            sessions.stop(*number);
-            true
-        }
         Call::Expire => expire(sessions, now),
         Call::Rows(wanted) => are_rows(sessions, wanted),
+        report => {
+            tell(sessions, now, report);
+            true
+        }
+    }
+}
+
+fn grant_of(number: u64, address: Option<u32>) -> Option<Result<Grant, Refusal>> {
+    Some(Ok(Grant { number, address }))
+}
+
+// Makes the call of a report.
+fn tell(sessions: &mut Sessions, now: u64, report: &Call) {
+    match report {
+        Call::Start(number) => sessions.start(*number, now),
+        Call::Renew(number) => sessions.renew(*number, now),
+        Call::Stop(number) => sessions.stop(*number),
+        Call::Reset(source) => sessions.end_source(*source),
+        _ => {}
     }
 }
 
@@ -142,11 +188,22 @@ fn ask(
     user: u32,
     now: u64,
 ) -> Option<Result<Grant, Refusal>> {
+    ask_from(sessions, config, HERE, user, now)
+}
+
+// The same for one who asks.
+fn ask_from(
+    sessions: &mut Sessions,
+    config: &Config,
+    asker: Asker,
+    user: u32,
+    now: u64,
+) -> Option<Result<Grant, Refusal>> {
     if config.users().len() <= user as usize || MOMENT_MAX < now {
         return None;
     }
-    let peeked = sessions.peek(config, 0, user, now);
-    let granted = sessions.grant(config, 0, user, now);
+    let peeked = sessions.peek(config, asker.client, user, now);
+    let granted = sessions.grant(config, asker.client, asker.source, user, now);
     if granted == peeked {
         Some(granted)
     } else {

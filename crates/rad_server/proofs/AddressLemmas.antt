@@ -1,5 +1,5 @@
 -- The address of a kept Access-Accept is that of its session, for as long as the reply is kept.
-use Rattle.std.proofs.Common.{◌≡◌, ℕ, ◌+◌, ◌≤◌, ◌<◌, Bool, true, false, cond, eqb, nat_lt, List, [], ◌∷◌, ◌++◌, map, filter, find, All, Contains, Option, Some, None, option_map, arith, refl, sym, ap, ◌∙◌}
+use Rattle.std.proofs.Common.{◌≡◌, ℕ, ◌+◌, ◌≤◌, ◌<◌, Bool, true, false, cond, eqb, nat_lt, List, [], ◌∷◌, ◌++◌, map, filter, find, All, Contains, Option, Some, None, IfSome, option_map, arith, refl, sym, ap, ◌∙◌}
 use Rattle.std.proofs.lemmas.Bool.{eqb-true, ltb-true, lt-ltb}
 use Rattle.std.proofs.lemmas.List.Elements.{All-cons, All-contains, All-nil, All-weaker, Contains-append_left, Contains-append_right, Contains-push}
 use Rattle.rad_packet.specs.Attributes.{Attribute, first_value, is_of, of_kind}
@@ -8,7 +8,7 @@ use Rattle.rad_packet.specs.Packets.{Packet}
 use Rattle.rad_config.specs.declared.spans.Spans.{Spans}
 use Rattle.rad_config.specs.declared.user.User.{User}
 use Rattle.rad_pool.specs.Grants.{with_session}
-use Rattle.rad_pool.specs.Sessions.{Table, after_start, after_stop, cut, is_live, lives, started, stopped, with_phase}
+use Rattle.rad_pool.specs.Sessions.{Table, cut, if_numbered, is_live, is_open, lasts_unless_stale, lives, renewed, session_ended, session_renewed, session_reset, source_reset, stopped, with_each}
 use Rattle.rad_pool.specs.declared.grant.Grant.{Grant}
 use Rattle.rad_pool.specs.declared.session.Phase.{Phase}
 use Rattle.rad_pool.specs.declared.session.Phase.TheVariants.{Pending, Active, Ended}
@@ -150,46 +150,67 @@ still_has old new body made keeps has accept value gives =
       still.2.made ∙ found.3,
     )
 
--- a grant, a Start and a Stop keep sessions
-pub grant_keeps : (client user now : ℕ) (grant : Grant) (table : Table) → KeepsSessions table (with_session client user now grant table)
-grant_keeps client user now grant table = λ session there.
+-- a grant and each report keep sessions
+pub grant_keeps : (client source user now : ℕ) (grant : Grant) (table : Table) → KeepsSessions table (with_session client source user now grant table)
+grant_keeps client source user now grant table = λ session there.
     (session, Contains-append_left table.sessions _ session there, record { number = refl; address = refl; made = refl })
 
-phase_is_still : (change : Phase → Phase) (number : ℕ) (session : Session) → IsStill session (with_phase change number session)
-phase_is_still change number session = at (eqb session.number number)
-  where
-    at : (b : Bool) → IsStill session (cond b (record session { phase = change session.phase }) session)
-    at true = record { number = refl; address = refl; made = refl }
-    at false = record { number = refl; address = refl; made = refl }
+-- a session is still there, changed or not
+either_is_still : (b : Bool) (session changed : Session) → IsStill session changed → IsStill session (cond b changed session)
+either_is_still true session changed is = is
+either_is_still false session changed is = record { number = refl; address = refl; made = refl }
 
-phase_keeps : (change : Phase → Phase) (number : ℕ) (table : Table)
-    → KeepsSessions table (record table { sessions = map (with_phase change number) table.sessions })
-phase_keeps change number table = λ session there. (
-  with_phase change number session,
-  All-contains (λ s. Contains (map (with_phase change number) table.sessions) (with_phase change number s)) table.sessions session
-      (contains_mapped (with_phase change number) table.sessions) there,
-  phase_is_still change number session,
+each_keeps : (change : Session → Session) → ((session : Session) → IsStill session (change session)) → (table : Table) → KeepsSessions table (with_each change table)
+each_keeps change is_still table = λ session there. (
+  change session,
+  All-contains (λ s. Contains (map change table.sessions) (change s)) table.sessions session (contains_mapped change table.sessions) there,
+  is_still session,
 )
 
-pub start_keeps : (number : ℕ) (table : Table) → KeepsSessions table (started number table)
-start_keeps number table = phase_keeps after_start number table
+pub renewal_keeps : (number now : ℕ) (table : Table) → KeepsSessions table (renewed number now table)
+renewal_keeps number now table =
+    each_keeps (if_numbered (session_renewed now) number)
+    (λ session. either_is_still (eqb session.number number) session (session_renewed now session)
+    (either_is_still (is_open session.phase) session (record session { phase = Active; seen = now }) (record { number = refl; address = refl; made = refl }))) table
+
+end_is_still : (session : Session) → IsStill session (session_ended session)
+end_is_still session = record { number = refl; address = refl; made = refl }
 
 pub stop_keeps : (number : ℕ) (table : Table) → KeepsSessions table (stopped number table)
-stop_keeps number table = phase_keeps after_stop number table
+stop_keeps number table =
+    each_keeps (if_numbered session_ended number) (λ session. either_is_still (eqb session.number number) session (session_ended session) (end_is_still session)) table
+
+pub reset_keeps : (source : ℕ) (table : Table) → KeepsSessions table (source_reset source table)
+reset_keeps source table =
+    each_keeps (session_reset source) (λ session. either_is_still (eqb session.source source) session (session_ended session) (end_is_still session)) table
+
+-- how long a session that was granted lives: at least as long as a reply is kept
+pub record OutlastReplies (spans : Spans) : Type 0 where
+  pub hold : spans.window ≤ spans.hold
+  pub stale : IfSome spans.stale (λ stale. spans.window ≤ stale)
 
 -- a session lives at least for the window after its grant
-lives_on : (spans : Spans) (now made : ℕ) (phase : Phase) → spans.window ≤ spans.hold → now < made + spans.window → lives spans now phase made ≡ true
-lives_on spans now made Pending held live = lt-ltb now (made + spans.hold) (omega (arith, held, live))
-lives_on spans now made Active held live = refl
-lives_on spans now made Ended held live = lt-ltb now (made + spans.window) live
+lives_on : (spans : Spans) (now : ℕ) (session : Session) (phase : Phase) → OutlastReplies spans → session.made ≤ session.seen → now < session.made + spans.window → lives spans now phase session ≡ true
+lives_on spans now session Pending outlast seen live = lt-ltb now (session.made + spans.hold) (omega (arith, outlast.hold, live))
+lives_on spans now session Active outlast seen live = heard spans.stale outlast.stale
+  where
+    heard : (stale : Option ℕ) → IfSome stale (λ span. spans.window ≤ span) → lasts_unless_stale now session.seen stale ≡ true
+    heard None long = refl
+    heard (Some span) long = lt-ltb now (session.seen + span) (omega (arith, long, live, seen))
+lives_on spans now session Ended outlast seen live = lt-ltb now (session.made + spans.window) live
+
+-- a session was not heard of before its grant
+pub record WasSeen (session : Session) : Type 0 where
+  pub seen : session.made ≤ session.seen
 
 -- a reply that is live still has its session, after those that are no longer live were removed
-pub live_has : (now window : ℕ) (table : Table) (body : Body) (made : ℕ) → window ≡ table.spans.window → table.spans.window ≤ table.spans.hold
+pub live_has : (now window : ℕ) (table : Table) (body : Body) (made : ℕ) → window ≡ table.spans.window → OutlastReplies table.spans → All WasSeen table.sessions
     → nat_lt now (made + window) ≡ true → HasItsSession table body made → HasItsSession (cut now table) body made
-live_has now window table body made same held live has accept value gives =
+live_has now window table body made same outlast seen live has accept value gives =
     let found = has accept value gives in
+    let was : WasSeen found.0 = All-contains WasSeen table.sessions found.0 seen found.1 in
     let alive : is_live table.spans now found.0 ≡ true =
-    lives_on table.spans now found.0.made found.0.phase held (omega (arith, ltb-true now (made + window) live, same, found.3)) in (
+    lives_on table.spans now found.0 found.0.phase outlast was.seen (omega (arith, ltb-true now (made + window) live, same, found.3)) in (
       found.0,
       All-contains (λ s. is_live table.spans now s ≡ true → Contains (filter (is_live table.spans now) table.sessions) s) table.sessions found.0
           (contains_filtered (is_live table.spans now) table.sessions) found.1 alive,
@@ -198,10 +219,10 @@ live_has now window table body made same held live has accept value gives =
     )
 
 -- an Access-Accept has the session that is granted
-pub accept_has_session : (client user_place now : ℕ) (user : User) (grant : Grant) (p : Packet) (table : Table)
-    → HasItsSession (with_session client user_place now grant table) (access_accept user grant p) now
-accept_has_session client user_place now user grant p table accept value gives =
-    let new : Session = record { number = grant.number; client = client; user = user_place; address = grant.address; phase = Pending; made = now } in (
+pub accept_has_session : (client source user_place now : ℕ) (user : User) (grant : Grant) (p : Packet) (table : Table)
+    → HasItsSession (with_session client source user_place now grant table) (access_accept user grant p) now
+accept_has_session client source user_place now user grant p table accept value gives =
+    let new : Session = record { number = grant.number; client = client; source = source; user = user_place; address = grant.address; phase = Pending; made = now; seen = now } in (
       new,
       Contains-push table.sessions new,
       record {

@@ -227,13 +227,13 @@ same_table client (Some value) state = refl
 -- what a reply changes, by its Code and the user who asked
 abbrev Changes : Configuration → State → Request → List ℕ → Option ℕ → Body × State → Type 0
 Changes configuration state request draw user result =
-    (result.1 ≡ changed_by request.client draw (change_of_reply configuration state.table result.0.code user) state)
+    (result.1 ≡ changed_by request draw (change_of_reply configuration state.table result.0.code user) state)
     × CanBeMade state (change_of_reply configuration state.table result.0.code user)
 
 -- what a grant changes
 abbrev Grants : Configuration → State → Request → List ℕ → ℕ → Grant → Result Grant Refusal → Type 0
 Grants configuration state request draw place grant r =
-    ((decided configuration state request draw (Ok (Granted place grant))).1 ≡ changed_by request.client draw (change_of_grant place r) state)
+    ((decided configuration state request draw (Ok (Granted place grant))).1 ≡ changed_by request draw (change_of_grant place r) state)
     × CanBeMade state (change_of_grant place r)
 
 decided_changes : (configuration : Configuration) (state : State) (request : Request) (draw : List ℕ) (user : Option ℕ) (d : Result Decision Denial)
@@ -272,11 +272,11 @@ access_changes configuration current request draw code said (Ok credentials) rea
     let rule : access configuration before request draw ≡ decided configuration left request draw d = rw (read) refl in
     let same : (decided configuration left request draw d).0.code ≡ code = ap (λ a. a.0.code) (sym rule) ∙ said in
     let table : left.table ≡ current.table = same_table request.client credentials.state before in
-    let changes_so : ((decided configuration left request draw d).1 ≡ changed_by request.client draw (change_of_reply configuration current.table code user) left)
+    let changes_so : ((decided configuration left request draw d).1 ≡ changed_by request draw (change_of_reply configuration current.table code user) left)
     × CanBeMade left (change_of_reply configuration current.table code user) =
-    subst (λ t. ((decided configuration left request draw d).1 ≡ changed_by request.client draw (change_of_reply configuration t code user) left)
+    subst (λ t. ((decided configuration left request draw d).1 ≡ changed_by request draw (change_of_reply configuration t code user) left)
     × CanBeMade left (change_of_reply configuration t code user)) table
-    (subst (λ n. ((decided configuration left request draw d).1 ≡ changed_by request.client draw (change_of_reply configuration left.table n user) left)
+    (subst (λ n. ((decided configuration left request draw d).1 ≡ changed_by request draw (change_of_reply configuration left.table n user) left)
     × CanBeMade left (change_of_reply configuration left.table n user)) same made) in
     record {
       changed = ap (λ a. a.1) rule ∙ changes_so.0;
@@ -288,10 +288,8 @@ access_changes configuration current request draw code said (Ok credentials) rea
     same_means None changes.Nothing can = can
     same_means None (changes.Challenge user) can = can
     same_means None (changes.Grant session) can = can
-    same_means None (changes.Start reference) can = can
-    same_means None (changes.Stop reference) can = can
+    same_means None (changes.Report event) can = can
     same_means (Some value) changes.Nothing can = can
     same_means (Some value) (changes.Challenge user) can = can
     same_means (Some value) (changes.Grant session) can = can
-    same_means (Some value) (changes.Start reference) can = can
-    same_means (Some value) (changes.Stop reference) can = can
+    same_means (Some value) (changes.Report event) can = can

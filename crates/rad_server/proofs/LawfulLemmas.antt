@@ -21,12 +21,12 @@ use Rattle.rad_auth.specs.declared.arrival.Door.TheVariants.{Auth, Acct}
 use Rattle.rad_auth.specs.declared.arrival.Request.{Request}
 use Rattle.rad_config.specs.Configurations.{Configuration, user_place}
 use Rattle.rad_config.specs.Ranges.{HasLength, IsConfiguration, IsUser}
-use Rattle.rad_config.specs.Spans.{moment_max, spans_of}
+use Rattle.rad_config.specs.Spans.{milliseconds, moment_max, spans_of}
 use Rattle.rad_config.specs.declared.spans.Spans.{Spans}
 use Rattle.rad_config.specs.declared.user.User.{User}
 use Rattle.rad_pool.specs.Grants.{granted, with_session}
-use Rattle.rad_pool.specs.Lawful.{ExpiryKeepsTheLaw, GrantKeepsTheLaw, IsLawful as IsLawfulTable, OpeningIsLawful as EmptyTableIsLawful, StartKeepsTheLaw, StopKeepsTheLaw}
-use Rattle.rad_pool.specs.Sessions.{Table, cut, started, stopped}
+use Rattle.rad_pool.specs.Lawful.{ExpiryKeepsTheLaw, GrantKeepsTheLaw, IsLawful as IsLawfulTable, IsLawfulSession, OpeningIsLawful as EmptyTableIsLawful, RenewalKeepsTheLaw, ResetKeepsTheLaw, StopKeepsTheLaw}
+use Rattle.rad_pool.specs.Sessions.{Table, cut, renewed, source_reset, stopped}
 use Rattle.rad_pool.specs.declared.grant.Grant.{Grant}
 use Rattle.rad_pool.specs.declared.grant.Refusal.{Refusal}
 use Rattle.rad_recent.specs.Challenges.{Waiting, answered, has_state, is_challenge_live, next_number}
@@ -36,10 +36,10 @@ use Rattle.rad_recent.specs.Recent as recent
 use Rattle.rad_recent.specs.declared.challenge.Challenge.{Challenge}
 use Rattle.rad_recent.specs.declared.challenges.IssueFault.{IssueFault}
 use Rattle.rad_recent.specs.declared.kept.Kept.{Kept}
-use Rattle.rad_server.proofs.AddressLemmas.{KeepsSessions, accept_has_session, grant_keeps, live_has, start_keeps, still_has, stop_keeps}
+use Rattle.rad_server.proofs.AddressLemmas.{KeepsSessions, OutlastReplies, WasSeen, accept_has_session, grant_keeps, live_has, renewal_keeps, reset_keeps, still_has, stop_keeps}
 use Rattle.rad_server.proofs.ReplyLemmas.{accept_is_reply, accounting_is_reply, challenge_is_reply, reject_is_reply}
 use Rattle.rad_server.specs.Access.{Challenged, Decision, Granted, access, access_with, answer_matches, answered_challenge, challenge_for, challenge_or_denial, decided, decision, decision_on_answer, decision_on_password, is_name_of, password_matches, session_for, session_or_denial, user_at, user_by_answer, user_by_password, without_challenge}
-use Rattle.rad_server.specs.Accounting.{account, changed, first_integer, reported, session_meant, shows_start, status_stop}
+use Rattle.rad_server.specs.Accounting.{account, changed, first_integer, reported, session_meant, shows_reset, shows_session, status_stop}
 use Rattle.rad_server.specs.Credentials.{Credentials, credentials_in}
 use Rattle.rad_server.specs.Lawful.{HasItsSession, IsChallengeOf, IsLawful, IsRepeatable}
 use Rattle.rad_server.specs.Replies.{accounting_response}
@@ -60,8 +60,9 @@ pub record OpeningLaws : Type 0 where
 pub record SessionLaws : Type 0 where
   pub expiry : ExpiryKeepsTheLaw
   pub grant : GrantKeepsTheLaw
-  pub start : StartKeepsTheLaw
+  pub renewal : RenewalKeepsTheLaw
   pub stop : StopKeepsTheLaw
+  pub reset : ResetKeepsTheLaw
 
 pub record ReplyLaws : Type 0 where
   pub expiry : ExpiryLeavesLawfulReplies
@@ -117,15 +118,23 @@ addresses_kept old new kept keeps has =
     All-weaker (HasIts old) (HasIts new) (λ reply its. still_has old new reply.body reply.made keeps its) kept has
 
 -- the live ones do after those that are no longer live were removed, since a session lives at least as long as a reply
-addresses_live : (now : ℕ) (table : Table) (replies : Replies) → replies.window ≡ table.spans.window → table.spans.window ≤ table.spans.hold
+addresses_live : (now : ℕ) (table : Table) (replies : Replies) → replies.window ≡ table.spans.window → OutlastReplies table.spans → All WasSeen table.sessions
     → All (HasIts table) replies.kept → All (HasIts (cut now table)) (cut_replies now replies).kept
-addresses_live now table replies same held has =
+addresses_live now table replies same outlast seen has =
     let live : Kept → Bool = is_reply_live replies.window now in
     let kept = All-filter live (HasIts table) replies.kept has in
     let passes = filter_passes live replies.kept in
-    λ k d within. live_has now replies.window table _ _ same held (passes k d within) (kept k d within)
+    λ k d within. live_has now replies.window table _ _ same outlast seen (passes k d within) (kept k d within)
 
 -- ---- the clock
+
+-- a session that was granted lives as long as a reply is kept
+spans_outlast : (configuration : Configuration) → IsConfiguration configuration → OutlastReplies (spans_of configuration)
+spans_outlast configuration valid = record {
+  hold = omega (arith, valid.hold.0);
+  stale = IfSome-map milliseconds (λ span. milliseconds configuration.window ≤ span) configuration.stale
+      (IfSome_then configuration.stale valid.stale (λ stale known. omega (arith, known.0)));
+}
 
 -- the state before the first request is lawful
 pub opening_is_lawful : OpeningLaws → (configuration : Configuration) → IsLawful configuration (opening configuration)
@@ -149,8 +158,9 @@ at_moment_is_lawful laws configuration state moment valid within lawful =
     let now : ℕ = max state.clock moment in
     let later : state.clock ≤ now = omega arith in
     let same : state.replies.window ≡ state.table.spans.window = lawful.window ∙ ap (λ (spans : Spans). spans.window) (sym lawful.spans) in
-    let held : state.table.spans.window ≤ state.table.spans.hold =
-    subst (λ (spans : Spans). spans.window ≤ spans.hold) (sym lawful.spans) (omega (arith, valid.hold.0)) in
+    let outlast : OutlastReplies state.table.spans = subst OutlastReplies (sym lawful.spans) (spans_outlast configuration valid) in
+    let seen : All WasSeen state.table.sessions =
+    All-weaker (IsLawfulSession configuration state.clock state.table.next) WasSeen (λ session known. record { seen = known.seen.0 }) state.table.sessions lawful.table.sessions in
     record {
       clock = omega (arith, within, lawful.clock);
       spans = lawful.spans;
@@ -159,7 +169,7 @@ at_moment_is_lawful laws configuration state moment valid within lawful =
       table = laws.sessions.expiry configuration state.clock now state.table later lawful.table;
       replies = laws.replies.expiry state.clock now state.replies later lawful.replies;
       repeatable = All-filter (is_reply_live state.replies.window now) IsRepeatable state.replies.kept lawful.repeatable;
-      addresses = addresses_live now state.table state.replies same held lawful.addresses;
+      addresses = addresses_live now state.table state.replies same outlast seen lawful.addresses;
       waiting = laws.challenges.expiry state.clock now state.waiting later lawful.waiting;
       challenges = All-filter (is_challenge_live state.waiting.hold now) (IsChallengeOf configuration) state.waiting.challenges lawful.challenges;
     }
@@ -345,17 +355,17 @@ decided_is_lawful laws configuration state request draw (Ok (Granted user grant)
     let row : User = user_at configuration user in
     record {
       reply = accept_is_reply row grant request.packet (text_fits row.message known.message) given.answerable.proxy_states;
-      session = accept_has_session request.client user state.clock row grant request.packet state.table;
+      session = accept_has_session request.client request.source user state.clock row grant request.packet state.table;
       new = record {
         clock = lawful.clock;
         spans = lawful.spans;
         window = lawful.window;
         hold = lawful.hold;
-        table = laws.sessions.grant configuration request.client user state.clock grant state.table given.answerable.client sound.0 sound.1 lawful.table;
+        table = laws.sessions.grant configuration request.client request.source user state.clock grant state.table given.answerable.client sound.0 sound.1 lawful.table;
         replies = lawful.replies;
         repeatable = lawful.repeatable;
-        addresses = addresses_kept state.table (with_session request.client user state.clock grant state.table) state.replies.kept
-            (grant_keeps request.client user state.clock grant state.table) lawful.addresses;
+        addresses = addresses_kept state.table (with_session request.client request.source user state.clock grant state.table) state.replies.kept
+            (grant_keeps request.client request.source user state.clock grant state.table) lawful.addresses;
         waiting = lawful.waiting;
         challenges = lawful.challenges;
       };
@@ -410,7 +420,7 @@ access_is_lawful laws configuration state request draw given lawful = with_resul
 account_is_lawful : TableLaws → (configuration : Configuration) (state : State) (request : Request) → IsAnswerable configuration.clients request
     → IsLawful configuration state → IsLawfulResult configuration state (account configuration state request)
 account_is_lawful laws configuration state request answerable lawful =
-    with_table (reported (first_integer type_acct_status_type request.packet.attributes) session state.table)
+    with_table (reported request.source state.clock (first_integer type_acct_status_type request.packet.attributes) session state.table)
     (with_status (first_integer type_acct_status_type request.packet.attributes))
   where
     session : Option ℕ
@@ -443,23 +453,28 @@ account_is_lawful laws configuration state request answerable lawful =
     same : IsKept state.table
     same = (lawful.table, refl, (λ session there. (session, there, record { number = refl; address = refl; made = refl })))
 
-    start : (o : Option ℕ) → IsKept (changed started o state.table)
-    start None = same
-    start (Some number) = (laws.sessions.start configuration state.clock number state.table lawful.table, refl, start_keeps number state.table)
+    renewal : (o : Option ℕ) → IsKept (changed (λ n. renewed n state.clock) o state.table)
+    renewal None = same
+    renewal (Some number) = (laws.sessions.renewal configuration state.clock number state.table lawful.table, refl, renewal_keeps number state.clock state.table)
 
     stop : (o : Option ℕ) → IsKept (changed stopped o state.table)
     stop None = same
     stop (Some number) = (laws.sessions.stop configuration state.clock number state.table lawful.table, refl, stop_keeps number state.table)
 
-    with_number : (is_start is_stop : Bool)
-        → IsKept (cond is_start (changed started session state.table) (cond is_stop (changed stopped session state.table) state.table))
-    with_number true is_stop = start session
-    with_number false true = stop session
-    with_number false false = same
+    reset : IsKept (source_reset request.source state.table)
+    reset = (laws.sessions.reset configuration state.clock request.source state.table lawful.table, refl, reset_keeps request.source state.table)
 
-    with_status : (o : Option ℕ) → IsKept (reported o session state.table)
+    by_status : (is_session is_stop is_reset : Bool)
+        → IsKept (cond is_session (changed (λ n. renewed n state.clock) session state.table)
+        (cond is_stop (changed stopped session state.table) (cond is_reset (source_reset request.source state.table) state.table)))
+    by_status true is_stop is_reset = renewal session
+    by_status false true is_reset = stop session
+    by_status false false true = reset
+    by_status false false false = same
+
+    with_status : (o : Option ℕ) → IsKept (reported request.source state.clock o session state.table)
     with_status None = same
-    with_status (Some status) = with_number (shows_start status) (status == status_stop)
+    with_status (Some status) = by_status (shows_session status) (status == status_stop) (shows_reset status)
 
 -- ---- the step
 

@@ -137,7 +137,7 @@ decided configuration state request draw (Ok (Challenged user)) =
     (access_challenge (user_at configuration user) state.waiting.next draw request.packet, with_challenge request.client user draw state)
 decided configuration state request draw (Ok (Granted user grant)) = (
   access_accept (user_at configuration user) grant request.packet,
-  record state { table = with_session request.client user state.clock grant state.table },
+  record state { table = with_session request.client request.source user state.clock grant state.table },
 )
 
 -- The reply to a request with these credentials, and the state after it. A challenge that is answered goes, whatever follows.

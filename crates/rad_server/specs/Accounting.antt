@@ -1,5 +1,6 @@
--- What an Accounting-Request reports of a session (RFC 2866, sections 4.1 and 5.1). A Start, an Interim-Update or a Stop is recorded
--- in the table of sessions. An Accounting-Response is made even if no session is meant (section 4.2).
+-- What an Accounting-Request reports (RFC 2866, sections 4.1 and 5.1). A Start, an Interim-Update or a Stop is recorded of the session
+-- that is meant, an Accounting-On or an Accounting-Off of all sessions of its source. An Accounting-Response is made even if no session
+-- is meant (section 4.2).
 use Rattle.std.specs.Prelude.{ℕ, ◌==◌, ◌&&◌, ◌||◌, Bool, if◌then◌else◌, List, length, drop, find, take, Option, Some, None, option_map}
 use Rattle.std.specs.Int.{w32, w64, from_be_bytes}
 use lib.Pointwise.{pointwise}
@@ -9,7 +10,7 @@ use Rattle.rad_packet.specs.Types.{type_acct_status_type, type_class, type_frame
 use Rattle.rad_auth.specs.declared.arrival.Request.{Request}
 use Rattle.rad_config.specs.Configurations.{Configuration, user_place}
 use Rattle.rad_pool.specs.Meant.{meant}
-use Rattle.rad_pool.specs.Sessions.{Table, started, stopped}
+use Rattle.rad_pool.specs.Sessions.{Table, renewed, source_reset, stopped}
 use Rattle.rad_server.specs.Replies.{accounting_response, class_prefix}
 use Rattle.rad_server.specs.States.{State}
 
@@ -23,9 +24,19 @@ status_stop = 2
 abbrev pub status_interim_update : ℕ
 status_interim_update = 3
 
--- Whether a status shows that the session has started. An Interim-Update does too: its Start may have been lost.
-abbrev pub shows_start : ℕ → Bool
-shows_start status = (status == status_start) || (status == status_interim_update)
+abbrev pub status_accounting_on : ℕ
+status_accounting_on = 7
+
+abbrev pub status_accounting_off : ℕ
+status_accounting_off = 8
+
+-- Whether a status shows that the session runs. An Interim-Update does what a Start does: its Start may have been lost.
+abbrev pub shows_session : ℕ → Bool
+shows_session status = (status == status_start) || (status == status_interim_update)
+
+-- Whether a status shows that the source has no sessions any more: it has come up, or goes down.
+abbrev pub shows_reset : ℕ → Bool
+shows_reset status = (status == status_accounting_on) || (status == status_accounting_off)
 
 -- the integer of the first attribute of a Type that has four octets
 abbrev pub first_integer : ℕ → List Attribute → Option ℕ
@@ -58,12 +69,14 @@ abbrev pub changed : (ℕ → Table → Table) → Option ℕ → Table → Tabl
 changed change None table = table
 changed change (Some number) table = change number table
 
--- the table after a status was reported; `number` is that of the session meant, if one is: every other status changes nothing
-abbrev pub reported : Option ℕ → Option ℕ → Table → Table
-reported None number table = table
-reported (Some status) number table =
-    if shows_start status then changed started number table
+-- The table after a status was reported from a source at a moment; `number` is that of the session meant, if one is. Every other
+-- status changes nothing.
+abbrev pub reported : ℕ → ℕ → Option ℕ → Option ℕ → Table → Table
+reported source now None number table = table
+reported source now (Some status) number table =
+    if shows_session status then changed (λ n. renewed n now) number table
     else if status == status_stop then changed stopped number table
+    else if shows_reset status then source_reset source table
     else table
 
 -- the reply to an Accounting-Request, and the state after it
@@ -71,6 +84,7 @@ abbrev pub account : Configuration → State → Request → Body × State
 account configuration state request = (
   accounting_response request.packet,
   record state {
-    table = reported (first_integer type_acct_status_type request.packet.attributes) (session_meant configuration request state.table) state.table;
+    table = reported request.source state.clock (first_integer type_acct_status_type request.packet.attributes)
+        (session_meant configuration request state.table) state.table;
   },
 )

@@ -8,7 +8,7 @@ use Rattle.rad_pool.specs.Grants.{granted, with_session}
 use Rattle.rad_pool.specs.Meant.{meant}
 use Rattle.rad_pool.specs.declared.grant.Grant.{Grant}
 use Rattle.rad_pool.specs.declared.grant.Refusal.{Refusal}
-use Rattle.rad_pool.specs.Sessions.{Table, started, stopped}
+use Rattle.rad_pool.specs.Sessions.{Table, renewed, source_reset, stopped}
 use Rattle.rad_recent.specs.Challenges.{Waiting, next_number, without_answered}
 use Rattle.rad_server.specs.Access.{with_challenge, without_challenge}
 use Rattle.rad_server.specs.Accounting.{changed}
@@ -17,6 +17,8 @@ use Rattle.rad_server.specs.States.{State}
 use Rattle.rad_server.specs.Steps.{without_reply}
 use Rattle.rad_server.specs.declared.change.Change.{Change}
 use Rattle.rad_server.specs.declared.change.Change.TheVariants as changes
+use Rattle.rad_server.specs.declared.change.Event.{Event}
+use Rattle.rad_server.specs.declared.change.Event.TheVariants as events
 use Rattle.rad_server.specs.declared.change.Reference.{Reference}
 use Rattle.rad_server.specs.declared.tables.Tables.{Tables}
 
@@ -24,20 +26,23 @@ use Rattle.rad_server.specs.declared.tables.Tables.{Tables}
 abbrev pub session_of : ℕ → Reference → Table → Option ℕ
 session_of client reference table = meant client reference.number reference.address reference.name table.sessions
 
--- the state after a change that a request of a client makes
-abbrev pub changed_by : ℕ → List ℕ → Change → State → State
-changed_by client draw changes.Nothing state = state
-changed_by client draw (changes.Challenge user) state = with_challenge client user draw state
-changed_by client draw (changes.Grant session) state =
-    record state { table = with_session client session.user state.clock session.grant state.table }
-changed_by client draw (changes.Start reference) state =
-    record state { table = changed started (session_of client reference state.table) state.table }
-changed_by client draw (changes.Stop reference) state =
-    record state { table = changed stopped (session_of client reference state.table) state.table }
+-- the table after an event that a request reports at a moment
+abbrev pub after_event : Request → ℕ → Event → Table → Table
+after_event request now (events.Renewal reference) table = changed (λ n. renewed n now) (session_of request.client reference table) table
+after_event request now (events.Stop reference) table = changed stopped (session_of request.client reference table) table
+after_event request now events.Reset table = source_reset request.source table
+
+-- the state after a change that a request makes
+abbrev pub changed_by : Request → List ℕ → Change → State → State
+changed_by request draw changes.Nothing state = state
+changed_by request draw (changes.Challenge user) state = with_challenge request.client user draw state
+changed_by request draw (changes.Grant session) state =
+    record state { table = with_session request.client request.source session.user state.clock session.grant state.table }
+changed_by request draw (changes.Report event) state = record state { table = after_event request state.clock event state.table }
 
 -- the state after it, without the challenge that was answered
-abbrev pub after : ℕ → List ℕ → Option (List ℕ) → Change → State → State
-after client draw value change state = changed_by client draw change (without_challenge client value state)
+abbrev pub after : Request → List ℕ → Option (List ℕ) → Change → State → State
+after request draw value change state = changed_by request draw change (without_challenge request.client value state)
 
 -- the challenges without the one that a client answers with a State, if it sent one
 abbrev pub waiting_without : ℕ → Option (List ℕ) → Waiting → Waiting
@@ -49,22 +54,20 @@ abbrev pub CanBeMade : State → Change → Type 0
 CanBeMade state changes.Nothing = Unit {0}
 CanBeMade state (changes.Challenge user) = IsOk (next_number state.waiting)
 CanBeMade state (changes.Grant session) = session.grant.number ≡ state.table.next
-CanBeMade state (changes.Start reference) = Unit {0}
-CanBeMade state (changes.Stop reference) = Unit {0}
+CanBeMade state (changes.Report event) = Unit {0}
 
 -- memory is ready for a change
 abbrev pub IsReadyFor : Change → Tables → Type 0
 IsReadyFor changes.Nothing tables = Unit {0}
 IsReadyFor (changes.Challenge user) tables = tables.challenges.has_room ≡ true
 IsReadyFor (changes.Grant user) tables = tables.sessions.has_room ≡ true
-IsReadyFor (changes.Start reference) tables = Unit {0}
-IsReadyFor (changes.Stop reference) tables = Unit {0}
+IsReadyFor (changes.Report event) tables = Unit {0}
 
 -- The State that is answered and the change by which a rule leads on, in the state without a reply to a request with the same key. The
 -- change can be made.
 pub record IsChangeOf (rule : State → Body × State) (current : State) (request : Request) (draw : List ℕ) (state : Option (List ℕ)) (change : Change) : Type 0 where
   pub changed : (rule (without_reply request current)).1
-      ≡ after request.client draw state change (without_reply request current)
+      ≡ after request draw state change (without_reply request current)
   pub possible : CanBeMade (without_challenge request.client state current) change
 
 -- the user that an Access-Request is of: the one whose challenge it answers, or the one whose name it has

@@ -21,7 +21,7 @@ use Rattle.rad_server.specs.Changes.{CanBeMade, IsReadyFor, after}
 -- request with the same key.
 pub record IsReplyOf (rule : State → Body × State) (current : State) (request : Request) (draw : List ℕ) (reply : NewReply) : Type 0 where
   pub planned : rule (without_reply request current)
-      ≡ (reply.body, after request.client draw (option_copied reply.answered) reply.change (without_reply request current))
+      ≡ (reply.body, after request draw (option_copied reply.answered) reply.change (without_reply request current))
   pub possible : CanBeMade (without_challenge request.client (option_copied reply.answered) current) reply.change
 
 -- by the rule of access

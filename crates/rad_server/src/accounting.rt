@@ -15,6 +15,12 @@ pub(crate) const STOP: u32 = 2;
 /// The Acct-Status-Type of an Interim-Update.
 pub(crate) const INTERIM_UPDATE: u32 = 3;
 
+/// The Acct-Status-Type of an Accounting-On.
+pub(crate) const ACCOUNTING_ON: u32 = 7;
+
+/// The Acct-Status-Type of an Accounting-Off.
+pub(crate) const ACCOUNTING_OFF: u32 = 8;
+
 /// What the attributes of an Accounting-Request say of the session that it means.
 #[derive(Clone, Copy)]
 pub(crate) struct Report<'a> {

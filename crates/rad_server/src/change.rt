@@ -4,12 +4,12 @@ ghost use Rattle.rad_config.specs.Configurations.{user_place};
 ghost use Rattle.rad_pool.specs.Meant.{meant};
 ghost use Rattle.rad_pool.specs.declared.session.Session.{Session};
 ghost use Rattle.rad_server.specs.Accounting.{account};
-ghost use Rattle.rad_server.specs.Changes.{CanBeMade, IsChangeOf, IsReadyFor, changed_by, session_of};
+ghost use Rattle.rad_server.specs.Changes.{CanBeMade, IsChangeOf, IsReadyFor, after_event, changed_by, session_of};
 ghost use Rattle.rad_server.specs.Servers.{state_with};
 ghost use Rattle.rad_server.specs.States.{State};
 
 use crate::access::NewSession;
-use crate::accounting::{INTERIM_UPDATE, Report, START, STOP};
+use crate::accounting::{ACCOUNTING_OFF, ACCOUNTING_ON, INTERIM_UPDATE, Report, START, STOP};
 use crate::tables::Tables;
 use rad_auth::Request;
 use rad_config::Config;
@@ -22,8 +22,20 @@ pub(crate) struct Reference {
     pub number: Option<u64>,
     /// Its Framed-IP-Address.
     pub address: Option<u32>,
-    /// The place of the user of its User-Name, if it has one; that may be nobody's.
+    /// The place of the user of its User-Name, which may be nobody's; None too where the address doesn't decide, so that no name
+    /// is looked up.
     pub name: Option<Option<u32>>,
+}
+
+/// What an Accounting-Request reports.
+#[derive(Clone, Copy)]
+pub(crate) enum Event {
+    /// A Start or an Interim-Update of the session that is meant.
+    Renewal(Reference),
+    /// A Stop of it.
+    Stop(Reference),
+    /// An Accounting-On or an Accounting-Off of the source.
+    Reset,
 }
 
 /// What a new reply changes among sessions and challenges.
@@ -34,10 +46,7 @@ pub(crate) enum Change {
     Challenge(u32),
     /// A session, as it is granted.
     Grant(NewSession),
-    /// A Start or an Interim-Update of the session that is meant.
-    Start(Reference),
-    /// A Stop of it.
-    Stop(Reference),
+    Report(Event),
 }
 
 /// What an Accounting-Request changes.
@@ -53,9 +62,10 @@ pub(crate) fn reported_change(config: &Config, request: &Request) -> Change
         name: name_asked(config, &report),
     };
     match report.status {
-        // Its Start may have been lost.
-        Some(START | INTERIM_UPDATE) => Change::Start(reference),
-        Some(STOP) => Change::Stop(reference),
+        // An Interim-Update makes up for a Start that was lost.
+        Some(START | INTERIM_UPDATE) => Change::Report(Event::Renewal(reference)),
+        Some(STOP) => Change::Report(Event::Stop(reference)),
+        Some(ACCOUNTING_ON | ACCOUNTING_OFF) => Change::Report(Event::Reset),
         _ => Change::Nothing,
     }
 }
@@ -83,18 +93,18 @@ fn named_user(config: &Config, name: Option<&[u8]>) -> Option<Option<u32>>
     }
 }
 
-/// Makes a change, for a client's request. It was planned, and memory is ready for it.
+/// Makes a change, for a request. It was planned, and memory is ready for it.
 pub(crate) fn make_change(
     tables: &mut Tables,
     now: u64,
-    client: u32,
+    request: &Request,
     draw: &[u8; 16],
     change: &Change,
 )
     requires possible { CanBeMade (state_with now tables.old) change.now }
     requires ready { IsReadyFor change.now tables.old }
     ensures changed { state_with now tables.new
-        ≡ changed_by client draw.now change.now (state_with now tables.old) }
+        ≡ changed_by request.now draw.now change.now (state_with now tables.old) }
     ensures recent { tables.new.recent ≡ tables.old.recent }
 {
     let Tables {
@@ -102,20 +112,32 @@ pub(crate) fn make_change(
         challenges,
         ..
     } = tables;
+    let (client, source) = (request.client, request.source);
     match change {
         Change::Nothing => {}
         Change::Challenge(user) => challenges.add(client, *user, draw, now),
-        Change::Grant(session) => sessions.add(client, session.user, session.grant, now),
-        Change::Start(reference) => {
-            if let Some(number) = find(sessions, client, reference) {
-                sessions.start(number);
+        Change::Grant(session) => sessions.add(client, source, session.user, session.grant, now),
+        Change::Report(event) => record(sessions, now, request, event),
+    }
+}
+
+// Records an event that a request reports.
+fn record(sessions: &mut Sessions, now: u64, request: &Request, event: &Event)
+    ensures recorded { sessions.new.table
+        ≡ after_event request.now now event.now sessions.old.table }
+{
+    match event {
+        Event::Renewal(reference) => {
+            if let Some(number) = find(sessions, request.client, reference) {
+                sessions.renew(number, now);
             }
         }
-        Change::Stop(reference) => {
-            if let Some(number) = find(sessions, client, reference) {
+        Event::Stop(reference) => {
+            if let Some(number) = find(sessions, request.client, reference) {
                 sessions.stop(number);
             }
         }
+        Event::Reset => sessions.end_source(request.source),
     }
 }
 

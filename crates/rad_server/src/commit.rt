@@ -33,7 +33,7 @@ pub(crate) fn make_room(tables: &mut Tables, plan: &Plan) -> Result<(), AllocErr
     match reply.change {
         Change::Challenge(_) => challenges.room()?,
         Change::Grant(_) => sessions.room()?,
-        Change::Nothing | Change::Start(_) | Change::Stop(_) => {}
+        Change::Nothing | Change::Report(_) => {}
     }
     recent.make_ready(&kept.key)
 }
@@ -66,7 +66,7 @@ pub(crate) fn commit(
                 change,
             } = reply;
             take_answered(&mut tables.challenges, now, request.client, answered);
-            make_change(tables, now, request.client, draw, &change);
+            make_change(tables, now, request, draw, &change);
             tables.recent.put(kept);
             Answer::Send(body)
         }

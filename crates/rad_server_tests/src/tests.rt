@@ -12,7 +12,9 @@ mod playing;
 mod repeats;
 mod replies;
 mod requests;
+mod resets;
 mod sessions;
+mod stale;
 mod status;
 mod texts;
 
@@ -87,6 +89,13 @@ fn holds(rt: &impl Abort, is_so: bool, what: &str) {
 // is the same.
 fn play(rt: &impl Abort, alloc: Global, rows: &[Row]) -> Result<(), Fail> {
     let config = Config::read(alloc, CAMPUS)?;
+    play_over(rt, alloc, &config, rows)
+}
+
+// The same, where an active session lives for 100 seconds after its last report.
+fn play_stale(rt: &impl Abort, alloc: Global, rows: &[Row]) -> Result<(), Fail> {
+    let text = format!(in alloc; "stale = 100\n{CAMPUS}")?;
+    let config = Config::read(alloc, &text)?;
     play_over(rt, alloc, &config, rows)
 }
 

@@ -19,6 +19,6 @@ fn differs_by_a_start(alloc: Global, config: &Config) -> Result<bool, AllocError
     let is_granted = make(&mut sessions, config, 0, &Call::Grant(NEMO, 1, Some(ONE)));
     let copy = sessions.copy()?;
     let is_same = copy.same(&sessions);
-    sessions.start(1);
+    sessions.start(1, 0);
     Ok(is_granted && is_same && !copy.same(&sessions))
 }

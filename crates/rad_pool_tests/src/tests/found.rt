@@ -53,7 +53,7 @@ fn is_meant_as_it_ends(alloc: Global, config: &Config) -> Result<bool, AllocErro
     let mut sessions = Sessions::open(alloc, config)?;
     let is_granted = make(&mut sessions, config, 0, &Call::Grant(NEMO, 1, Some(ONE)));
     let if_pending = are_meant(&sessions, false);
-    sessions.start(1);
+    sessions.start(1, 0);
     let if_active = are_meant(&sessions, false);
     sessions.stop(1);
     let if_ended = are_meant(&sessions, true);

@@ -7,6 +7,19 @@ use rad_config::Config;
 use rad_pool::{Refusal, Sessions};
 use std::alloc::Global;
 
+/// Where sessions come from: three sources of one group, as they differ by 4,093; the neighbour of one; and the first and the last
+/// address. No session comes from the last two, of which one is of that group.
+const SOURCES: [u32; 8] = [
+    0xC0A8_0110,
+    0xC0A8_110D,
+    0xC0A8_210A,
+    0xC0A8_0111,
+    0,
+    u32::MAX,
+    0xC0A8_3107,
+    0xC0A8_0112,
+];
+
 /// Both have the same calls behind them.
 #[derive(Drop)]
 pub struct Pair {
@@ -29,16 +42,19 @@ impl Pair {
     {
         let client = (draw >> 8 & 1) as u32;
         let user = (draw >> 9 & 7) as u32 % config.users().len().max(1) as u32;
-        let answers = match draw % 16 {
-            0 => self.expire(now),
-            1 | 2 => self.peeks(config, user, now),
-            3 | 4 => self.starts(draw >> 16),
-            5 | 6 => self.stops(draw >> 16),
-            7 => self.finds_by_number(client, draw >> 16),
-            8 | 9 => self.finds_by_address(client, user, draw >> 16),
-            10 => self.copies(),
-            11 => self.makes_room(),
-            _ => self.grants(config, client, user, now),
+        let source = draw >> 12 & 7;
+        let answers = match draw % 64 {
+            0..=3 => self.expire(now),
+            4..=9 => self.peeks(config, user, now),
+            10..=14 => self.starts(draw >> 16, now),
+            15..=19 => self.renews(draw >> 16, now),
+            20..=26 => self.stops(draw >> 16),
+            27 => self.ends_source(source),
+            28..=30 => self.finds_by_number(client, draw >> 16),
+            31..=37 => self.finds_by_address(client, user, draw >> 16),
+            38..=40 => self.copies(),
+            41..=43 => self.makes_room(),
+            _ => self.grants(config, client, source, user, now),
         };
         answers && self.plain.is(&self.sessions)
     }
@@ -61,7 +77,7 @@ impl Pair {
     }
 
     // Without memory nothing changes.
-    fn grants(&mut self, config: &Config, client: u32, user: u32, now: u64) -> bool
+    fn grants(&mut self, config: &Config, client: u32, source: u64, user: u32, now: u64) -> bool
         requires { now ≤ moment_max }
     {
         if config.users().len() <= user as usize {
@@ -73,13 +89,14 @@ impl Pair {
         if self.plain.rows.reserve(1).is_err() {
             return true;
         }
-        let granted = self.sessions.grant(config, client, user, now);
+        let source = SOURCES[(source % 6) as usize];
+        let granted = self.sessions.grant(config, client, source, user, now);
         if granted == Err(Refusal::NoMemory) {
             return answer.is_ok();
         }
         self.plain.expire(now);
         match answer {
-            Ok(grant) => granted == answer && self.plain.put(grant, client, user, now),
+            Ok(grant) => granted == answer && self.plain.put(grant, client, source, user, now),
             Err(_) => granted == answer,
         }
     }
@@ -102,10 +119,17 @@ impl Pair {
         }
     }
 
-    fn starts(&mut self, draw: u64) -> bool {
+    fn starts(&mut self, draw: u64, now: u64) -> bool {
         let number = self.number(draw);
-        self.sessions.start(number);
-        self.plain.start(number);
+        self.sessions.start(number, now);
+        self.plain.renew(number, now);
+        true
+    }
+
+    fn renews(&mut self, draw: u64, now: u64) -> bool {
+        let number = self.number(draw);
+        self.sessions.renew(number, now);
+        self.plain.renew(number, now);
         true
     }
 
@@ -113,6 +137,13 @@ impl Pair {
         let number = self.number(draw);
         self.sessions.stop(number);
         self.plain.stop(number);
+        true
+    }
+
+    fn ends_source(&mut self, source: u64) -> bool {
+        let source = SOURCES[(source % 8) as usize];
+        self.sessions.end_source(source);
+        self.plain.end_source(source);
         true
     }
 

@@ -113,6 +113,9 @@ pool = "few"
 sessions = 2
 "#;
 
+/// What the table's text begins with, and that of the other configuration.
+const HEADS: [(&str, &str); 2] = [("", "stale = 40\n"), ("stale = 40\n", "")];
+
 /// How many milliseconds pass from call to call: many sessions, some, and few.
 const PACES: [u64; 3] = [50, 400, 4_000];
 
@@ -129,12 +132,24 @@ fn moment(call: u64, pace: u64, draw: u64) -> u64
     call.saturating_mul(pace).saturating_add((draw >> 54) * 8) % 100_000_000
 }
 
+// The configuration of a text with this head.
+fn read(alloc: Global, head: &str, rest: &str) -> Option<Config> {
+    let text = format!(in alloc; "{head}{rest}").ok()?;
+    Config::read(alloc, &text).ok()
+}
+
 // Whether so many random calls answer as on a plain list, also where an allocation is refused.
-fn agree_for(alloc: Global, pace: u64, calls: u64) -> Option<bool> {
-    let config = Config::read(alloc, TABLE).ok()?;
-    let other = Config::read(alloc, OTHER).ok()?;
+fn agree_for(alloc: Global, heads: (&str, &str), pace: u64, calls: u64) -> Option<bool> {
+    let config = read(alloc, heads.0, TABLE)?;
+    let other = read(alloc, heads.1, OTHER)?;
     let mut pair = Pair::open(alloc, &config)?;
     Some(agree(&mut pair, &config, &other, pace, calls))
+}
+
+fn agree_at_each_pace(alloc: Global, heads: (&str, &str)) -> bool {
+    PACES
+        .iter()
+        .all(|pace| agree_for(alloc, heads, *pace, 2_000) == Some(true))
 }
 
 fn agree(pair: &mut Pair, config: &Config, other: &Config, pace: u64, calls: u64) -> bool {
@@ -161,10 +176,10 @@ fn agrees(pair: &mut Pair, config: &Config, other: &Config, draw: u64, now: u64)
 
 #[test]
 fn sessions_do_what_a_plain_list_does(rt: HostRuntime) {
-    for pace in PACES.iter() {
+    for heads in HEADS.iter() {
         holds(
             &rt,
-            agree_for(rt.alloc(), *pace, 4_000) == Some(true),
+            agree_at_each_pace(rt.alloc(), *heads),
             "each call answers as on a plain list",
         );
     }

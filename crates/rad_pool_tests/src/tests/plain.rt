@@ -53,23 +53,27 @@ impl Plain {
     }
 
     /// Puts the session that is granted last. Whether there was memory.
-    pub fn put(&mut self, grant: Grant, client: u32, user: u32, now: u64) -> bool {
+    pub fn put(&mut self, grant: Grant, client: u32, source: u32, user: u32, now: u64) -> bool {
         self.last = grant.number;
         let session = Session {
             number: grant.number,
             client,
+            source,
             user,
             address: grant.address,
             phase: Phase::Pending,
             made: now,
+            seen: now,
         };
         self.rows.push(session).is_ok()
     }
 
-    pub fn start(&mut self, number: u64) {
+    /// A Start or an Interim-Update.
+    pub fn renew(&mut self, number: u64, now: u64) {
         for row in self.rows.iter_mut() {
-            if row.number == number && row.phase == Phase::Pending {
+            if row.number == number && row.phase != Phase::Ended {
                 row.phase = Phase::Active;
+                row.seen = now;
             }
         }
     }
@@ -77,6 +81,14 @@ impl Plain {
     pub fn stop(&mut self, number: u64) {
         for row in self.rows.iter_mut() {
             if row.number == number {
+                row.phase = Phase::Ended;
+            }
+        }
+    }
+
+    pub fn end_source(&mut self, source: u32) {
+        for row in self.rows.iter_mut() {
+            if row.source == source {
                 row.phase = Phase::Ended;
             }
         }
@@ -145,7 +157,10 @@ impl Plain {
 fn is_live(session: &Session, spans: Spans, now: u64) -> bool {
     match session.phase {
         Phase::Pending => now < session.made.saturating_add(spans.hold),
-        Phase::Active => true,
+        Phase::Active => match spans.stale {
+            Some(stale) => now < session.seen.saturating_add(stale),
+            None => true,
+        },
         Phase::Ended => now < session.made.saturating_add(spans.window),
     }
 }

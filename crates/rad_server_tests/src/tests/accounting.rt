@@ -1,7 +1,7 @@
 use super::Step::{Ask, Sessions};
 use super::requests::Asked::{Account, OtherAccount};
 use super::requests::Sent::Plain;
-use super::requests::{EXAMPLE, FIRST_CLASS, NEMO, START, STOP, Sent};
+use super::requests::{EXAMPLE, FIRST_CLASS, INTERIM_UPDATE, NEMO, START, STOP, Sent};
 use super::texts::{DORY_SECOND, NEMO_FIRST, NO_ADDRESS_LEFT, RESPONSE};
 use super::{Row, play, requests};
 use rad_packet::attribute::{ACCT_STATUS_TYPE, CLASS, FRAMED_IP_ADDRESS, USER_NAME};
@@ -19,9 +19,14 @@ const OTHER_CLASS: Sent = Plain(CLASS, b"RAP2\0\0\0\0\0\0\0\x02");
 /// An Acct-Status-Type that says nothing, since it has three octets.
 const NO_STATUS: Sent = Plain(ACCT_STATUS_TYPE, b"abc");
 
-const INTERIM_UPDATE: Sent = Plain(ACCT_STATUS_TYPE, &[0, 0, 0, 3]);
+/// Values of no session: one that isn't assigned, the first and the last of tunnels, and Failed.
+const UNASSIGNED: Sent = Plain(ACCT_STATUS_TYPE, &[0, 0, 0, 4]);
 
-const ACCOUNTING_ON: Sent = Plain(ACCT_STATUS_TYPE, &[0, 0, 0, 7]);
+const TUNNEL_START: Sent = Plain(ACCT_STATUS_TYPE, &[0, 0, 0, 9]);
+
+const TUNNEL_LINK_REJECT: Sent = Plain(ACCT_STATUS_TYPE, &[0, 0, 0, 14]);
+
+const FAILED: Sent = Plain(ACCT_STATUS_TYPE, &[0, 0, 0, 15]);
 
 const DORY: Sent = Plain(USER_NAME, b"dory");
 
@@ -92,13 +97,46 @@ fn a_session_is_meant_by_its_address_and_user(rt: HostRuntime) -> Result<(), Fai
 }
 
 #[test]
-fn an_accounting_on_changes_nothing(rt: HostRuntime) -> Result<(), Fail> {
+fn other_statuses_change_nothing(rt: HostRuntime) -> Result<(), Fail> {
     const ROWS: &[Row] = &[
         (0, Ask(EXAMPLE, NEMO_FIRST), "nemo"),
         (
             1_000,
-            Ask(Account(1, &[ACCOUNTING_ON]), RESPONSE),
-            "an Accounting-On",
+            Ask(Account(0, &[UNASSIGNED, FIRST_CLASS]), RESPONSE),
+            "a value that isn't assigned",
+        ),
+        (
+            1_000,
+            Ask(Account(1, &[TUNNEL_START, FIRST_CLASS]), RESPONSE),
+            "Tunnel-Start",
+        ),
+        (
+            1_000,
+            Ask(Account(2, &[TUNNEL_LINK_REJECT, FIRST_CLASS]), RESPONSE),
+            "Tunnel-Link-Reject",
+        ),
+        (
+            1_000,
+            Ask(Account(3, &[FAILED, FIRST_CLASS]), RESPONSE),
+            "Failed",
+        ),
+        (
+            1_000,
+            Sessions(&[(1, Pending, 0)]),
+            "the session is pending",
+        ),
+    ];
+    play(&rt, rt.alloc(), ROWS)
+}
+
+#[test]
+fn a_report_of_no_session_changes_nothing(rt: HostRuntime) -> Result<(), Fail> {
+    const ROWS: &[Row] = &[
+        (0, Ask(EXAMPLE, NEMO_FIRST), "nemo"),
+        (
+            1_000,
+            Ask(Account(0, &[START, SECOND_CLASS, ADDRESS, NEMO]), RESPONSE),
+            "a Start of a session that isn't there",
         ),
         (
             1_000,
@@ -107,17 +145,12 @@ fn an_accounting_on_changes_nothing(rt: HostRuntime) -> Result<(), Fail> {
         ),
         (
             2_000,
-            Ask(Account(2, &[START, FIRST_CLASS]), RESPONSE),
-            "a Start",
+            Ask(Account(1, &[START, FIRST_CLASS]), RESPONSE),
+            "its Start",
         ),
         (
             3_000,
-            Ask(Account(4, &[ACCOUNTING_ON, FIRST_CLASS]), RESPONSE),
-            "an Accounting-On with its Class",
-        ),
-        (
-            3_000,
-            Ask(Account(5, &[STOP, SECOND_CLASS, ADDRESS, NEMO]), RESPONSE),
+            Ask(Account(2, &[STOP, SECOND_CLASS, ADDRESS, NEMO]), RESPONSE),
             "a Stop of a session that isn't there",
         ),
         (3_000, Sessions(&[(1, Active, 0)]), "the session is active"),

@@ -82,6 +82,12 @@ pub(crate) const START: Sent = Sent::Plain(ACCT_STATUS_TYPE, &[0, 0, 0, 1]);
 
 pub(crate) const STOP: Sent = Sent::Plain(ACCT_STATUS_TYPE, &[0, 0, 0, 2]);
 
+pub(crate) const INTERIM_UPDATE: Sent = Sent::Plain(ACCT_STATUS_TYPE, &[0, 0, 0, 3]);
+
+pub(crate) const ACCOUNTING_ON: Sent = Sent::Plain(ACCT_STATUS_TYPE, &[0, 0, 0, 7]);
+
+pub(crate) const ACCOUNTING_OFF: Sent = Sent::Plain(ACCT_STATUS_TYPE, &[0, 0, 0, 8]);
+
 /// A request, by its Identifier and its attributes.
 #[derive(Clone, Copy)]
 pub(crate) enum Asked {
