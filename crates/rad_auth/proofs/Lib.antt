@@ -3,6 +3,7 @@ pub mod AttributeLemmas
 pub mod AuthenticatorLemmas
 pub mod ClientRowsLemmas
 pub mod LaneLemmas
+pub mod NetworkLemmas
 pub mod PasswordLemmas
 pub mod ReplyLemmas
 pub mod SameOctetsLemmas

@@ -1,6 +1,7 @@
 //! The clients that share a secret with the server.
 ghost use Rattle.std.specs.Prelude.{◌≡◌, ◌↔◌, IsTrue};
 
+use crate::network::{add_prefix, network_key};
 use crate::secret::Secret;
 use indexmap::IndexSet;
 use std::alloc::Global;
@@ -13,8 +14,8 @@ pub const CLIENTS_MAX: usize = 256;
 /// Why a client was not added.
 #[derive(Clone, Copy, Debug, PartialEq, Eq, Error)]
 pub enum ClientFault {
-    /// Another client has the address.
-    #[error("the address is doubled")]
+    /// Another client has the address with the same prefix.
+    #[error("the network is doubled")]
     Doubled = 1,
     /// An allocation failed.
     #[error("out of memory")]
@@ -25,8 +26,10 @@ pub enum ClientFault {
 #[derive(Drop)]
 pub struct Clients {
     rows: Vec<ClientRow>,
-    // The clients' addresses: each has the place of its client.
-    addresses: IndexSet<u32>,
+    // The keys of the clients' networks: each has the place of its client.
+    networks: IndexSet<u64>,
+    // The prefixes that clients have, the greatest first.
+    prefixes: Vec<u8>,
 }
 
 impl Model for Clients {
@@ -38,12 +41,12 @@ impl Model for Clients {
 
     ghost view = { λ a. row_clients a.rows.items };
 
-    ghost invariant = { λ a. KeepsClients a.addresses.keys a.rows.items };
+    ghost invariant = { λ a. KeepsClients a.networks.keys a.prefixes.items (row_clients a.rows.items) };
 }
 
 impl Clients {
-    ghost use Rattle.std.specs.Prelude.{◌≡◌, ◌<◌, ◌≤◌, ◌==◌, ◌↔◌, [], length, OnOk, OnErr, IsErrOf, IsSome, IfSome};
-    ghost use Rattle.rad_auth.specs.Clients.{Client, IsSecret, clients_max, client_place, client_at, secret_at, with_client};
+    ghost use Rattle.std.specs.Prelude.{◌≡◌, ◌<◌, ◌≤◌, ◌==◌, ◌↔◌, [], length, OnOk, OnErr, IsErrOf, IsTrue, IfSome};
+    ghost use Rattle.rad_auth.specs.Clients.{Client, IsSecret, clients_max, client_place, client_at, has_network, network_fits, secret_at, with_client};
     ghost use Rattle.rad_auth.specs.declared.client.ClientFault.TheVariants.{Doubled};
 
     /// An empty list of clients.
@@ -52,37 +55,44 @@ impl Clients {
     {
         Clients {
             rows: Vec::new(alloc),
-            addresses: IndexSet::new(alloc),
+            networks: IndexSet::new(alloc),
+            prefixes: Vec::new(alloc),
         }
     }
 
-    /// Adds a client after the others.
+    /// Adds a client after the others: those whose addresses begin as this one does, with as many bits as the prefix says.
     ///
-    /// There are fewer than `CLIENTS_MAX` so far, and the secret has 1 to `SECRET_MAX` octets. Returns `Doubled` if and only if
-    /// the address is already listed, and `NoMemory` only if it isn't; either changes nothing.
+    /// There are fewer than `CLIENTS_MAX` so far, `network_fits` holds, and the secret has 1 to `SECRET_MAX` octets. Returns
+    /// `Doubled` if and only if the address is already listed with this prefix, and `NoMemory` only if it isn't; either changes
+    /// nothing.
     pub fn add(
         &mut self,
         address: u32,
+        prefix: u8,
         secret: &[u8],
         require_message_authenticator: bool,
     ) -> Result<(), ClientFault>
         requires room { length self.old < clients_max }
+        requires fits { IsTrue (network_fits address prefix) }
         requires is_secret { IsSecret secret.now }
         ensures ok { OnOk result
-            (self.new ≡ with_client self.old address secret.now require_message_authenticator) }
+            (self.new ≡ with_client self.old address prefix secret.now require_message_authenticator) }
         ensures err { OnErr result (self.new ≡ self.old) }
-        ensures doubled { IsErrOf result Doubled ↔ IsSome (client_place self.old address) }
+        ensures doubled { IsErrOf result Doubled ↔ IsTrue (has_network self.old address prefix) }
     {
-        if self.find(address).is_some() {
+        if self.has_network(address, prefix) {
             return Err(ClientFault::Doubled);
         }
-        // The set takes the address only once the rows have room, so that both have the client or neither.
+        // The set takes the network only once rows and prefixes have room, so that all have the client or none.
         self.rows.reserve(1).map_err(|_| ClientFault::NoMemory)?;
-        self.addresses
-            .insert(address)
+        self.prefixes.reserve(1).map_err(|_| ClientFault::NoMemory)?;
+        self.networks
+            .insert(network_key(address, prefix))
             .map_err(|_| ClientFault::NoMemory)?;
+        add_prefix(&mut self.prefixes, prefix);
         let row = ClientRow {
             address,
+            prefix,
             secret: Secret::new(secret),
             require_message_authenticator,
         };
@@ -105,21 +115,34 @@ impl Clients {
         self.rows.is_empty()
     }
 
-    /// Whether the other list has the same clients in the same order: addresses, secrets, and whether Access-Requests need a
-    /// Message-Authenticator.
+    /// Whether the other list has the same clients in the same order: addresses, prefixes, secrets, and whether
+    /// Access-Requests need a Message-Authenticator.
     pub fn same(&self, other: &Clients) -> bool
         ensures { IsTrue result ↔ (self.now ≡ other.now) }
     {
         same_rows(&self.rows, &other.rows)
     }
 
-    /// The place of the client with this address.
+    /// Whether a client has this address with this prefix, for which `network_fits` holds.
+    pub fn has_network(&self, address: u32, prefix: u8) -> bool
+        requires { IsTrue (network_fits address prefix) }
+        ensures { result ≡ has_network self.now address prefix }
+    {
+        self.networks.contains(&network_key(address, prefix))
+    }
+
+    /// The place of the client of this source: of those whose networks hold the address, the one with the greatest prefix.
     pub fn find(&self, source: u32) -> Option<u32>
         ensures value { result ≡ client_place self.now source }
         ensures within { IfSome result (λ place. place < length self.now) }
     {
-        let place = self.addresses.get_index_of(&source)?;
-        Some(place as u32)
+        for prefix in &self.prefixes {
+            let key = network_key(source, *prefix);
+            if let Some(place) = self.networks.get_index_of(&key) {
+                return Some(place as u32);
+            }
+        }
+        None
     }
 
     /// The secret of the client at this place.
@@ -143,6 +166,7 @@ impl Clients {
 #[derive(Drop)]
 struct ClientRow {
     address: u32,
+    prefix: u8,
     secret: Secret,
     require_message_authenticator: bool,
 }
@@ -153,6 +177,7 @@ impl ClientRow {
         ensures { IsTrue result ↔ (self.now ≡ other.now) }
     {
         self.address == other.address
+            && self.prefix == other.prefix
             && self.secret.octets() == other.secret.octets()
             && self.require_message_authenticator == other.require_message_authenticator
     }

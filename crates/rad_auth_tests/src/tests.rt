@@ -10,14 +10,15 @@ mod discards;
 mod doors;
 mod lanes;
 mod message_authenticators;
+mod networks;
 mod proxy_states;
 mod replies;
 mod requests;
 
 use Attribute::{Address, Eap, Name, Password, Port, Proxy, Short, Status, Text, Zeros};
 use rad_auth::{
-    Arrival, CLIENTS_MAX, ClientFault, Clients, Discard, Door, Request, SECRET_MAX, Secret, check8,
-    sign_request,
+    Arrival, CLIENTS_MAX, ClientFault, Clients, Discard, Door, PREFIX_MAX, Request, SECRET_MAX,
+    Secret, check8, network_fits, sign_request,
 };
 use rad_packet::{Body, Frame, TooLong, attribute, code};
 use std::alloc::Global;
@@ -108,15 +109,31 @@ const THREE: &[Client] = &[
     (STRICT_CLIENT, SECRET, true),
 ];
 
-// Adds a client.
+// A network: its address and its prefix.
+type Network = (u32, u8);
+
+// Adds a client with a single address.
 fn add(
     rt: &impl Abort,
     clients: &mut Clients,
     (address, secret, require_message_authenticator): Client,
 ) -> Result<(), ClientFault> {
+    let network = (address, PREFIX_MAX);
+    add_network(rt, clients, network, secret, require_message_authenticator)
+}
+
+// Adds a client with all addresses of a network.
+fn add_network(
+    rt: &impl Abort,
+    clients: &mut Clients,
+    (address, prefix): Network,
+    secret: &[u8],
+    require_message_authenticator: bool,
+) -> Result<(), ClientFault> {
     let has_room = clients.len() < CLIENTS_MAX;
     assert!(rt; has_room && 0 < secret.len() && secret.len() <= SECRET_MAX);
-    clients.add(address, secret, require_message_authenticator)
+    assert!(rt; network_fits(address, prefix));
+    clients.add(address, prefix, secret, require_message_authenticator)
 }
 
 fn clients_of(rt: &impl Abort, alloc: Global, rows: &[Client]) -> Clients {

@@ -6,7 +6,7 @@ use Rattle.std.specs.Str.{bytes_eq}
 use Rattle.toml.specs.Data.{Data, as_array, as_table, Items, no_items, item, Members, get_member}
 use Rattle.toml.specs.Parse.{parse_document}
 use Rattle.rad_packet.specs.Ladders.{◌>>=◌, refuse_if}
-use Rattle.rad_auth.specs.Clients.{Client, client_place, clients_max}
+use Rattle.rad_auth.specs.Clients.{Client, clients_max, has_network}
 use Rattle.rad_config_fault.specs.declared.config_fault.Key.{Key}
 use Rattle.rad_config_fault.specs.declared.config_fault.Key.TheVariants as keys
 use Rattle.rad_config_fault.specs.declared.config_fault.Part.{Part}
@@ -114,14 +114,19 @@ list_of part most read members = do
 
 -- ---- parts
 
--- a client, whose address no earlier one has
+-- a client, whose network no earlier one has
 unfoldable pub client_in : List Client → EntryData → Result Client ConfigFault
 client_in earlier e = do
-  address ← value e rows.client_address
-  new ← refuse_if (is_some (client_place earlier address)) (BadValue (spot e keys.Address))
+  network ← value e rows.client_address
+  new ← refuse_if (has_network earlier network.address network.prefix) (BadValue (spot e keys.Address))
   secret ← value e rows.client_secret
   flag ← value e rows.require_message_authenticator
-  Ok (record { address = address; secret = secret; require_message_authenticator = flag })
+  Ok (record {
+    address = network.address;
+    prefix = network.prefix;
+    secret = secret;
+    require_message_authenticator = flag;
+  })
 
 -- a pool, whose name no earlier one has
 unfoldable pub pool_in : List Pool → EntryData → Result Pool ConfigFault

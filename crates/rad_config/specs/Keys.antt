@@ -11,6 +11,8 @@ use Rattle.rad_auth.specs.Passwords.{password_max}
 use Rattle.rad_text.specs.Decimals.{address_of}
 use Rattle.rad_config_fault.specs.declared.config_fault.Key.{Key}
 use Rattle.rad_config_fault.specs.declared.config_fault.Key.TheVariants as keys
+use Rattle.rad_config.specs.Networks.{network_of}
+use Rattle.rad_config.specs.declared.network.Network.{Network}
 use Rattle.rad_config.specs.declared.pool.Pool.{Pool}
 
 -- ---- rows
@@ -53,6 +55,9 @@ number least most d = option_and_then (bounded least most) (option_and_then natu
 
 abbrev pub address : ℕ → ℕ → Data → Option ℕ
 address least most d = option_and_then (bounded least most) (option_and_then address_of (as_str d))
+
+abbrev pub network : Data → Option Network
+network d = option_and_then network_of (as_str d)
 
 -- a text of so many octets
 abbrev pub sized : ℕ → ℕ → List ℕ → Option (List ℕ)
@@ -103,8 +108,8 @@ hold = with_default 60 keys.Hold (number 1 86400)
 abbrev pub stale : Row (Option ℕ)
 stale = optional keys.Stale (number 1 604800)
 
-abbrev pub client_address : Row ℕ
-client_address = required keys.Address (address 0 number_max)
+abbrev pub client_address : Row Network
+client_address = required keys.Address network
 
 abbrev pub client_secret : Row (List ℕ)
 client_secret = required keys.Secret (text 1 secret_max)

@@ -1,6 +1,7 @@
 pub mod Configurations
 pub use Rattle.rad_config_fault.specs.Faults
 pub mod Keys
+pub mod Networks
 pub mod Ranges
 pub mod ReadEntries
 pub mod Readers

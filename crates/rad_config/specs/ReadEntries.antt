@@ -6,7 +6,12 @@ use Rattle.rad_config.specs.declared.read_user.UserEntry.{UserEntry}
 use Rattle.rad_config.specs.declared.user.User.{User}
 
 abbrev pub entry_client : ClientEntry → Client
-entry_client client = record { address = client.address; secret = client.secret.now; require_message_authenticator = client.require_message_authenticator }
+entry_client client = record {
+  address = client.network.address;
+  prefix = client.network.prefix;
+  secret = client.secret.now;
+  require_message_authenticator = client.require_message_authenticator;
+}
 
 abbrev pub entry_user : UserEntry → User
 entry_user user = record {

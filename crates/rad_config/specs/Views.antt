@@ -5,12 +5,14 @@ use Rattle.toml.specs.Data.{Data, as_bool}
 use Rattle.toml.specs.View.{view, table_view}
 use Rattle.toml.specs.declared.value.Value.{Value}
 use Rattle.rad_config.specs.Configurations.{EntryData}
-use Rattle.rad_config.specs.Keys.{Row, required, with_default, optional, optional_unless, number, address, text, text_without_zero}
+use Rattle.rad_config.specs.Keys.{Row, required, with_default, optional, optional_unless, number, address, network, text, text_without_zero}
 use Rattle.rad_config.specs.declared.entry.Entry.{Entry}
 use Rattle.rad_config.specs.declared.keys.AddressRow.{AddressRow}
 use Rattle.rad_config.specs.declared.keys.DefaultRow.{DefaultRow}
 use Rattle.rad_config.specs.declared.keys.FlagRow.{FlagRow}
+use Rattle.rad_config.specs.declared.keys.NetworkRow.{NetworkRow}
 use Rattle.rad_config.specs.declared.keys.NumberRow.{NumberRow}
+use Rattle.rad_config.specs.declared.network.Network.{Network}
 use Rattle.rad_config.specs.declared.keys.TextRow.{TextRow}
 
 abbrev pub entry_data : Entry → EntryData
@@ -33,6 +35,10 @@ flag_row row = with_default row.default row.key as_bool
 -- an address whose key has to be present
 abbrev pub address_row : AddressRow → Row ℕ
 address_row row = required row.key (address row.least row.most)
+
+-- a network whose key has to be present
+abbrev pub network_row : NetworkRow → Row Network
+network_row row = required row.key network
 
 -- the text that data is, where it fits a row
 abbrev pub text_fit : TextRow → Data → Option (List ℕ)

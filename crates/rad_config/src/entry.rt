@@ -1,6 +1,7 @@
 //! The tables of a text, and the values at their keys.
 
-use crate::keys::{AddressRow, DefaultRow, FlagRow, NumberRow, TextRow};
+use crate::keys::{AddressRow, DefaultRow, FlagRow, NetworkRow, NumberRow, TextRow};
+use crate::network::Network;
 use rad_config_fault::{ConfigFault, Key, Part, Spot};
 use toml::{Table, Value};
 
@@ -17,8 +18,9 @@ impl<'a> Entry<'a> {
     ghost use Rattle.std.specs.Int.{IsInRange};
     ghost use Rattle.std.specs.Option.{option_copied};
     ghost use Rattle.rad_config.specs.Configurations.{at_key, has_key, spot};
+    ghost use Rattle.rad_config.specs.Networks.{IsNetwork};
     ghost use Rattle.rad_config.specs.Readers.{FoundIf, GivesValue, HasRowLength};
-    ghost use Rattle.rad_config.specs.Views.{address_row, data_of, entry_data, flag_row, number_row, required_text_row, default_row, text_row, text_row_unless};
+    ghost use Rattle.rad_config.specs.Views.{address_row, data_of, entry_data, flag_row, network_row, number_row, required_text_row, default_row, text_row, text_row_unless};
 
     /// Where a fault at a key is.
     pub fn spot(&self, key: Key) -> Spot
@@ -86,6 +88,16 @@ impl<'a> Entry<'a> {
     pub fn address(&self, row: &AddressRow) -> Result<u32, ConfigFault>
         ensures read { GivesValue (λ address. address) result self.now (address_row row.now) }
         ensures range { IfOk result (IsInRange row.now.least row.now.most) }
+    {
+        let value = self.get(row.key).ok_or(self.missing(row.key))?;
+        row.fit(value).ok_or(self.bad(row.key))
+    }
+
+    /// The network at a required key.
+    #[tactic(auto, unfolding(crate::specs::Configurations::value))]
+    pub fn network(&self, row: &NetworkRow) -> Result<Network, ConfigFault>
+        ensures read { GivesValue (λ network. network) result self.now (network_row row.now) }
+        ensures fits { IfOk result IsNetwork }
     {
         let value = self.get(row.key).ok_or(self.missing(row.key))?;
         row.fit(value).ok_or(self.bad(row.key))

@@ -3,10 +3,12 @@ ghost use Rattle.std.specs.Prelude.{◌≡◌, ◌+◌, min, IfSome};
 ghost use Rattle.std.specs.Int.{IsInRange};
 ghost use Rattle.std.specs.Option.{option_copied};
 ghost use Rattle.toml.specs.View.{view};
-ghost use Rattle.rad_config.specs.Keys.{number, address, above_first_max, address_max};
+ghost use Rattle.rad_config.specs.Keys.{number, address, network, above_first_max, address_max};
+ghost use Rattle.rad_config.specs.Networks.{IsNetwork};
 ghost use Rattle.rad_config.specs.Readers.{HasRowLength};
 ghost use Rattle.rad_config.specs.Views.{text_fit};
 
+use crate::network::{Network, network_of};
 use rad_auth::{PASSWORD_MAX, SECRET_MAX};
 use rad_config_fault::Key;
 use rad_packet::attribute::VALUE_MAX;
@@ -41,6 +43,12 @@ pub struct AddressRow {
     pub key: Key,
     pub least: u32,
     pub most: u32,
+}
+
+/// A key that holds a network.
+#[derive(Clone, Copy)]
+pub struct NetworkRow {
+    pub key: Key,
 }
 
 /// A key that holds a text, and how many octets that text has.
@@ -80,11 +88,7 @@ pub const STALE: NumberRow = NumberRow {
     most: 604_800,
 };
 
-pub const CLIENT_ADDRESS: AddressRow = AddressRow {
-    key: Key::Address,
-    least: 0,
-    most: u32::MAX,
-};
+pub const CLIENT_ADDRESS: NetworkRow = NetworkRow { key: Key::Address };
 
 pub const CLIENT_SECRET: TextRow = TextRow {
     key: Key::Secret,
@@ -223,6 +227,16 @@ impl AddressRow {
             return None;
         }
         Some(address)
+    }
+}
+
+impl NetworkRow {
+    /// The network that a value is, where it fits.
+    pub fn fit(&self, value: &Value) -> Option<Network>
+        ensures value { result ≡ network (view value.now) }
+        ensures fits { IfSome result IsNetwork }
+    {
+        network_of(value.as_str()?.as_bytes())
     }
 }
 

@@ -1,7 +1,7 @@
 //! The configuration of a server: what its text says, or the first fault of that text.
 //!
 //! `Config::read` reads a TOML text by a table of keys, each with its range and its default, if it has one; a key that isn't in
-//! the table is ignored. Only reading, and copying a `Text`, takes memory. Users are found by name, and clients by address,
+//! the table is ignored. Only reading, and copying a `Text`, takes memory. Users are found by name, and clients by network,
 //! through indexes; no contract speaks of these.
 //!
 //! Other crates rest on this: what was read is what `specs/Configurations.antt` says of the text, and it is in the ranges of
@@ -12,6 +12,7 @@ mod config;
 mod entry;
 mod keys;
 mod lists;
+mod network;
 mod pool;
 mod read_client;
 mod read_pool;

@@ -110,10 +110,11 @@ fn add_client(index: u32, item: &Value, clients: &mut Clients) -> Result<(), Con
 {
     let entry = entry_at(Part::Client, index, item)?;
     let client = read_client(clients, &entry)?;
-    // The address is new, so only memory can be refused.
+    // The network is new, so only memory can be refused.
     clients
         .add(
-            client.address,
+            client.network.address,
+            client.network.prefix,
             client.secret,
             client.require_message_authenticator,
         )

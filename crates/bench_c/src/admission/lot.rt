@@ -4,7 +4,7 @@ ghost use Rattle.rad_auth.specs.Clients.{IsSecret};
 ghost use Rattle.rad_auth.specs.Sealing.{AreJobs, IsJob};
 
 use crate::admission::bodies::{Kind, Reply, reply_to, request};
-use rad_auth::{Arrival, Clients, Discard, Door, Job, Request, Secret, sign_request};
+use rad_auth::{Arrival, Clients, Discard, Door, Job, PREFIX_MAX, Request, Secret, sign_request};
 use rad_packet::{Frame, Packet};
 use std::alloc::{AllocError, Global};
 
@@ -86,7 +86,7 @@ fn with_client(clients: Clients, address: u32, secret: &[u8]) -> Result<Clients,
     ensures { IfOk result (λ more. length more ≡ length clients + 1) }
 {
     let mut clients = clients;
-    if clients.add(address, secret, false).is_err() {
+    if clients.add(address, PREFIX_MAX, secret, false).is_err() {
         return Err(AllocError);
     }
     Ok(clients)

@@ -278,11 +278,59 @@ fn addresses_have_ranges(rt: HostRuntime) {
         ("+1.2.3.4", "config fault 3 BadValue at client 1 address"),
         (" 1.2.3.4", "config fault 3 BadValue at client 1 address"),
         ("1.2.3.4 ", "config fault 3 BadValue at client 1 address"),
-        ("1.2.3.4/32", "config fault 3 BadValue at client 1 address"),
         ("", "config fault 3 BadValue at client 1 address"),
     ];
     for (address, want) in ROWS.iter() {
         client_reads_as(&rt, address, want);
+    }
+}
+
+#[test]
+fn a_client_may_be_a_network(rt: HostRuntime) {
+    const BAD: &str = "config fault 3 BadValue at client 1 address";
+    // Networks of clients, and the outcome of each.
+    const ROWS: &[(&str, &str)] = &[
+        ("1.2.3.4/32", "read"),
+        ("10.0.0.0/8", "read"),
+        ("0.0.0.0/0", "read"),
+        ("128.0.0.0/1", "read"),
+        ("255.255.255.254/31", "read"),
+        ("10.0.0.1/8", BAD),
+        ("255.255.255.255/31", BAD),
+        ("0.0.0.1/0", BAD),
+        ("10.0.0.0/08", BAD),
+        ("10.0.0.0/00", BAD),
+        ("10.0.0.0/33", BAD),
+        ("10.0.0.0/100", BAD),
+        ("10.0.0.0/", BAD),
+        ("10.0.0.0/+8", BAD),
+        ("10.0.0.0/ 8", BAD),
+        ("10.0.0.0 /8", BAD),
+        ("10.0.0.0/8/8", BAD),
+        ("10.0.0/8", BAD),
+        ("/8", BAD),
+    ];
+    for (network, want) in ROWS.iter() {
+        client_reads_as(&rt, network, want);
+    }
+}
+
+#[test]
+fn no_two_clients_are_one_network(rt: HostRuntime) {
+    const SECOND: &str = "config fault 3 BadValue at client 2 address";
+    // Networks of two clients, and the outcome of each pair.
+    const ROWS: &[(&str, &str, &str)] = &[
+        ("10.1.2.3", "10.1.2.3/32", SECOND),
+        ("10.0.0.0/8", "10.0.0.0/8", SECOND),
+        ("0.0.0.0/0", "0.0.0.0/0", SECOND),
+        ("10.0.0.0/8", "10.0.0.0/16", "read"),
+        ("0.0.0.0/0", "0.0.0.0", "read"),
+    ];
+    for (first, second, want) in ROWS.iter() {
+        let text = format!(in rt.alloc();
+            "[[client]]\naddress = \"{first}\"\nsecret = \"s\"\n[[client]]\naddress = \"{second}\"\nsecret = \"s\""
+        );
+        reads_as(&rt, text.expect(&rt, first).as_str(), want);
     }
 }
 

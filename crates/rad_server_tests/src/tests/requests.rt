@@ -71,6 +71,26 @@ pub(crate) const KAY: Sent = Sent::Plain(USER_NAME, b"kay");
 
 pub(crate) const MANY: Sent = Sent::Plain(USER_NAME, b"many");
 
+/// What Access-Requests of `many` and of the other fifteen say.
+pub(crate) const CROWD: [&[Sent]; 16] = [
+    &[MANY, Sent::Hidden(b"p")],
+    &[Sent::Plain(USER_NAME, b"many1"), Sent::Hidden(b"p")],
+    &[Sent::Plain(USER_NAME, b"many2"), Sent::Hidden(b"p")],
+    &[Sent::Plain(USER_NAME, b"many3"), Sent::Hidden(b"p")],
+    &[Sent::Plain(USER_NAME, b"many4"), Sent::Hidden(b"p")],
+    &[Sent::Plain(USER_NAME, b"many5"), Sent::Hidden(b"p")],
+    &[Sent::Plain(USER_NAME, b"many6"), Sent::Hidden(b"p")],
+    &[Sent::Plain(USER_NAME, b"many7"), Sent::Hidden(b"p")],
+    &[Sent::Plain(USER_NAME, b"many8"), Sent::Hidden(b"p")],
+    &[Sent::Plain(USER_NAME, b"many9"), Sent::Hidden(b"p")],
+    &[Sent::Plain(USER_NAME, b"many10"), Sent::Hidden(b"p")],
+    &[Sent::Plain(USER_NAME, b"many11"), Sent::Hidden(b"p")],
+    &[Sent::Plain(USER_NAME, b"many12"), Sent::Hidden(b"p")],
+    &[Sent::Plain(USER_NAME, b"many13"), Sent::Hidden(b"p")],
+    &[Sent::Plain(USER_NAME, b"many14"), Sent::Hidden(b"p")],
+    &[Sent::Plain(USER_NAME, b"many15"), Sent::Hidden(b"p")],
+];
+
 /// A Message-Authenticator, whose octets signing puts in.
 pub(crate) const SIGNATURE: Sent = Sent::Plain(MESSAGE_AUTHENTICATOR, &[0; 16]);
 
@@ -103,6 +123,8 @@ pub(crate) enum Asked {
     Account(u8, &'static [Sent]),
     /// An Accounting-Request of the second client.
     OtherAccount(u8, &'static [Sent]),
+    /// An Accounting-Request of the address after the first client's, with that one's secret.
+    NextAccount(u8, &'static [Sent]),
     /// A Status-Server of the first client, to one of the ports.
     Status(Door, &'static [Sent]),
 }
@@ -113,17 +135,17 @@ impl Asked {
         match self {
             Asked::Octets(_) | Asked::OtherOctets(_) => Door::Auth,
             Asked::Access(..) | Asked::OtherAccess(..) => Door::Auth,
-            Asked::Account(..) | Asked::OtherAccount(..) => Door::Acct,
+            Asked::Account(..) | Asked::OtherAccount(..) | Asked::NextAccount(..) => Door::Acct,
             Asked::Status(door, _) => *door,
         }
     }
 
     /// The client's address.
     pub fn source(&self) -> u32 {
-        if self.is_other() {
-            0xC0A8_0114
-        } else {
-            0xC0A8_0110
+        match self {
+            Asked::NextAccount(..) => 0xC0A8_0111,
+            _ if self.is_other() => 0xC0A8_0114,
+            _ => 0xC0A8_0110,
         }
     }
 
@@ -155,8 +177,11 @@ impl Asked {
             Asked::Access(identifier, attributes) | Asked::OtherAccess(identifier, attributes) => {
                 Some((ACCESS_REQUEST, *identifier, attributes))
             }
-            Asked::Account(identifier, attributes) | Asked::OtherAccount(identifier, attributes) =>
-                { Some((ACCOUNTING_REQUEST, *identifier, attributes)) }
+            Asked::Account(identifier, attributes)
+            | Asked::OtherAccount(identifier, attributes)
+            | Asked::NextAccount(identifier, attributes) => {
+                Some((ACCOUNTING_REQUEST, *identifier, attributes))
+            }
             Asked::Status(_, attributes) => Some((STATUS_SERVER, 0, attributes)),
         }
     }

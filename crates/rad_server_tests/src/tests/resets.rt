@@ -1,5 +1,5 @@
 use super::Step::{Ask, Sessions};
-use super::requests::Asked::{Access, Account, OtherAccess, OtherAccount};
+use super::requests::Asked::{Access, Account, NextAccount, OtherAccess, OtherAccount};
 use super::requests::Sent::{Hidden, Plain};
 use super::requests::{
     ACCOUNTING_OFF, ACCOUNTING_ON, Asked, DORY, DORY_AGAIN, EXAMPLE, FIRST_CLASS, INTERIM_UPDATE,
@@ -8,10 +8,30 @@ use super::requests::{
 use super::texts::{
     DORY_SECOND, FIRST, NEMO_FIRST, NO_ADDRESS_LEFT, RESPONSE, SECOND, SESSION_LIMIT,
 };
-use super::{Row, play};
+use super::{Row, play, play_over};
+use rad_config::Config;
 use rad_packet::attribute::USER_NAME;
 use rad_pool::Phase::{Active, Ended, Pending};
 use std::test::Fail;
+
+/// One client, which is a network.
+const NETWORK: &str = r#"
+[[client]]
+address = "192.168.1.16/30"
+secret = "xyzzy5461"
+
+[[pool]]
+name = "one"
+first = "10.0.0.1"
+last = "10.0.0.1"
+
+[[user]]
+name = "nemo"
+password = "arctangent"
+pool = "one"
+service = 2
+protocol = 1
+"#;
 
 /// The Start of the first session.
 const STARTED: Asked = Account(0, &[START, FIRST_CLASS]);
@@ -187,4 +207,31 @@ fn a_session_ended_so_counts_for_no_limit(rt: HostRuntime) -> Result<(), Fail> {
         (3_000, Ask(Access(3, SIXTEEN), SECOND), "another session"),
     ];
     play(&rt, rt.alloc(), ROWS)
+}
+
+#[test]
+fn the_addresses_of_a_network_have_sessions_of_their_own(rt: HostRuntime) -> Result<(), Fail> {
+    const ROWS: &[Row] = &[
+        (0, Ask(EXAMPLE, NEMO_FIRST), "nemo"),
+        (
+            1_000,
+            Ask(NextAccount(0, &[START, FIRST_CLASS]), RESPONSE),
+            "a Start from another address of the client",
+        ),
+        (1_000, Sessions(&[(1, Active, 0)]), "it is active"),
+        (
+            5_000,
+            Ask(NextAccount(1, &[ACCOUNTING_ON]), RESPONSE),
+            "an Accounting-On of that address",
+        ),
+        (5_000, Sessions(&[(1, Active, 0)]), "it is active still"),
+        (
+            6_000,
+            Ask(Account(1, &[ACCOUNTING_ON]), RESPONSE),
+            "an Accounting-On of its source",
+        ),
+        (6_000, Sessions(&[(1, Ended, 0)]), "it has ended"),
+    ];
+    let config = Config::read(rt.alloc(), NETWORK)?;
+    play_over(&rt, rt.alloc(), &config, ROWS)
 }
