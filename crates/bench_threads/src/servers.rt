@@ -8,7 +8,7 @@ use rad_server::Server;
 use std::alloc::Global;
 use std::sync::atomic::AtomicU64;
 
-/// One client, and a user who may have as many sessions as there may be. A session without a Start lives a day.
+/// One client, and a user who may have 4,096 sessions. A session without a Start lives a day.
 const CONFIGURATION: &str = "window = 1\nhold = 86400\n\
     [[client]]\naddress = \"192.168.1.16\"\nsecret = \"xyzzy5461\"\n\
     [[user]]\nname = \"nemo\"\npassword = \"arctangent\"\nsessions = 4096\n";

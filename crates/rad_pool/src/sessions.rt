@@ -17,7 +17,7 @@ use std::alloc::{AllocError, Global};
 use std::marker::Model;
 
 /// The most sessions that a lawful table has, of any phase.
-pub const SESSIONS_MAX: usize = 4_096;
+pub const SESSIONS_MAX: usize = 65_536;
 
 /// The sessions, oldest first, and the number of the next one.
 ///

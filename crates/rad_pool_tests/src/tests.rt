@@ -15,8 +15,7 @@ use std::alloc::Global;
 use std::process::Abort;
 use std::test::Fail;
 
-/// Two clients; users who share a pool of one address, one with two sessions and two addresses, and without addresses one with many
-/// sessions and one with one.
+/// Two clients; users who share a pool of one address, one with two sessions and two addresses, and one without addresses.
 const CAMPUS: &str = r#"
 window = 30
 hold = 60
@@ -56,11 +55,6 @@ pool = "two"
 sessions = 2
 
 [[user]]
-name = "many"
-password = "p"
-sessions = 4096
-
-[[user]]
 name = "solo"
 password = "p"
 "#;
@@ -71,9 +65,7 @@ const DORY: u32 = 1;
 
 const BRUCE: u32 = 2;
 
-const MANY: u32 = 3;
-
-const SOLO: u32 = 4;
+const SOLO: u32 = 3;
 
 /// The address of the pool `one`, and those of the pool `two`.
 const ONE: u32 = 0x0A00_0001;

@@ -19,7 +19,7 @@ use std::marker::Model;
 use thiserror::Error;
 
 /// The most replies that are kept.
-pub const KEPT_MAX: usize = 4_096;
+pub const KEPT_MAX: usize = 65_536;
 
 /// Why a reply is not kept. `Full` is reported where both apply.
 #[derive(Clone, Copy, Debug, PartialEq, Eq, Error)]

@@ -46,7 +46,7 @@ enum Answered<'a> {
 /// What a table is filled with.
 #[derive(Clone, Copy)]
 enum Filling {
-    /// Sessions of `many`, numbered in turn from 1 on.
+    /// Sessions of `many` and then of the other fifteen, 4,096 each, numbered in turn from 1 on.
     Sessions,
     /// Kept Accounting-Responses.
     Replies,
@@ -68,7 +68,7 @@ enum Step {
     /// A server that is opened with this configuration is the same, or isn't.
     Open(&'static str, bool),
     /// So many requests, each with a port or an Identifier of its own, and their answers.
-    Fill(Filling, u16),
+    Fill(Filling, u32),
     /// The number, phase and moment of the grant of each session, oldest first. The clock is at the step's moment.
     Sessions(&'static [(u64, Phase, u64)]),
     /// The port and the Identifier of each request whose reply is kept, and the moment of the reply, oldest first.

@@ -1,10 +1,10 @@
 use super::{Call, ask, holds, make};
 use rad_config::Config;
-use rad_pool::{Grant, Refusal, SESSIONS_MAX, Sessions};
+use rad_pool::{Grant, Refusal, Sessions};
 use std::alloc::Global;
 use std::test::Fail;
 
-/// One user, with as many sessions as there may be, of a pool that has more addresses.
+/// One user, with as many sessions as a user may have, of a pool that has more addresses.
 const WIDE: &str = r#"
 [[client]]
 address = "192.168.1.16"
@@ -35,13 +35,20 @@ fn addresses_are_given_in_turn_and_again(rt: HostRuntime) -> Result<(), Fail> {
         "each session has the next number and address",
     );
     sessions.stop(100);
-    let full = Call::Refuse(0, Refusal::Full);
+    let next = Call::Grant(0, 4_097, Some(0x0A01_1000));
     holds(
         &rt,
-        make(&mut sessions, &config, 29_999, &full),
+        make(&mut sessions, &config, 29_999, &next),
         "the ended session still has its address",
     );
-    let again = Call::Grant(0, 4_097, Some(FIRST + 99));
+    let refused = Call::Refuse(0, Refusal::SessionLimit);
+    holds(
+        &rt,
+        make(&mut sessions, &config, 30_000, &refused),
+        "its address is free again, but the user has no session left",
+    );
+    sessions.stop(101);
+    let again = Call::Grant(0, 4_098, Some(FIRST + 99));
     holds(
         &rt,
         make(&mut sessions, &config, 30_000, &again),
@@ -50,14 +57,14 @@ fn addresses_are_given_in_turn_and_again(rt: HostRuntime) -> Result<(), Fail> {
     Ok(())
 }
 
-// Whether as many sessions as there may be are granted, the last one with 10.1.15.255.
+// Whether as many sessions as the user may have are granted, the last one with 10.1.15.255.
 fn are_in_turn(sessions: &mut Sessions, config: &Config) -> bool {
     let mut is_right = true;
     let mut last = None;
-    for place in 0..SESSIONS_MAX {
+    for place in 0..4_096u32 {
         let grant = Grant {
             number: place as u64 + 1,
-            address: Some(FIRST + place as u32),
+            address: Some(FIRST + place),
         };
         last = ask(sessions, config, 0, 0);
         is_right = is_right && last == Some(Ok(grant));

@@ -8,7 +8,7 @@ use rad_config::Config;
 use std::alloc::Global;
 
 /// How many replies are kept at first, keys there are, and calls are made: few replies, and as many as there may be.
-const REPLY_RUNS: [(u64, u64, u64); 2] = [(0, 300, 6_000), (4_090, 8_192, 800)];
+const REPLY_RUNS: [(u64, u64, u64); 2] = [(0, 300, 6_000), (65_530, 131_072, 800)];
 
 /// No random call comes before this moment.
 const START: u64 = 20_000;

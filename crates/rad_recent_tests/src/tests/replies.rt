@@ -21,21 +21,21 @@ const LONG: &[u8] = b"\x01\x07\x00\x14sixteen octets...";
 #[derive(Clone, Copy)]
 enum Call {
     /// What `room` answers, and then `keep`.
-    Keep(u16, &'static [u8], u8, Result<(), KeepFault>),
+    Keep(u32, &'static [u8], u8, Result<(), KeepFault>),
     /// `keep_shared` answers what `keep` does, and leaves the same table.
-    Share(u16),
-    Look(u16, &'static [u8], Option<u8>),
+    Share(u32),
+    Look(u32, &'static [u8], Option<u8>),
     Expire,
     /// The Code and moment of each kept reply, oldest first.
     Rows(&'static [(u8, u64)]),
     /// A copy is the same, and isn't once a reply to the request of this place is kept.
-    Copy(u16),
+    Copy(u32),
     /// Each row of `REPEATS` is or isn't found.
     Repeats,
-    /// A reply to each of 4,096 requests is kept.
+    /// A reply to each of 65,536 requests is kept.
     Fill,
     /// A reply to the request of this place isn't kept, and nothing changes.
-    Refuse(u16),
+    Refuse(u32),
 }
 
 use Call::{Copy, Expire, Fill, Keep, Look, Refuse, Repeats, Rows, Share};
@@ -44,13 +44,12 @@ use Call::{Copy, Expire, Fill, Keep, Look, Refuse, Repeats, Rows, Share};
 type Row = (u64, Call, &'static str);
 
 // The keys of one source: 256 Identifiers of a port, then those of the next port.
-fn key_at(place: u16) -> Key {
-    let [high, low] = place.to_be_bytes();
+fn key_at(place: u32) -> Key {
     Key {
         source: 0xC0A8_0110,
-        port: 1645 + high as u16,
+        port: 1645 + (place / 256 % 1_024) as u16,
         door: Door::Auth,
-        id: low,
+        id: (place % 256) as u8,
     }
 }
 
@@ -120,7 +119,7 @@ fn keep_shared(
 }
 
 // Whether `keep_shared` answers what `keep` does, and leaves the same table.
-fn keeps_shared(recent: &mut Recent, alloc: Global, place: u16, now: u64) -> bool {
+fn keeps_shared(recent: &mut Recent, alloc: Global, place: u32, now: u64) -> bool {
     let Ok(mut other) = recent.copy() else {
         return false;
     };
@@ -158,7 +157,7 @@ fn are_rows(recent: &Recent, wanted: &[(u8, u64)]) -> bool {
 }
 
 // Whether a copy is the same, and isn't once one more reply is kept.
-fn copies(recent: &mut Recent, alloc: Global, place: u16, now: u64) -> bool {
+fn copies(recent: &mut Recent, alloc: Global, place: u32, now: u64) -> bool {
     let Ok(copy) = recent.copy() else {
         return false;
     };
@@ -168,7 +167,7 @@ fn copies(recent: &mut Recent, alloc: Global, place: u16, now: u64) -> bool {
 }
 
 // Whether one more reply isn't kept for want of room, and nothing changes.
-fn refuses(recent: &mut Recent, alloc: Global, place: u16, now: u64) -> bool {
+fn refuses(recent: &mut Recent, alloc: Global, place: u32, now: u64) -> bool {
     let Ok(before) = recent.copy() else {
         return false;
     };
@@ -176,10 +175,10 @@ fn refuses(recent: &mut Recent, alloc: Global, place: u16, now: u64) -> bool {
     (kept, recent.same(&before)) == (Some(Err(KeepFault::Full)), true)
 }
 
-// Whether as many replies are kept as there may be: to all Identifiers of 16 ports.
+// Whether as many replies are kept as there may be: to all Identifiers of 256 ports.
 fn fills(recent: &mut Recent, alloc: Global, now: u64) -> bool {
     let mut is_right = true;
-    for place in 0..4_096 {
+    for place in 0..65_536 {
         is_right = is_right && keep(recent, alloc, key_at(place), FIRST, 2, now) == Some(Ok(()));
     }
     is_right
@@ -273,14 +272,14 @@ fn a_copy_of_replies_is_the_same_until_one_changes(rt: HostRuntime) -> Result<()
 #[test]
 fn so_many_replies_and_no_more(rt: HostRuntime) -> Result<(), Fail> {
     const ROWS: &[Row] = &[
-        (0, Fill, "4,096 keys"),
-        (29_999, Refuse(4_096), "one more key"),
+        (0, Fill, "65,536 keys"),
+        (29_999, Refuse(65_536), "one more key"),
         (29_999, Keep(77, SECOND, 11, Ok(())), "a key that is there"),
         (29_999, Look(77, SECOND, Some(11)), "its later reply"),
         (29_999, Look(77, FIRST, None), "its first reply is gone"),
         (29_999, Look(76, FIRST, Some(2)), "the others are there"),
-        (29_999, Refuse(4_096), "one more key, as before"),
-        (30_000, Keep(4_096, FIRST, 3, Ok(())), "the window is over"),
+        (29_999, Refuse(65_536), "one more key, as before"),
+        (30_000, Keep(65_536, FIRST, 3, Ok(())), "the window is over"),
         (30_000, Rows(&[(11, 29_999), (3, 30_000)]), "both live"),
     ];
     play(&rt, rt.alloc(), ROWS)

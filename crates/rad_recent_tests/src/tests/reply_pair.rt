@@ -38,15 +38,15 @@ impl ReplyPair {
         })
     }
 
-    /// Keeps so many replies on both, each to a key of its own, one a millisecond. Whether they are kept.
+    /// Keeps so many replies on both, each to a key of its own, sixteen a millisecond. Whether they are kept.
     pub fn fill(&mut self, count: u64) -> bool {
         let mut is_right = true;
-        for place in 0..count.min(4_096) {
+        for place in 0..count.min(65_536) {
             let reply = Reply {
                 key: key_at(place),
                 octets: b"sixteen octets..",
                 code: 2,
-                made: place,
+                made: place / 16,
             };
             is_right = is_right && self.fills(&reply);
         }

@@ -1,5 +1,6 @@
-/// Two clients. `nemo` and `dory` share a pool of one address; `bruce` may have two sessions; `kay` is challenged; `many` may have
-/// as many sessions as there are, and no address; `coral` has all that an Access-Accept may tell; the rest have long passwords.
+/// Two clients. `nemo` and `dory` share a pool of one address; `bruce` may have two sessions; `kay` is challenged; `many` and
+/// fifteen more may together have as many sessions as there are, and no address; `coral` has all that an Access-Accept may tell; the
+/// rest have long passwords.
 pub(crate) const CAMPUS: &str = r#"
 window = 30
 hold = 60
@@ -53,6 +54,81 @@ answer = "4711"
 
 [[user]]
 name = "many"
+password = "p"
+sessions = 4096
+
+[[user]]
+name = "many1"
+password = "p"
+sessions = 4096
+
+[[user]]
+name = "many2"
+password = "p"
+sessions = 4096
+
+[[user]]
+name = "many3"
+password = "p"
+sessions = 4096
+
+[[user]]
+name = "many4"
+password = "p"
+sessions = 4096
+
+[[user]]
+name = "many5"
+password = "p"
+sessions = 4096
+
+[[user]]
+name = "many6"
+password = "p"
+sessions = 4096
+
+[[user]]
+name = "many7"
+password = "p"
+sessions = 4096
+
+[[user]]
+name = "many8"
+password = "p"
+sessions = 4096
+
+[[user]]
+name = "many9"
+password = "p"
+sessions = 4096
+
+[[user]]
+name = "many10"
+password = "p"
+sessions = 4096
+
+[[user]]
+name = "many11"
+password = "p"
+sessions = 4096
+
+[[user]]
+name = "many12"
+password = "p"
+sessions = 4096
+
+[[user]]
+name = "many13"
+password = "p"
+sessions = 4096
+
+[[user]]
+name = "many14"
+password = "p"
+sessions = 4096
+
+[[user]]
+name = "many15"
 password = "p"
 sessions = 4096
 

@@ -9,12 +9,12 @@ use rad_auth::Door::Acct;
 use rad_pool::Phase::Pending;
 use std::test::Fail;
 
-/// nemo's attributes, in the session of number 4,096.
+/// nemo's attributes, in the session of number 65,536.
 const NEMO_LAST: &[u8; 32] = b"\
     \x06\x06\x00\x00\x00\x02\
     \x07\x06\x00\x00\x00\x01\
     \x08\x06\x0a\x00\x00\x01\
-    \x19\x0eRAP1\x00\x00\x00\x00\x00\x00\x10\x00";
+    \x19\x0eRAP1\x00\x00\x00\x00\x00\x01\x00\x00";
 
 /// What kay is sent with the challenge of number 1,025.
 const CHALLENGED_LAST: &[u8; 33] = b"\
@@ -22,21 +22,25 @@ const CHALLENGED_LAST: &[u8; 33] = b"\
     \x18\x1a\0\0\0\0\0\0\x04\x01\0\0\0\0\0\0\0\0\0\0\0\0\0\0\0\x01";
 
 #[test]
-fn there_are_4096_sessions_and_no_more(rt: HostRuntime) -> Result<(), Fail> {
+fn there_are_65536_sessions_and_no_more(rt: HostRuntime) -> Result<(), Fail> {
     const ROWS: &[Row] = &[
-        (0, Fill(Filling::Sessions, 4_096), "as many as there may be"),
+        (
+            0,
+            Fill(Filling::Sessions, 65_536),
+            "as many as there may be",
+        ),
         (30_000, Ask(DORY, SERVER_FULL), "no room for dory"),
         (
             60_000,
             Ask(
                 DORY_AGAIN,
-                Accept(b"\x08\x06\x0a\0\0\x01\x19\x0eRAP1\0\0\0\0\0\0\x10\x01"),
+                Accept(b"\x08\x06\x0a\0\0\x01\x19\x0eRAP1\0\0\0\0\0\x01\0\x01"),
             ),
             "the others are gone",
         ),
         (
             60_000,
-            Sessions(&[(4_097, Pending, 60_000)]),
+            Sessions(&[(65_537, Pending, 60_000)]),
             "the next number",
         ),
     ];
@@ -46,7 +50,7 @@ fn there_are_4096_sessions_and_no_more(rt: HostRuntime) -> Result<(), Fail> {
 #[test]
 fn a_full_server_is_reported_last(rt: HostRuntime) -> Result<(), Fail> {
     const ROWS: &[Row] = &[
-        (0, Fill(Filling::Sessions, 4_095), "room for one more"),
+        (0, Fill(Filling::Sessions, 65_535), "room for one more"),
         (0, Ask(EXAMPLE, Accept(NEMO_LAST)), "nemo"),
         (
             30_000,
@@ -68,9 +72,9 @@ fn a_full_server_is_reported_last(rt: HostRuntime) -> Result<(), Fail> {
 }
 
 #[test]
-fn there_are_4096_kept_replies_and_no_more(rt: HostRuntime) -> Result<(), Fail> {
+fn there_are_65536_kept_replies_and_no_more(rt: HostRuntime) -> Result<(), Fail> {
     const ROWS: &[Row] = &[
-        (0, Fill(Filling::Replies, 4_096), "as many as there may be"),
+        (0, Fill(Filling::Replies, 65_536), "as many as there may be"),
         (
             29_999,
             Ask(Account(0, &[START]), RESPONSE),

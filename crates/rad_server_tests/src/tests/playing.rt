@@ -2,7 +2,7 @@
 ghost use Rattle.std.specs.Prelude.{◌≡◌, IfSome};
 ghost use Rattle.rad_auth.specs.Admission.{IsAdmitted};
 
-use super::requests::{Asked, KAY, MANY, START, Sent};
+use super::requests::{Asked, CROWD, KAY, START, Sent};
 use super::texts::{CHALLENGED, RESPONSE};
 use super::{Answered, Filling, PORT, Step};
 use rad_auth::{Arrival, Clients, Request, check8};
@@ -134,7 +134,7 @@ impl<'c> Run<'c> {
     }
 
     // Whether so many requests, each with a port or an Identifier of its own, are answered as they must be.
-    fn fills(&mut self, moment: u64, filling: Filling, count: u16) -> bool {
+    fn fills(&mut self, moment: u64, filling: Filling, count: u32) -> bool {
         for place in 0..count {
             if !self.fills_one(moment, filling, place) {
                 return false;
@@ -144,21 +144,21 @@ impl<'c> Run<'c> {
     }
 
     // The same for the one at this place, counted from 0.
-    fn fills_one(&mut self, moment: u64, filling: Filling, place: u16) -> bool {
-        let [high, low] = place.to_be_bytes();
-        let port = PORT + high as u16;
+    fn fills_one(&mut self, moment: u64, filling: Filling, place: u32) -> bool {
+        let port = PORT + (place / 256 % 256) as u16;
+        let identifier = (place % 256) as u8;
         let number = place as u64 + 1;
         match filling {
             Filling::Sessions => {
-                let asked = Asked::Access(low, &[MANY, Sent::Hidden(b"p")]);
+                let asked = Asked::Access(identifier, CROWD[(place / 4_096 % 16) as usize]);
                 self.answers(moment, port, &asked, &Answered::Accept(&class_of(number)))
             }
             Filling::Replies => {
-                let asked = Asked::Account(low, &[START]);
+                let asked = Asked::Account(identifier, &[START]);
                 self.answers(moment, port, &asked, &RESPONSE)
             }
             Filling::Challenges => {
-                let asked = Asked::Access(low, &[KAY, Sent::Hidden(b"pw")]);
+                let asked = Asked::Access(identifier, &[KAY, Sent::Hidden(b"pw")]);
                 let challenge = challenge_of(number);
                 self.answers(moment, port, &asked, &Answered::Challenge(&challenge))
             }

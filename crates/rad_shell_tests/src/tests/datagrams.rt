@@ -62,7 +62,7 @@ pub(crate) enum Sent {
     Access(u8, &'static [u8], &'static [u8]),
     /// An Accounting-Request of the first client about the first session, by its line, its Identifier and its Acct-Status-Type. Each
     /// line is another source port.
-    Account(u8, u8, u8),
+    Account(u16, u8, u8),
 }
 
 impl Sent {
@@ -99,7 +99,7 @@ impl Sent {
 
     fn port(&self) -> u16 {
         match self {
-            Sent::Account(line, _, _) => PORT + *line as u16,
+            Sent::Account(line, _, _) => PORT.saturating_add(*line),
             _ => PORT,
         }
     }
@@ -158,10 +158,11 @@ pub(crate) fn datagrams(alloc: Global, all: &[Sent]) -> Option<Vec<Datagram>> {
 }
 
 /// Starts, each with a line or an Identifier of its own, from this number on and before that one. A line has 256 of them.
-pub(crate) fn starts(alloc: Global, first: u16, end: u16) -> Option<Vec<Sent>> {
+pub(crate) fn starts(alloc: Global, first: u32, end: u32) -> Option<Vec<Sent>> {
     let mut all = Vec::new(alloc);
     for number in first..end {
-        let [line, identifier] = number.to_be_bytes();
+        let line = (number / 256 % 1_024) as u16;
+        let identifier = (number % 256) as u8;
         all.push(Sent::Account(line, identifier, START)).ok()?;
     }
     Some(all)

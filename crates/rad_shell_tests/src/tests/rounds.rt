@@ -124,7 +124,7 @@ fn rounds_follow_one_another(rt: HostRuntime) {
 
 #[test]
 fn a_full_table_of_replies_is_busy(rt: HostRuntime) {
-    const SENT: &[Sent] = &[Account(16, 0, START), Account(0, 0, START)];
+    const SENT: &[Sent] = &[Account(256, 0, START), Account(0, 0, START)];
     let done = round_of_full_table(&rt, rt.alloc(), SENT);
     holds(
         &rt,
@@ -184,7 +184,7 @@ fn plays<R: Threads + Wait + Sync>(
     are_outcomes(&done, outcomes) && are_tags(&done, tags) && are_sessions(service, sessions)
 }
 
-// A round of two workers, once 4,096 replies are kept.
+// A round of two workers, once 65,536 replies are kept.
 fn round_of_full_table<R: Threads + Wait + Sync>(
     rt: &R,
     alloc: Global,
@@ -217,12 +217,14 @@ fn fill_and_round<R: Threads + Wait + Sync>(
     }
 }
 
-// Whether rounds of 512 Starts, until 4,096 of them are answered, have a reply and an entry for each.
+// Whether rounds of 512 Starts, until 65,536 of them are answered, have a reply and an entry for each.
 fn fills<R: Threads + Wait + Sync>(rt: &R, alloc: Global, service: &mut Service) -> bool {
-    const FIRSTS: &[u16] = &[0, 512, 1_024, 1_536, 2_048, 2_560, 3_072, 3_584];
-    FIRSTS
-        .iter()
-        .all(|first| answers_starts(rt, alloc, service, *first))
+    for round in 0..128 {
+        if !answers_starts(rt, alloc, service, 512 * round) {
+            return false;
+        }
+    }
+    true
 }
 
 // Whether a round of 512 Starts, from this number on, has a reply and an entry for each.
@@ -230,7 +232,7 @@ fn answers_starts<R: Threads + Wait + Sync>(
     rt: &R,
     alloc: Global,
     service: &mut Service,
-    first: u16,
+    first: u32,
 ) -> bool {
     let Some(sent) = starts(alloc, first, first.saturating_add(512)) else {
         return false;
