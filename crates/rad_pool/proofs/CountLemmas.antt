@@ -16,6 +16,7 @@ use Rattle.rad_pool.specs.declared.session.Session.{Session}
 use Rattle.rad_pool.specs.Counts.{Comes, CountsOpen, Ends, GainsOpen, HoldsCounts, Leaves, LosesOpen, found_open_by, group_of, is_open_by, one_open_by, open_by, source_groups, user_of}
 use Rattle.rad_pool.specs.Meant.{meant, is_meant}
 use Rattle.rad_pool.specs.Sessions.{if_numbered, is_live, is_open, live_sessions, session_ended, session_renewed, session_reset}
+use Rattle.rad_pool.proofs.InsideLemmas.{inside_between, inside_changed, inside_copied, inside_gone, inside_granted}
 use Rattle.rad_pool.proofs.PlaceLemmas.{places_between, places_changed, places_copied, places_gone, places_granted}
 use Rattle.rad_pool.proofs.FindLemmas.{Means, find_false, find_none, find_true, none_passes}
 
@@ -66,6 +67,7 @@ holds_left spans now rows left old new h is told = record {
   sources = counts_left group_of (λ c. c.sources.items) sources_lose spans now rows left old new h.sources is told;
   groups = (left_counts group_of (λ c. c.sources.items) sources_lose (filter (is_dead is_live spans now) rows) old new told).0 ∙ h.groups;
   pools = places_gone spans now rows left old new h.pools is told;
+  inside = inside_gone spans now rows left old new h.inside is told;
 }
 
 -- ---- sessions that change, and stay open or not
@@ -99,6 +101,7 @@ holds_renewed number now rows rows' counts h changed = record {
   sources = counts_changed group_of (if_numbered (session_renewed now) number) (one_renewed group_of now (λ x. refl) number) rows rows' counts.sources.items h.sources changed;
   groups = h.groups;
   pools = places_changed (if_numbered (session_renewed now) number) rows rows' counts counts (λ x. address_kept (eqb x.number number) (is_open x.phase) x) h.pools changed refl;
+  inside = inside_changed (if_numbered (session_renewed now) number) rows rows' counts counts (λ x. address_kept (eqb x.number number) (is_open x.phase) x) h.inside changed refl refl;
 }
   where
     address_kept : (a b : Bool) (x : Session) → Session.address (cond a (cond b (record x { phase = Active; seen = now }) x) x) ≡ x.address
@@ -149,6 +152,7 @@ holds_stopped n rows rows' found old new h rising is changed ends = record {
   sources = counts_stopped group_of n rows rows' found old.sources.items new.sources.items h.sources rising is changed ends.sources;
   groups = ends.sources.len ∙ h.groups;
   pools = places_changed (if_numbered session_ended n) rows rows' old new (λ x. address_kept (eqb x.number n) x) h.pools changed ends.pools;
+  inside = inside_changed (if_numbered session_ended n) rows rows' old new (λ x. address_kept (eqb x.number n) x) h.inside changed ends.pools ends.outside;
 }
   where
     address_kept : (b : Bool) (x : Session) → Session.address (cond b (session_ended x) x) ≡ x.address
@@ -181,6 +185,7 @@ holds_between before rest x old new h ends = record {
   sources = counts_between group_of before rest x old.sources.items new.sources.items h.sources ends.sources;
   groups = ends.sources.len ∙ h.groups;
   pools = places_between before rest x old new h.pools ends.pools;
+  inside = inside_between before rest x old new h.inside ends.pools ends.outside;
 }
 
 -- those before `rest` have ended, if they are of the source
@@ -262,6 +267,7 @@ holds_granted rows rows' session old new h open' few is comes = record {
   sources = counts_granted group_of rows rows' session old.sources.items new.sources.items h.sources open' few is comes.sources;
   groups = comes.sources.len ∙ h.groups;
   pools = places_granted rows rows' session old new h.pools is comes.pools;
+  inside = inside_granted rows rows' session old new h.inside is comes.pools comes.outside;
 }
 
 -- ---- a session by its number
@@ -323,10 +329,11 @@ none_open key counts count is = record {
 counts_copied : (key : Session → ℕ) (rows rows' : List Session) (old new : List ℕ) → CountsOpen key rows old → rows' ≡ rows → new ≡ old → CountsOpen key rows' new
 counts_copied key rows rows' old new h is same = subst (λ xs. CountsOpen key xs new) (sym is) (subst (CountsOpen key rows) (sym same) h)
 
-pub holds_copied : (rows rows' : List Session) (old new : Counts) → HoldsCounts rows old → rows' ≡ rows → new.users.items ≡ old.users.items → new.sources.items ≡ old.sources.items → new.pools.items ≡ old.pools.items → HoldsCounts rows' new
-holds_copied rows rows' old new h is users sources places = record {
+pub holds_copied : (rows rows' : List Session) (old new : Counts) → HoldsCounts rows old → rows' ≡ rows → new.users.items ≡ old.users.items → new.sources.items ≡ old.sources.items → new.pools.items ≡ old.pools.items → new.outside ≡ old.outside → HoldsCounts rows' new
+holds_copied rows rows' old new h is users sources places outside = record {
   users = counts_copied user_of rows rows' old.users.items new.users.items h.users is users;
   sources = counts_copied group_of rows rows' old.sources.items new.sources.items h.sources is sources;
   groups = ap length sources ∙ h.groups;
   pools = places_copied rows rows' old new h.pools is places;
+  inside = inside_copied rows rows' old new h.inside is places outside;
 }

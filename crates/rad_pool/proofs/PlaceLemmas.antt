@@ -31,7 +31,7 @@ has_is address x = by x.address
 abbrev pub one : ℕ → Session → ℕ
 one address session = cond (has_address address session) 1 0
 
-one_is : (address : ℕ) (x : Session) → cond {A = ℕ} (is_at address x.address) 1 0 ≡ one address x
+pub one_is : (address : ℕ) (x : Session) → cond {A = ℕ} (is_at address x.address) 1 0 ≡ one address x
 one_is address x = ap (λ (b : Bool). cond {A = ℕ} b 1 0) (sym (has_is address x))
 
 -- how many sessions have it
@@ -72,15 +72,15 @@ module _ (address : ℕ) (places : SeenPlaces) where
 -- ---- one pool
 
 -- a change of uses and notes alone
-record IsOfPool (places new : SeenPlaces) : Type 0 where
-  first : new.first ≡ places.first
-  len : length new.uses ≡ length places.uses
+pub record IsOfPool (places new : SeenPlaces) : Type 0 where
+  pub first : new.first ≡ places.first
+  pub len : length new.uses ≡ length places.uses
 
-left_at : (o : Option ℕ) (places : SeenPlaces) → IsOfPool places (change_at without_use o places)
+pub left_at : (o : Option ℕ) (places : SeenPlaces) → IsOfPool places (change_at without_use o places)
 left_at None places = record { first = refl; len = refl }
 left_at (Some place) places = record { first = refl; len = length-set places.uses _ _ }
 
-come_at : (number : ℕ) (o : Option ℕ) (places : SeenPlaces) → IsOfPool places (change_at (with_holder number) o places)
+pub come_at : (number : ℕ) (o : Option ℕ) (places : SeenPlaces) → IsOfPool places (change_at (with_holder number) o places)
 come_at number None places = record { first = refl; len = refl }
 come_at number (Some place) places = record { first = refl; len = length-set places.uses _ _ }
 
@@ -166,7 +166,7 @@ places_same rows rows' old new h same kept =
 one_same : (address : ℕ) (x y : Session) → x.address ≡ y.address → one address x ≡ one address y
 one_same address x y same = sym (one_is address x) ∙ ap (λ o. cond {A = ℕ} (is_at address o) 1 0) same ∙ one_is address y
 
-held_changed : (change : Session → Session) → ((x : Session) → Session.address (change x) ≡ x.address) → (address : ℕ) (rows : List Session) → held_by address (map change rows) ≡ held_by address rows
+pub held_changed : (change : Session → Session) → ((x : Session) → Session.address (change x) ≡ x.address) → (address : ℕ) (rows : List Session) → held_by address (map change rows) ≡ held_by address rows
 held_changed change keeps address [] = refl
 held_changed change keeps address (x ∷ rows) =
     omega (arith, sum_by-cons (one address) (change x) (map change rows), sum_by-cons (one address) x rows, held_changed change keeps address rows, one_same address (change x) x (keeps x))
@@ -175,16 +175,19 @@ pub places_changed : (change : Session → Session) (rows rows' : List Session) 
 places_changed change rows rows' old new keeps h changed kept =
     places_same rows rows' old new h (λ address. ap (held_by address) changed ∙ held_changed change keeps address rows) kept
 
-pub places_between : (before rest : List Session) (x : Session) (old new : Counts) → All (IsCounted (before ++ x ∷ rest)) old.pools.items → new.pools.items ≡ old.pools.items → All (IsCounted (before ++ session_ended x ∷ rest)) new.pools.items
-places_between before rest x old new h kept =
-    places_same (before ++ x ∷ rest) (before ++ session_ended x ∷ rest) old new h (λ address. omega (
+pub held_between : (before rest : List Session) (x : Session) (address : ℕ) → held_by address (before ++ session_ended x ∷ rest) ≡ held_by address (before ++ x ∷ rest)
+held_between before rest x address =
+    omega (
       arith,
       sum_by-append (one address) before (x ∷ rest),
       sum_by-append (one address) before (session_ended x ∷ rest),
       sum_by-cons (one address) x rest,
       sum_by-cons (one address) (session_ended x) rest,
       one_same address (session_ended x) x refl,
-    )) kept
+    )
+
+pub places_between : (before rest : List Session) (x : Session) (old new : Counts) → All (IsCounted (before ++ x ∷ rest)) old.pools.items → new.pools.items ≡ old.pools.items → All (IsCounted (before ++ session_ended x ∷ rest)) new.pools.items
+places_between before rest x old new h kept = places_same (before ++ x ∷ rest) (before ++ session_ended x ∷ rest) old new h (held_between before rest x) kept
 
 -- ---- a session that comes
 

@@ -1,6 +1,8 @@
--- Counts of sessions: of the open ones of each user and of each group of sources, and of those that have each address of a pool.
-use Rattle.std.specs.Prelude.{◌≡◌, ℕ, ◌+◌, ◌-◌, ◌<◌, ◌^◌, ◌==◌, ◌%◌, ◌&&◌, Bool, List, length, slice_index, cond, count_by, map, All, Option, None, Some}
-use Rattle.rad_places.specs.Places.{SeenPlaces, place_of, uses_at, with_note, with_use, without_use}
+-- Counts of sessions: of the open ones of each user and of each group of sources, and of those that have each address of a pool;
+-- and whether some session may have another address.
+use Rattle.std.specs.Prelude.{◌≡◌, ℕ, ◌+◌, ◌-◌, ◌<◌, ◌^◌, ◌==◌, ◌%◌, ◌&&◌, ◌||◌, not, Bool, true, false, List, length, slice_index, cond, count_by, map, All, Option, None, Some}
+use Rattle.std.specs.List.{list_any}
+use Rattle.rad_places.specs.Places.{SeenPlaces, is_inside, place_of, uses_at, with_note, with_use, without_use}
 use Rattle.rad_pool.specs.Grants.{has_address}
 use Rattle.rad_pool.specs.Sessions.{is_open}
 use Rattle.rad_pool.specs.declared.counts.Counts.{Counts}
@@ -47,12 +49,22 @@ pub record CountsOpen (key : Session → ℕ) (sessions : List Session) (counts 
 pub record IsCounted (sessions : List Session) (places : SeenPlaces) : Type 0 where
   pub uses : (place : ℕ) → place < length places.uses → uses_at place places ≡ count_by (has_address (places.first + place)) sessions
 
+-- whether an address is of no pool
+abbrev pub is_outside : List SeenPlaces → Option ℕ → Bool
+is_outside pools None = false
+is_outside pools (Some address) = not (list_any (is_inside address) pools)
+
+-- no session has an address of no pool
+pub record IsInside (sessions : List Session) (pools : List SeenPlaces) : Type 0 where
+  pub none : (address : ℕ) → is_outside pools (Some address) ≡ true → count_by (has_address address) sessions ≡ 0
+
 -- the counts of all groups, and of the users and the pools that there are counts for
 pub record HoldsCounts (sessions : List Session) (counts : Counts) : Type 0 where
   pub users : CountsOpen user_of sessions counts.users.items
   pub sources : CountsOpen group_of sessions counts.sources.items
   pub groups : length counts.sources.items ≡ source_groups
   pub pools : All (IsCounted sessions) counts.pools.items
+  pub inside : counts.outside ≡ false → IsInside sessions counts.pools.items
 
 -- one use more of each address can be counted
 pub record HasLowUses (places : SeenPlaces) : Type 0 where
@@ -104,15 +116,18 @@ pub record Comes (old : Counts) (session : Session) (new : Counts) : Type 0 wher
   pub users : GainsOpen (user_of session) old.users.items new.users.items
   pub sources : GainsOpen (group_of session) old.sources.items new.sources.items
   pub pools : new.pools.items ≡ map (places_come session.address session.number) old.pools.items
+  pub outside : new.outside ≡ (old.outside || is_outside old.pools.items session.address)
 
 -- a session goes
 pub record Leaves (old : Counts) (session : Session) (new : Counts) : Type 0 where
   pub users : LosesOpen user_of (Some session) old.users.items new.users.items
   pub sources : LosesOpen group_of (Some session) old.sources.items new.sources.items
   pub pools : new.pools.items ≡ map (places_left session.address) old.pools.items
+  pub outside : new.outside ≡ old.outside
 
 -- a session that was perhaps found ends, and keeps its address
 pub record Ends (old : Counts) (found : Option Session) (new : Counts) : Type 0 where
   pub users : LosesOpen user_of found old.users.items new.users.items
   pub sources : LosesOpen group_of found old.sources.items new.sources.items
   pub pools : new.pools.items ≡ old.pools.items
+  pub outside : new.outside ≡ old.outside

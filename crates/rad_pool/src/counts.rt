@@ -1,7 +1,7 @@
 //! How many open sessions each user and each group of sources has, and how many sessions have each address of a pool.
 ghost use Rattle.std.specs.Prelude.{◌≡◌, ◌%◌, ◌==◌, ◌<◌, [], All, IfOk, length, map, replicate, slice_index};
 ghost use Rattle.rad_config.specs.Ranges.{IsPool};
-ghost use Rattle.rad_pool.specs.Counts.{Comes, Ends, GainsOpen, HasLowUses, HoldsCounts, IsCounted, Leaves, LosesAt, places_come, places_left, source_groups};
+ghost use Rattle.rad_pool.specs.Counts.{Comes, Ends, GainsOpen, HasLowUses, HoldsCounts, IsCounted, Leaves, LosesAt, is_outside, places_come, places_left, source_groups};
 
 use crate::session::{Phase, Session};
 use rad_config::{Config, Pool};
@@ -21,6 +21,8 @@ pub(crate) struct Counts {
     pub(crate) sources: Vec<u64>,
     /// How many sessions, ended ones included, have each address, and the number of the one that got it last.
     pub(crate) pools: Vec<Places>,
+    /// Whether a session came whose address is of none of the pools.
+    pub(crate) outside: bool,
 }
 
 impl Counts {
@@ -35,6 +37,7 @@ impl Counts {
             users,
             sources,
             pools,
+            outside: false,
         })
     }
 
@@ -43,6 +46,7 @@ impl Counts {
         ensures users { IfOk result (λ copy. copy.users.items ≡ self.now.users.items) }
         ensures sources { IfOk result (λ copy. copy.sources.items ≡ self.now.sources.items) }
         ensures pools { IfOk result (λ copy. copy.pools.items ≡ self.now.pools.items) }
+        ensures outside { IfOk result (λ copy. copy.outside ≡ self.now.outside) }
     {
         let users = self.users.clone()?;
         let sources = self.sources.clone()?;
@@ -51,6 +55,7 @@ impl Counts {
             users,
             sources,
             pools,
+            outside: self.outside,
         })
     }
 
@@ -61,6 +66,7 @@ impl Counts {
     {
         add_open(&mut self.users, session.user as usize);
         add_open(&mut self.sources, group_of(session.source));
+        self.outside = self.outside || is_outside(&self.pools, session.address);
         come_to_pools(&mut self.pools, session.address, session.number);
     }
 
@@ -146,6 +152,21 @@ fn copy_pools(pools: &Vec<Places>) -> Result<Vec<Places>, AllocError>
         copy.push(places.copy()?)?;
     }
     Ok(copy)
+}
+
+// Whether an address is of none of the pools.
+fn is_outside(pools: &[Places], address: Option<u32>) -> bool
+    ensures { result ≡ is_outside pools.now address }
+{
+    let Some(address) = address else {
+        return false;
+    };
+    for places in pools {
+        if places.place_of(address).is_some() {
+            return false;
+        }
+    }
+    true
 }
 
 fn come_to_pools(pools: &mut Vec<Places>, address: Option<u32>, number: u64)

@@ -49,7 +49,11 @@ pub(crate) fn find_at(
             return find_in(rows, places, place, client, address, name);
         }
     }
-    walk::find(rows, client, address, name)
+    if counts.outside {
+        walk::find(rows, client, address, name)
+    } else {
+        None
+    }
 }
 
 // The same for an address that has a place in a pool.
