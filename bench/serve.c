@@ -30,7 +30,8 @@ enum {
     WARM = 1000,
     COUNT = 200000, // the requests of a measurement
     IDS = 256,      // the Identifiers
-    PORTS = 15,     // the most from which sessions are asked for
+    PORTS = 255,    // the most from which sessions are asked for
+    SESSIONS = 4096,    // of a user
 };
 
 #define SECRET "xyzzy5461"
@@ -90,12 +91,16 @@ static size_t accounting_request(uint8_t id, uint8_t *octets) {
     return 26;
 }
 
-// nemo's Access-Request with an authenticator of this number.
+// The Access-Request of the user whose turn it is, with an authenticator of this number. As one of an access point it has NAS-IP-Address,
+// NAS-Port, NAS-Port-Type, Calling-Station-Id and Called-Station-Id, so it has 100 octets.
 static size_t access_request(uint8_t id, uint32_t number, uint8_t *octets) {
-    memcpy(octets, (uint8_t[]){1, id, 0, 44}, 4);
+    static const char rest[] = "\4\6\177\0\0\1\5\6\0\0\0\1\75\6\0\0\0\23\37\23" "02-00-00-00-00-01\36\23" "02-00-00-00-00-02";
+    size_t len = 44 + sizeof rest - 1;
+    memcpy(octets, (uint8_t[]){1, id, 0, (uint8_t)len}, 4);
     memset(octets + 4, 7, BLOCK);
     memcpy(octets + 4, &number, sizeof number);
-    memcpy(octets + HEADER, "\1\6nemo\2\22arctangent\0\0\0\0\0\0", 24);
+    memcpy(octets + HEADER, "\1\6nem?\2\22arctangent\0\0\0\0\0\0", 24);
+    octets[HEADER + 5] = (uint8_t)('a' + number / SESSIONS);
     uint8_t keyed[64], pad[BLOCK];
     memcpy(keyed, SECRET, secret_len);
     memcpy(keyed + secret_len, octets + 4, BLOCK);
@@ -103,7 +108,8 @@ static size_t access_request(uint8_t id, uint32_t number, uint8_t *octets) {
     for (size_t at = 0; at < BLOCK; at++) {
         octets[28 + at] ^= pad[at];
     }
-    return 44;
+    memcpy(octets + 44, rest, sizeof rest - 1);
+    return len;
 }
 
 // ---- the responder
@@ -306,7 +312,7 @@ struct state {
 static const struct state few = {16, 1, 1};
 
 // With the load's 256 Accounting-Requests as many replies are kept as may be, and none goes while the server is measured.
-static const struct state full = {4096, PORTS, 600};
+static const struct state full = {65536, PORTS, 600};
 
 static void grant_one(int port, uint8_t id, uint32_t number) {
     uint8_t octets[FRAME];
@@ -331,20 +337,36 @@ static void grant(const struct state *state) {
 }
 
 static void write_configuration(unsigned window) {
-    char text[300];
-    int len = snprintf(text, sizeof text,
-                       "window = %u\nhold = 86400\n[[client]]\naddress = \"127.0.0.1\"\nsecret = \"" SECRET "\"\n"
-                       "[[user]]\nname = \"nemo\"\npassword = \"arctangent\"\nsessions = 4096\n",
+    char text[2000];
+    int len = snprintf(text, sizeof text, "window = %u\nhold = 86400\n[[client]]\naddress = \"127.0.0.1\"\nsecret = \"" SECRET "\"\n"
+                       "[[pool]]\nname = \"hall\"\nfirst = \"10.0.0.0\"\nlast = \"10.0.255.255\"\n",
                        window);
-    if (len < 0 || (size_t)len >= sizeof text) {
-        end("the configuration is too long");
+    for (int user = 'a'; user <= 'p'; user++) {
+        len += snprintf(text + len, sizeof text - (size_t)len,
+                        "[[user]]\nname = \"nem%c\"\npassword = \"arctangent\"\nsessions = %d\npool = \"hall\"\n", user, SESSIONS);
+        if ((size_t)len >= sizeof text) {
+            end("the configuration is too long");
+        }
     }
     write_file("toml", text, (size_t)len);
 }
 
 struct figures {
-    double one_p50, one_p99, a_second, p50, p99, processor, most_a_second;
+    double one_p50, one_p99, a_second, p50, p99, processor, most_a_second, resident;
 };
+
+// The resident memory of a process, in MiB.
+static double resident(pid_t process) {
+    char path[64];
+    snprintf(path, sizeof path, "/proc/%d/statm", (int)process);
+    FILE *file = fopen(path, "r");
+    unsigned long pages = 0;
+    if (!file || fscanf(file, "%*u %lu", &pages) != 1) {
+        end("no memory");
+    }
+    fclose(file);
+    return (double)pages * (double)sysconf(_SC_PAGESIZE) / 1048576;
+}
 
 // The figures of a server that begins in a state; without a path of one, those of the responder.
 static struct figures measure(const char *radpool, const struct state *state) {
@@ -369,15 +391,16 @@ static struct figures measure(const char *radpool, const struct state *state) {
     found.p50 = within(COUNT, 500);
     found.p99 = within(COUNT, 990);
     found.most_a_second = COUNT / load(COUNT, SLOTS) * 1e9;
+    found.resident = resident(server);
     kill(server, SIGTERM);
     waitpid(server, NULL, 0);
     return found;
 }
 
 static void print_row(const char *name, uint32_t sessions, struct figures f, struct figures null) {
-    printf("| %s | %u | %.1f | %.1f | %.0f | %.0f | %.0f | %.2f | %.0f | %.2f | %.2f | %.2f |\n", name, sessions, f.one_p50, f.one_p99,
+    printf("| %s | %u | %.1f | %.1f | %.0f | %.0f | %.0f | %.2f | %.0f | %.2f | %.2f | %.2f | %.1f |\n", name, sessions, f.one_p50, f.one_p99,
            f.a_second, f.p50, f.p99, f.processor, f.most_a_second, f.one_p50 / null.one_p50, f.a_second / null.a_second,
-           f.most_a_second / null.most_a_second);
+           f.most_a_second / null.most_a_second, f.resident);
     fflush(stdout);
 }
 
@@ -398,8 +421,8 @@ int main(int argc, char **argv) {
     write_file("seed", "for trials alone: no draw is used", 32);
     fill_slots();
     puts("| server | sessions | one at a time: p50 µs | p99 µs | 128 at a time: requests/s | p50 µs | p99 µs | CPU µs a request "
-         "| 512 at a time: requests/s | to the responder's: p50 of one | requests/s of 128 | of 512 |");
-    puts("|---|---|---|---|---|---|---|---|---|---|---|---|");
+         "| 512 at a time: requests/s | to the responder's: p50 of one | requests/s of 128 | of 512 | resident MiB |");
+    puts("|---|---|---|---|---|---|---|---|---|---|---|---|---|");
     struct figures small = print_rows(argv[1], &few), large = print_rows(argv[1], &full);
     printf("with full tables radpool answers %.2f of the requests a second that it answers with 16 sessions, 128 at a time, "
            "and %.2f with 512 at a time\n",

@@ -2,6 +2,7 @@
 #![tactic(auto)]
 
 mod admission;
+mod calls;
 mod clock;
 mod config;
 mod digests;

@@ -32,8 +32,19 @@ fn read_and_step(alloc: Global, text: &[u8], work: Work, times: &mut [u64]) -> O
 }
 
 fn open_and_step(alloc: Global, config: &Config, work: Work, times: &mut [u64]) -> Option<usize> {
-    let server = full_server(alloc, config, work)?;
+    let server = full_server(alloc, config, work, &mut [])?;
     sign_and_step(alloc, &server, work, times)
+}
+
+fn read_and_fill(alloc: Global, text: &[u8], work: Work, times: &mut [u64]) -> Option<()> {
+    let text = str::from_utf8(text).ok()?;
+    let config = Config::read(alloc, text).ok()?;
+    open_and_fill(alloc, &config, work, times)
+}
+
+fn open_and_fill(alloc: Global, config: &Config, work: Work, times: &mut [u64]) -> Option<()> {
+    full_server(alloc, config, work, times)?;
+    Some(())
 }
 
 fn sign_and_step(alloc: Global, server: &Server, work: Work, times: &mut [u64]) -> Option<usize> {
@@ -122,4 +133,19 @@ pub extern "C" fn radpool_step(
     times: &mut [u64],
 ) -> usize {
     read_and_step(alloc, text, *work, times).unwrap_or(0)
+}
+
+/// Fills the tables of a server, and puts down the nanoseconds of the step that each row took. Returns how many rows there are; 0 without
+/// memory, or if a reply hasn't the wanted Code.
+#[unsafe(no_mangle)]
+pub extern "C" fn radpool_fill(
+    alloc: Global,
+    text: &[u8],
+    work: &Work,
+    times: &mut [u64],
+) -> usize {
+    match read_and_fill(alloc, text, *work, times) {
+        Some(()) => work.rows,
+        None => 0,
+    }
 }

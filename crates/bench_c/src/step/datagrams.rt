@@ -8,12 +8,20 @@ use rad_auth::{Arrival, Clients, Request, check8, sign_request};
 use rad_packet::{Frame, Octets};
 use std::alloc::Global;
 
-/// The request of a kind, signed. A Start, a Stop or an answer means the session or the challenge of this number.
-pub(crate) fn datagram(alloc: Global, clients: &Clients, kind: Kind, number: u64) -> Option<Frame> {
+/// The request of a kind, signed, with the user and the Identifier of a place. A Start, a Stop or an answer means the session or the
+/// challenge of this number.
+pub(crate) fn datagram(
+    alloc: Global,
+    clients: &Clients,
+    kind: Kind,
+    place: usize,
+    number: u64,
+) -> Option<Frame> {
     let secret = clients.secret(clients.find(CLIENT)?);
-    let body = request(alloc, kind, secret, number).ok()?;
+    let body = request(alloc, kind, secret, place, number).ok()?;
     let mut frame = Frame::new(alloc).ok()?;
-    sign_request(&body, 0, &AUTHENTICATOR, secret, &mut frame).ok()?;
+    let id = (place % 256) as u8;
+    sign_request(&body, id, &AUTHENTICATOR, secret, &mut frame).ok()?;
     Some(frame)
 }
 
@@ -22,7 +30,7 @@ pub(crate) fn datagrams(alloc: Global, clients: &Clients, work: Work) -> Option<
     let kind = Kind::of(work.kind);
     let mut datagrams = Vec::new(alloc);
     for step in 0..work.steps {
-        let frame = datagram(alloc, clients, kind, work.number(step))?;
+        let frame = datagram(alloc, clients, kind, work.place(step), work.number(step))?;
         datagrams
             .push(Octets::of(alloc, frame.octets()).ok()?)
             .ok()?;
@@ -49,7 +57,7 @@ pub(crate) fn admit_each<'a>(
     Some(requests)
 }
 
-/// The request that a datagram is, which came from the port of a place.
+/// The request that a datagram is, which came from the port of a place. 256 places have the same.
 pub(crate) fn admit<'a>(
     clients: &Clients,
     kind: Kind,
@@ -60,7 +68,7 @@ pub(crate) fn admit<'a>(
 {
     let arrival = Arrival {
         source: CLIENT,
-        port: 1024 + (place % 4096) as u16,
+        port: 1024 + (place / 256 % 256) as u16,
         door: kind.door(),
         octets,
     };

@@ -22,7 +22,7 @@ const STOP: &[u8] = b"\0\0\0\x02";
 
 // What Accounting-Requests say beside their Acct-Status-Type and their Class.
 const ACCOUNTING: [(u8, &[u8]); 5] = [
-    (attribute::USER_NAME, b"plain"),
+    (attribute::USER_NAME, b"plainA"),
     (attribute::NAS_IP_ADDRESS, b"\xc0\xa8\x01\x10"),
     (ACCT_SESSION_ID, b"5f3a9c01"),
     (EVENT_TIMESTAMP, b"\x65\x43\x21\0"),
@@ -32,9 +32,9 @@ const ACCOUNTING: [(u8, &[u8]); 5] = [
 /// What is measured.
 #[derive(Clone, Copy)]
 pub(crate) enum Kind {
-    /// An Access-Request of the user without a pool, which is accepted.
+    /// An Access-Request of a user without a pool, which is accepted.
     Accept,
-    /// One of the user with a pool, which is accepted.
+    /// One of a user with a pool, which is accepted.
     Pooled,
     /// The same where no address is left, which is rejected.
     NoAddress,
@@ -97,21 +97,26 @@ impl Kind {
     }
 }
 
-/// The request of a kind. A Start, a Stop or an answer means the session or the challenge of this number.
+/// The request of a kind. It is of the user of a place, if sixteen take turns. A Start, a Stop or an answer means the session or the
+/// challenge of this number.
 pub(crate) fn request(
     alloc: Global,
     kind: Kind,
     secret: &Secret,
+    place: usize,
     number: u64,
 ) -> Result<Body, AllocError>
     ensures { IfOk result (λ body. IsRequestCode body.code) }
 {
+    let turn = b'A' + (place % 16) as u8;
+    let plain = [b'p', b'l', b'a', b'i', b'n', turn];
+    let pooled = [b'p', b'o', b'o', b'l', b'e', b'd', turn];
     match kind {
-        Kind::Accept | Kind::Repeat => access_request(alloc, secret, b"plain", b"a good password"),
+        Kind::Accept | Kind::Repeat => access_request(alloc, secret, &plain, b"a good password"),
         Kind::Pooled | Kind::NoAddress => {
-            access_request(alloc, secret, b"pooled", b"a good password")
+            access_request(alloc, secret, &pooled, b"a good password")
         }
-        Kind::Reject => access_request(alloc, secret, b"plain", b"a wrong password"),
+        Kind::Reject => access_request(alloc, secret, &plain, b"a wrong password"),
         Kind::Challenge => access_request(alloc, secret, b"asked", b"a good password"),
         Kind::Answer => answer_request(alloc, secret, number),
         Kind::Start => accounting_request(alloc, START, number),

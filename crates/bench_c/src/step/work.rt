@@ -18,10 +18,10 @@ pub struct Work {
     pub rows: usize,
     /// How many challenges wait. They are as old as the first sessions.
     pub challenges: usize,
-    /// How many of the sessions are of a user without a pool. They are the oldest, and the others are of a user with one.
+    /// How many of the sessions are of users without a pool. They are the oldest, and the others are of users with one.
     pub plain: usize,
-    /// The milliseconds between two rows, or two steps.
-    pub gap: u64,
+    /// The milliseconds that a row lives. In so many all rows come, the same time apart but for less than a millisecond.
+    pub life: u64,
     /// How many steps are taken on each copy.
     pub steps: usize,
 }
@@ -31,7 +31,7 @@ impl Work {
     pub fn moment_of_row(self, place: usize) -> u64
         ensures { result ≤ moment_max }
     {
-        self.gap.saturating_mul(place as u64).min(MOMENT_MAX)
+        (self.life.saturating_mul(place as u64) / (self.rows as u64).max(1)).min(MOMENT_MAX)
     }
 
     /// The moment of a step. Steps go on where the rows end.
@@ -41,8 +41,8 @@ impl Work {
         self.moment_of_row(self.rows.saturating_add(step))
     }
 
-    /// The place from whose port the request of a step comes: that of the row that goes at the step, or of the last row if its request
-    /// is repeated.
+    /// The place whose port, Identifier and user the request of a step has: that of the row that goes at the step, or of the last row if
+    /// its request is repeated.
     pub fn place(self, step: usize) -> usize {
         match Kind::of(self.kind) {
             Kind::Repeat => self.rows.saturating_sub(1),
