@@ -1,0 +1,4 @@
+pub mod BackLemmas
+pub mod DrawLemmas
+pub mod FinishedLemmas
+pub mod SeatLemmas
