@@ -1,5 +1,5 @@
 -- Works: what a worker of a round knows while it works. Arrivals are counted from 0, and so are lanes and the receipts of a pass.
-use Rattle.std.specs.Prelude.{◌≡◌, ◌≢◌, ℕ, ◌+◌, List, [], Option, Some, None, Result, Ok, length, replicate, slice_get, slice_set, IsSome, All}
+use Rattle.std.specs.Prelude.{◌≡◌, ◌≢◌, ℕ, ◌+◌, ◌/◌, List, [], Option, Some, None, Result, Ok, length, replicate, slice_get, slice_set, IsSome, All}
 use Rattle.std.specs.Option.{option_map}
 use Rattle.rad_auth.specs.Admission.{HoldsAdmitted, admission}
 use Rattle.rad_auth.specs.Clients.{Client, client_at}
@@ -8,6 +8,7 @@ use Rattle.rad_auth.specs.Sealing.{job_octets, reply_octets}
 use Rattle.rad_auth.specs.declared.arrival.Request.{Request}
 use Rattle.rad_auth.specs.declared.discard.Discard.{Discard}
 use Rattle.rad_auth.specs.declared.job.Job.{Job}
+use Rattle.rad_claim.specs.Claims.{Claims, ClaimSeat, IsFinishedSeatOf, IsSeatOf}
 use Rattle.rad_desk.specs.Passes.{Pass}
 use Rattle.rad_desk.specs.declared.mismatch.Mismatch.TheVariants.{Opening, Count}
 use Rattle.rad_desk.specs.declared.receipt.Receipt.{Receipt}
@@ -138,24 +139,35 @@ pub record IsFound (clients : List Client) (arrivals : List Timed) (Has : Option
 abbrev pub IsFoundBy : List Client → List Timed → (Option ℕ → Entry → Type 0) → Numbered → Type 0
 IsFoundBy clients arrivals Has found = IsFound clients arrivals Has found.number found.place found.outcome
 
--- a worker: the receipts of its pass, and the outcomes of its arrivals
+-- ---- workers
+
+-- how many batches these arrivals are
+abbrev pub batch_count : List Timed → ℕ
+batch_count arrivals = (length arrivals + 7) / 8
+
+-- a worker: its seat, which it gives away while it works; the receipts of its pass; and the outcomes of its arrivals
 pub record Worker : Type 0 where
+  pub seat : Option ClaimSeat
   pub pass : Pass
   pub outcomes : List Numbered
 
--- a worker that has done nothing
-abbrev pub IsIdle : Worker → Type 0
-IsIdle worker = worker.outcomes ≡ []
-
-abbrev pub AreIdle : List Worker → Type 0
-AreIdle workers = All IsIdle workers
+-- a worker that has done nothing, with a seat of these claims
+pub record IsIdle (claims : Claims) (worker : Worker) : Type 0 where
+  pub seat : ClaimSeat
+  pub seat_is : worker.seat ≡ Some seat
+  pub own : IsSeatOf claims seat
+  pub none : worker.outcomes ≡ []
 
 -- the outcomes of a worker are those of arrivals, by the receipts of its pass
 abbrev pub HasAnswered : List Client → List Timed → Worker → Type 0
 HasAnswered clients arrivals worker = All (IsFoundBy clients arrivals (HasReceipt worker.pass.receipts)) worker.outcomes
 
-abbrev pub HaveAnswered : List Client → List Timed → List Worker → Type 0
-HaveAnswered clients arrivals workers = All (HasAnswered clients arrivals) workers
+-- the same, and the worker has a seat of these claims that was told that there are no more batches
+pub record HasFinished (claims : Claims) (clients : List Client) (arrivals : List Timed) (worker : Worker) : Type 0 where
+  pub seat : ClaimSeat
+  pub seat_is : worker.seat ≡ Some seat
+  pub finished : IsFinishedSeatOf claims seat
+  pub answered : HasAnswered clients arrivals worker
 
 -- ---- the table
 

@@ -3,7 +3,7 @@ ghost use Rattle.std.specs.Prelude.{◌≡◌, ◌+◌, ◌≤◌, ◌^◌, ◌<
 ghost use Rattle.std.specs.Option.{option_map};
 ghost use Rattle.rad_auth.specs.Sealing.{IsJob};
 ghost use Rattle.rad_round.specs.Rounds.{AreMoments};
-ghost use Rattle.rad_round.specs.Works.{AreAsked, AreKept, AreSealed, AreVerdicts, IsAskedIn, IsJobIn, IsJobOf, IsVerdict};
+ghost use Rattle.rad_round.specs.Works.{AreAsked, AreKept, AreSealed, AreVerdicts, IsAskedIn, IsJobIn, IsJobOf, IsVerdict, batch_count};
 
 use crate::timed::Timed;
 use rad_auth::{Arrival, Clients, Discard, Job, Request, admitted_is_answerable, check8, seal8};
@@ -17,6 +17,13 @@ pub(crate) const BATCH: usize = 8;
 
 /// The verdict on an arrival; None in a lane without one.
 pub(crate) type Verdict<'a> = Option<Result<Request<'a>, Discard>>;
+
+/// How many batches there are.
+pub(crate) fn batch_count(arrivals: &[Timed]) -> u64
+    ensures { result ≡ batch_count arrivals.now }
+{
+    arrivals.len().div_ceil(BATCH) as u64
+}
 
 /// Checks the arrivals from this number on.
 pub(crate) fn check_batch<'a>(

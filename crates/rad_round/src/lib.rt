@@ -1,7 +1,7 @@
 //! The round: datagrams that one worker answers, or several over one desk.
 //!
-//! `Service::round` answers datagrams by one worker, which has the server to itself, or by several over a desk of `rad_desk`. Nothing
-//! is decided here: answers are `rad_server`'s.
+//! `Service::round` answers datagrams by one worker, which has the server to itself, or by several over a desk of `rad_desk`, which
+//! claim them in batches (`rad_claim`). Nothing is decided here: answers are `rad_server`'s.
 //!
 //! Other crates rest on this: when `Service::round` returns `Ok`, the history leads from the server before to the one after, and each
 //! datagram has its outcome by that history (`specs/Rounds.antt`).

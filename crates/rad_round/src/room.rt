@@ -39,7 +39,8 @@ pub(crate) fn leave(rooms: &mut Vec<Room>, room: Room) {
     }
 }
 
-/// Gives the frames of a round's replies back to its workers, of which there were so many. The last room is that of the first one.
+/// Gives the frames of a round's replies back to the rooms of its workers, of which there were so many. The batches take turns, since
+/// nothing says which worker had one.
 pub(crate) fn give_back(rooms: &mut [Room], mut outcomes: Vec<Outcome>, workers: usize) {
     while let Some(outcome) = outcomes.pop() {
         let batch = outcomes.len() / BATCH;
@@ -49,13 +50,13 @@ pub(crate) fn give_back(rooms: &mut [Room], mut outcomes: Vec<Outcome>, workers:
     }
 }
 
-// Gives a frame to the worker of this number, if there is one.
-fn give(rooms: &mut [Room], worker: Option<usize>, frame: Frame) {
-    let Some(worker) = worker else {
+// Gives a frame to the room of this number, counted from the last one, if there is one.
+fn give(rooms: &mut [Room], number: Option<usize>, frame: Frame) {
+    let Some(number) = number else {
         return;
     };
-    if worker < rooms.len() {
-        let place = rooms.len() - 1 - worker;
+    if number < rooms.len() {
+        let place = rooms.len() - 1 - number;
         rooms[place].keep(frame);
     }
 }

@@ -1,9 +1,12 @@
 //! A round with several workers, each on a thread, over one lock.
 ghost use Rattle.std.specs.Prelude.{◌≡◌, ◌<◌, ◌≤◌, length, vec_len, IfErr, IfOk};
+ghost use Rattle.std.specs.List.{All};
+ghost use Rattle.rad_claim.specs.Claims.{IsNewSeatOf};
 ghost use Rattle.rad_desk.specs.Desks.{IsBlankOf};
 ghost use Rattle.rad_round.specs.Rounds.{AreMoments, Round, arrivals_max, workers_max};
-ghost use Rattle.rad_round.specs.Works.{AreIdle, HasAnswered, HaveAnswered, IsIdle, IsOwnFault};
+ghost use Rattle.rad_round.specs.Works.{HasFinished, IsIdle, IsOwnFault, batch_count};
 
+use crate::batch::batch_count;
 use crate::gate::Gate;
 use crate::outcome::Outcome;
 use crate::room::Room;
@@ -12,6 +15,7 @@ use crate::table::{Table, collect, finish};
 use crate::timed::Timed;
 use crate::worker::Worker;
 use rad_auth::Clients;
+use rad_claim::{ClaimSeat, Claims};
 use rad_desk::{Closed, Locked, Opened, Pass, close, open_with};
 use rad_server::{Entry, Server};
 use std::alloc::{AllocError, Global};
@@ -79,25 +83,50 @@ fn run_in<'c, L: Opened + Send + Sync, R: Threads + Wait + Sync, G: Gate + Sync>
     ensures fault { IfErr result IsOwnFault }
 {
     let clients = server.config().clients();
+    let (claims, seats) = Claims::open(alloc, batch_count(arrivals), workers)?;
     let (lock, passes) = open_with::<L>(alloc, blank, server, workers)?;
-    let mut workers = begin(alloc, passes, rooms)?;
-    work_all(rt, &lock, clients, arrivals, gate, workers.as_mut_slice());
-    settle_round(alloc, clients, arrivals, lock.into_inner(), workers, rooms)
+    let mut workers = begin(alloc, &claims, seats, passes, rooms)?;
+    work_all(
+        rt,
+        &lock,
+        &claims,
+        clients,
+        arrivals,
+        gate,
+        workers.as_mut_slice(),
+    );
+    settle_round(
+        alloc,
+        claims,
+        clients,
+        arrivals,
+        lock.into_inner(),
+        workers,
+        rooms,
+    )
 }
 
-// A worker for each pass, in the room that an earlier round has left, if it has.
+// A worker for each pass and seat, in the room that an earlier round has left, if it has.
 fn begin<L: Opened>(
     alloc: Global,
+    claims: &Claims,
+    mut seats: Vec<ClaimSeat>,
     mut passes: Vec<Pass<L>>,
     rooms: &mut Vec<Room>,
 ) -> Result<Vec<Worker<L>>, AllocError>
+    requires count { vec_len seats ≡ vec_len passes }
+    requires seats { All (IsNewSeatOf claims.now) seats.items }
     ensures count { IfOk result (λ workers. vec_len workers ≡ vec_len passes) }
-    ensures idle { IfOk result (λ workers. AreIdle workers.items) }
+    ensures idle { IfOk result (λ workers. All (IsIdle claims.now) workers.items) }
 {
+    let _ = claims;
     let mut workers = Vec::with_capacity(alloc, passes.len())?;
     while let Some(pass) = passes.pop() {
+        let Some(seat) = seats.pop() else {
+            unreachable!()
+        };
         let room = rooms.pop().unwrap_or(Room::new(alloc));
-        workers.push(Worker::new(alloc, pass, room))?;
+        workers.push(Worker::new(alloc, seat, pass, room))?;
     }
     Ok(workers)
 }
@@ -106,6 +135,7 @@ fn begin<L: Opened>(
 fn work_all<'c, L: Opened + Send + Sync, R: Threads + Wait + Sync, G: Gate + Sync>(
     rt: &R,
     lock: &Mutex<Locked<'c, L>>,
+    claims: &Claims,
     clients: &Clients,
     arrivals: &[Timed],
     gate: &G,
@@ -115,25 +145,28 @@ fn work_all<'c, L: Opened + Send + Sync, R: Threads + Wait + Sync, G: Gate + Syn
     requires moments { AreMoments arrivals.now }
     requires clients { clients.now ≡ L.opening.configuration.clients }
     requires workers { 0 < length workers.old }
-    requires idle { AreIdle workers.old }
-    ensures { HaveAnswered clients.now arrivals.now workers.new }
+    requires batches { claims.now.batches ≡ batch_count arrivals.now }
+    requires idle { All (IsIdle claims.now) workers.old }
+    ensures { All (HasFinished claims.now clients.now arrivals.now) workers.new }
 {
     let count = workers.len();
     for_each_mut(
         rt,
         workers,
         count,
-        &|number: usize, worker: &mut Worker<L>|
-            requires { (0 < count) × (length arrivals.now ≤ arrivals_max) × AreMoments arrivals.now
-                × (clients.now ≡ L.opening.configuration.clients) × IsIdle worker.now }
-            ensures { HasAnswered clients.entry.now arrivals.entry.now worker.exit.now }
-        { worker.work(rt, lock, clients, arrivals, gate, number, count) },
+        &|_number: usize, worker: &mut Worker<L>|
+            requires { (length arrivals.now ≤ arrivals_max) × AreMoments arrivals.now
+                × (clients.now ≡ L.opening.configuration.clients)
+                × (claims.now.batches ≡ batch_count arrivals.now) × IsIdle claims.now worker.now }
+            ensures { HasFinished claims.entry.now clients.entry.now arrivals.entry.now worker.exit.now }
+        { worker.work(rt, lock, claims, clients, arrivals, gate) },
     );
 }
 
 // What the workers made, once their receipts agree with the history.
 fn settle_round<'c, L: Opened>(
     alloc: Global,
+    claims: Claims,
     clients: &Clients,
     arrivals: &[Timed],
     locked: Locked<'c, L>,
@@ -142,13 +175,20 @@ fn settle_round<'c, L: Opened>(
 ) -> Result<(Server<'c>, Done), RoundFault>
     requires clients { clients.now ≡ L.opening.configuration.clients }
     requires parts { vec_len workers ≡ L.parts }
-    requires answered { HaveAnswered clients.now arrivals.now workers.items }
+    requires seats { vec_len workers ≡ claims.seats }
+    requires finished { All (HasFinished claims clients.now arrivals.now) workers.items }
     ensures round { IfOk result (λ made.
         Round L.opening arrivals.now made.1.outcomes.items made.1.history.items made.0) }
     ensures fault { IfErr result IsOwnFault }
 {
     let mut table = Table::new(alloc, arrivals.len())?;
-    let passes = collect(alloc, clients, arrivals, workers, &mut table, rooms)?;
+    let mut seats = Vec::with_capacity(alloc, workers.len())?;
+    let passes = collect(
+        alloc, &claims, clients, arrivals, workers, &mut seats, &mut table, rooms,
+    )?;
+    let Ok(_batches) = claims.close(seats) else {
+        unreachable!()
+    };
     let Closed { server, history } = close(locked, passes)?;
     let outcomes = finish(clients, arrivals, history.as_slice(), table)?;
     Ok((server, Done { outcomes, history }))

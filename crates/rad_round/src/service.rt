@@ -9,7 +9,7 @@ ghost use Rattle.rad_round.specs.Works.{IsOwnFault};
 ghost use Rattle.rad_round.specs.declared.round_fault.RoundFault.{RoundFault};
 
 use crate::alone::round_alone;
-use crate::batch::BATCH;
+use crate::batch::batch_count;
 use crate::gate::Gate;
 use crate::room::{Room, give_back, leave};
 use crate::round::{Done, run_round};
@@ -82,9 +82,9 @@ impl<'c> Service<'c> {
 
     /// Answers the datagrams of a round, at most `ARRIVALS_MAX`, by at most so many workers, from 1 to `WORKERS_MAX`.
     ///
-    /// Batch b has the datagrams 8b to 8b + 7, as far as there are any, and worker b modulo `workers` takes it. The caller's thread is
-    /// one of the workers, and no more workers start than there are batches. The tag of an entry is the number of its datagram. If a
-    /// round fails, the server is as it was before. The call may wait for other threads.
+    /// Batch b has the datagrams 8b to 8b + 7, as far as there are any. One worker takes batch after batch; several claim them, each the
+    /// next one whenever it is done. The caller's thread is one of the workers, and no more workers start than there are batches. The tag
+    /// of an entry is the number of its datagram. If a round fails, the server is as it was before. The call may wait for other threads.
     pub fn round<R: Threads + Wait + Sync, G: Gate + Sync>(
         &mut self,
         rt: &R,
@@ -112,7 +112,7 @@ impl<'c> Service<'c> {
         self.answer(rt, arrivals, workers, gate)
     }
 
-    // Answers the datagrams, by no more workers than there are batches.
+    // Answers the datagrams, by no more workers than there are batches, but one at least.
     fn answer<R: Threads + Wait + Sync, G: Gate + Sync>(
         &mut self,
         rt: &R,
@@ -128,7 +128,7 @@ impl<'c> Service<'c> {
         ensures unchanged { OnErr result (self.new ≡ self.old) }
         ensures fault { IfErr result IsOwnFault }
     {
-        let workers = workers.min(batch_count(arrivals));
+        let workers = workers.min(batch_count(arrivals).max(1));
         self.workers = workers;
         if workers == 1 {
             self.answer_alone(arrivals, gate)
@@ -199,13 +199,6 @@ impl<'c> Service<'c> {
         let Done { outcomes, .. } = done;
         give_back(&mut self.rooms, outcomes, self.workers as usize);
     }
-}
-
-// The batches of a round, at least one.
-fn batch_count(arrivals: &[Timed]) -> u64
-    ensures { 1 ≤ result }
-{
-    (arrivals.len().div_ceil(BATCH) as u64).max(1)
 }
 
 // A server that is as the current one: the spare one if there is one, or a copy.

@@ -1,7 +1,9 @@
 //! The outcomes of a round, put in order.
-ghost use Rattle.std.specs.Prelude.{◌≡◌, [], ◌+◌, length, vec_len, slice_get, All, IfErr, IfNone, IfOk, IsTrue, OnOk, Some};
+ghost use Rattle.std.specs.Prelude.{◌≡◌, ◌<◌, ◌≤◌, [], ◌+◌, length, vec_len, slice_get, All, IfErr, IfNone, IfOk, IsTrue, OnOk, Some};
+ghost use Rattle.std.specs.Vec.{vec_capacity};
+ghost use Rattle.rad_claim.specs.Claims.{IsFinishedSeatOf};
 ghost use Rattle.rad_round.specs.Rounds.{AreOutcomes, HasArrival, HaveOwnTags};
-ghost use Rattle.rad_round.specs.Works.{AreComplete, AreFound, AreTagged, HasAnswered, HasReceiptOfSome, HaveAnswered, IsEntryAt, IsFoundBy, IsOwnFault, empty_table, with_found};
+ghost use Rattle.rad_round.specs.Works.{AreComplete, AreFound, AreTagged, HasFinished, HasReceiptOfSome, IsEntryAt, IsFoundBy, IsOwnFault, empty_table, with_found};
 
 use crate::outcome::Outcome;
 use crate::room::{Room, leave};
@@ -9,6 +11,7 @@ use crate::round_fault::RoundFault;
 use crate::timed::Timed;
 use crate::worker::{Numbered, Worker};
 use rad_auth::Clients;
+use rad_claim::{ClaimSeat, Claims};
 use rad_desk::{Mismatch, Opened, Pass};
 use rad_server::Entry;
 use std::alloc::{AllocError, Global};
@@ -92,50 +95,62 @@ impl Table {
     }
 }
 
-/// Puts the outcomes of the workers into the table, and returns their passes. Their room is left in `rooms`.
+/// Puts the outcomes of the workers into the table and their seats into `seats`, and returns their passes. Their room is left in
+/// `rooms`.
 pub(crate) fn collect<L: Opened>(
     alloc: Global,
+    claims: &Claims,
     clients: &Clients,
     arrivals: &[Timed],
     mut workers: Vec<Worker<L>>,
+    seats: &mut Vec<ClaimSeat>,
     table: &mut Table,
     rooms: &mut Vec<Room>,
 ) -> Result<Vec<Pass<L>>, AllocError>
-    requires workers { HaveAnswered clients.now arrivals.now workers.items }
+    requires workers { All (HasFinished claims.now clients.now arrivals.now) workers.items }
+    requires seats { seats.old.items ≡ [] }
+    requires room { vec_len workers ≤ vec_capacity seats.old }
     requires table { AreFound clients.now arrivals.now (HasReceiptOfSome []) table.old }
     ensures count { IfOk result (λ passes. vec_len passes ≡ vec_len workers) }
+    ensures seat_count { OnOk result (vec_len seats.new ≡ vec_len workers) }
+    ensures seats { OnOk result (All (IsFinishedSeatOf claims.now) seats.new.items) }
     ensures found { IfOk result (λ passes.
         AreFound clients.now arrivals.now (HasReceiptOfSome passes.items) table.new) }
 {
     let mut passes = Vec::with_capacity(alloc, workers.len())?;
     while let Some(worker) = workers.pop() {
-        take_in(clients, arrivals, &mut passes, table, rooms, worker)?;
+        let seat = take_in(claims, clients, arrivals, &mut passes, table, rooms, worker)?;
+        seats.push_reserved(seat);
     }
     Ok(passes)
 }
 
-// Takes a worker's pass and outcomes, and leaves its room.
+// Takes a worker's pass and outcomes, leaves its room, and returns its seat.
 fn take_in<L: Opened>(
+    claims: &Claims,
     clients: &Clients,
     arrivals: &[Timed],
     passes: &mut Vec<Pass<L>>,
     table: &mut Table,
     rooms: &mut Vec<Room>,
     worker: Worker<L>,
-) -> Result<(), AllocError>
-    requires worker { HasAnswered clients.now arrivals.now worker }
+) -> Result<ClaimSeat, AllocError>
+    requires worker { HasFinished claims.now clients.now arrivals.now worker }
     requires table { AreFound clients.now arrivals.now
         (HasReceiptOfSome passes.old.items) table.old }
+    ensures seat { IfOk result (IsFinishedSeatOf claims.now) }
     ensures count { OnOk result (vec_len passes.new ≡ vec_len passes.old + 1) }
     ensures found { OnOk result
         (AreFound clients.now arrivals.now (HasReceiptOfSome passes.new.items) table.new) }
 {
+    let _ = claims;
     passes.reserve(1)?;
-    let (pass, outcomes, frames) = worker.into_parts();
+    let (seat, pass, outcomes, frames) = worker.into_parts();
+    let Some(seat) = seat else { unreachable!() };
     passes.push_reserved(pass);
     let outcomes = put_all(clients, arrivals, passes.as_slice(), outcomes, table);
     leave(rooms, Room { outcomes, frames });
-    Ok(())
+    Ok(seat)
 }
 
 // Puts the outcomes of a worker into the table. Returns the room that they had.

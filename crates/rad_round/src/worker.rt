@@ -1,7 +1,7 @@
 //! Workers of a round that has several.
 ghost use Rattle.std.specs.Prelude.{◌≡◌, [], ◌+◌, ◌*◌, ◌<◌, ◌≤◌, ◌^◌, length, IfSome, Some};
 ghost use Rattle.rad_round.specs.Rounds.{AreMoments, arrivals_max};
-ghost use Rattle.rad_round.specs.Works.{AreAsked, AreSealed, AreVerdicts, HasAnswered, HasReceipt, IsAskedIn, IsFoundBy, IsSealed, IsSealedIn, IsVerdict};
+ghost use Rattle.rad_round.specs.Works.{AreAsked, AreSealed, AreVerdicts, HasAnswered, HasFinished, HasReceipt, IsAskedIn, IsFoundBy, IsSealed, IsSealedIn, IsIdle, IsVerdict, batch_count};
 
 use crate::batch::{BATCH, Verdict, ask_batch, check_batch, seal_batch};
 use crate::gate::Gate;
@@ -9,6 +9,7 @@ use crate::outcome::Outcome;
 use crate::room::{Room, eight_frames, put_back};
 use crate::timed::Timed;
 use rad_auth::Clients;
+use rad_claim::{ClaimSeat, Claims};
 use rad_desk::{Locked, Opened, Pass, Receipt};
 use rad_packet::Frame;
 use rad_server::Answer;
@@ -26,10 +27,12 @@ pub(crate) struct Numbered {
     pub outcome: Outcome,
 }
 
-/// A worker: its pass, and the outcomes of its arrivals.
+/// A worker: its seat, its pass, and the outcomes of its arrivals.
 #[derive(Drop)]
 pub(crate) struct Worker<L: Opened> {
     alloc: Global,
+    // None while it works, since a claim takes the seat and returns it.
+    seat: Option<ClaimSeat>,
     pass: Pass<L>,
     outcomes: Vec<Numbered>,
     // Frames that no reply has taken.
@@ -41,13 +44,14 @@ impl<L: Opened> Model for Worker<L> {
 
     ghost Value = { Worker };
 
-    ghost view = { λ worker. record { pass = worker.pass; outcomes = worker.outcomes.items } };
+    ghost view = { λ worker. record { seat = worker.seat; pass = worker.pass; outcomes = worker.outcomes.items } };
 }
 
 impl<L: Opened> Worker<L> {
     /// A worker that has done nothing.
-    pub fn new(alloc: Global, pass: Pass<L>, room: Room) -> Worker<L>
-        ensures { result.outcomes ≡ [] }
+    pub fn new(alloc: Global, seat: ClaimSeat, pass: Pass<L>, room: Room) -> Worker<L>
+        ensures seat { result.seat ≡ Some seat }
+        ensures outcomes { result.outcomes ≡ [] }
     {
         let Room {
             mut outcomes,
@@ -56,49 +60,58 @@ impl<L: Opened> Worker<L> {
         outcomes.clear();
         Worker {
             alloc,
+            seat: Some(seat),
             pass,
             outcomes,
             frames,
         }
     }
 
-    /// The pass, the outcomes, and the frames that no reply has taken.
-    pub fn into_parts(self) -> (Pass<L>, Vec<Numbered>, Vec<Frame>)
-        ensures pass { result.0 ≡ self.pass }
-        ensures outcomes { result.1.items ≡ self.outcomes }
+    /// The seat, the pass, the outcomes, and the frames that no reply has taken.
+    pub fn into_parts(self) -> (Option<ClaimSeat>, Pass<L>, Vec<Numbered>, Vec<Frame>)
+        ensures seat { result.0 ≡ self.seat }
+        ensures pass { result.1 ≡ self.pass }
+        ensures outcomes { result.2.items ≡ self.outcomes }
     {
         let Worker {
+            seat,
             pass,
             outcomes,
             frames,
             ..
         } = self;
-        (pass, outcomes, frames)
+        (seat, pass, outcomes, frames)
     }
 
-    /// Answers the batches of the worker of this number: that one, and each `workers`th from there.
+    /// Claims and answers one batch after another, until there are no more.
     pub fn work<'c, R: Wait, G: Gate>(
         &mut self,
         rt: &R,
         lock: &Mutex<Locked<'c, L>>,
+        claims: &Claims,
         clients: &Clients,
         arrivals: &[Timed],
         gate: &G,
-        number: usize,
-        workers: usize,
     )
-        requires workers { 0 < workers }
         requires count { length arrivals.now ≤ arrivals_max }
         requires moments { AreMoments arrivals.now }
         requires clients { clients.now ≡ L.opening.configuration.clients }
-        requires before { HasAnswered clients.now arrivals.now self.old }
-        ensures { HasAnswered clients.now arrivals.now self.new }
+        requires batches { claims.now.batches ≡ batch_count arrivals.now }
+        requires before { IsIdle claims.now self.old }
+        ensures { HasFinished claims.now clients.now arrivals.now self.new }
     {
-        for batch in 0..arrivals.len().div_ceil(BATCH) {
-            if batch % workers == number {
-                self.answer_batch(rt, lock, clients, arrivals, gate, batch);
-            }
+        let Some(mut seat) = self.seat.take() else {
+            unreachable!()
+        };
+        loop {
+            let (batch, next) = claims.claim(seat);
+            seat = next;
+            let Some(batch) = batch else {
+                break;
+            };
+            self.answer_batch(rt, lock, clients, arrivals, gate, batch as usize);
         }
+        self.seat = Some(seat);
     }
 
     // Answers a batch.

@@ -155,12 +155,15 @@ fn two_workers_have_a_batch_each_at_once(rt: HostRuntime) {
     holds(&rt, meeting.was_held(), "each batch saw the other come");
 }
 
-// The second worker has the second, the fourth and the last batch. So while the first batch is held, two others are exchanged, the
-// latter of which wouldn't be before the first batch if that had its exchanges before its gate.
+// While one worker is held with the first batch, the other one claims all others. So four of them are exchanged then, of which the last
+// three wouldn't be before the first batch if that had its exchanges before its gate.
 #[test]
 fn a_batch_has_no_exchange_before_its_gate(rt: HostRuntime) {
     const SIX: &[Sent] = &[V; 48];
-    const OTHERS: &[u64] = &[8, 9, 10, 11, 12, 13, 14, 15, 24, 25, 26, 27, 28, 29, 30, 31];
+    const OTHERS: &[u64] = &[
+        8, 9, 10, 11, 12, 13, 14, 15, 16, 17, 18, 19, 20, 21, 22, 23, 24, 25, 26, 27, 28, 29, 30,
+        31, 32, 33, 34, 35, 36, 37, 38, 39,
+    ];
     let last_first = LastFirst::new();
     let done = first_round(&rt, rt.alloc(), SIX, 2, &last_first, &[1]);
     holds(&rt, last_first.was_held(), "each batch saw the other come");

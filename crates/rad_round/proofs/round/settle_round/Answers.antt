@@ -1,8 +1,21 @@
-use Rattle.std.proofs.Common.{All, subst, sym}
+use Rattle.std.proofs.Common.{◌≡◌, ◌∙◌, All, None, arith, subst, sym, true}
+use Rattle.std.proofs.lemmas.List.Elements.{All-weaker}
+use Rattle.std.proofs.lemmas.Option.{none-some}
+use Rattle.rad_claim.proofs.FinishedLemmas.{no_fault}
+use Rattle.rad_claim.specs.Claims.{IsFinishedSeatOf, close_fault, has_finished}
 use Rattle.rad_round.proofs.TableLemmas.{round_of, table_settled}
 use Rattle.rad_round.specs.Rounds.{AreOutcomes, HasArrival, HaveOwnTags}
 use Rattle.rad_round.specs.Works.{AreFound, IsEntryAt}
 use Rattle.rad_round.proofs.round.settle_round.Goals as goal
+
+pub unreachable-requires : goal.unreachable-requires
+unreachable-requires g c =
+    let claims = c.args.claims in
+    let seats = c.collect.new.seats in
+    let none : close_fault claims.seats seats.items ≡ None = no_fault claims.seats seats.items
+    (omega (arith, seats.ok.0, c.in_ok-passes.ensures.seat_count, c.requires.seats))
+    (All-weaker (IsFinishedSeatOf claims) (λ seat. has_finished seat ≡ true) (λ seat of. of.1) seats.items c.in_ok-passes.ensures.seats) in
+    none-some _ (sym none ∙ sym c.in_default.ensures.fault)
 
 pub finish-requires : goal.finish-requires
 finish-requires g c = record {
