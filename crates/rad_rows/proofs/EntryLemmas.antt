@@ -71,23 +71,6 @@ module _ {T S : Type 0} where
   block_holds P (e ∷ es) zero v h k = (e.0, subst (λ b. P (e.0, b)) (some_is e.1 v h) (All-head P e es k))
   block_holds P (e ∷ es) (suc i) v h k = block_holds P es i v h (All-tail P e es k)
 
-  -- ---- how many rows are live
-
-  pub count_step : (live : S → ℕ → T → Bool) (spans : S) (now : ℕ) (es : List (ℕ × SeenBlock T S)) (i : ℕ) (v : SeenBlock T S) (before here : ℕ) → slice_get (values_of es) i ≡ Some v → v.spans ≡ spans → here ≡ length (filter (live v.spans now) v.rows)
-      → before + length (filter (live spans now) (all_rows (drop i es))) ≡ length (filter (live spans now) (all_rows es))
-      → (before + here) + length (filter (live spans now) (all_rows (drop (i + 1) es))) ≡ length (filter (live spans now) (all_rows es))
-  count_step live spans now es i v before here at same is so_far =
-      let p = live spans now in
-      let rest : length (filter p (all_rows (drop i es))) ≡ length (filter p v.rows) + length (filter p (all_rows (drop (suc i) es))) =
-      ap (λ l. length (filter p l)) (rows_from es i v at) ∙ ap length (filter-append p v.rows (all_rows (drop (suc i) es))) ∙ length-append (filter p v.rows) (filter p (all_rows (drop (suc i) es))) in
-      let more : length (filter p (all_rows (drop (i + 1) es))) ≡ length (filter p (all_rows (drop (suc i) es))) = ap (λ n. length (filter p (all_rows (drop n es)))) (add-one i) in
-      let count : here ≡ length (filter p v.rows) = is ∙ ap (λ s. length (filter (live s now) v.rows)) same in
-      omega (arith, so_far, rest, more, count)
-
-  -- no more are live than there are
-  pub count_fits : (live : S → ℕ → T → Bool) (spans : S) (now : ℕ) (es : List (ℕ × SeenBlock T S)) → length (filter (live spans now) (all_rows es)) ≤ length (all_rows es)
-  count_fits live spans now es = omega (arith, length-filter (live spans now) (all_rows es), count_by-le-length (live spans now) (all_rows es))
-
   -- ---- a moment
 
   module _ (live : S → ℕ → T → Bool) where

@@ -6,11 +6,13 @@ use Rattle.std.proofs.lemmas.Bool.{eqb-true, ltb-true, lt-ltb}
 use Rattle.std.proofs.lemmas.List.{get_or-map, map-append, length-map}
 use Rattle.std.proofs.lemmas.List.Elements.{All-weaker, All-head, All-tail, All-push, All-filter, All-map, filter-append}
 use Rattle.std.proofs.lemmas.List.Quantifiers.{all_pairs_push}
+use Rattle.std.proofs.lemmas.List.Filters.{length-filter_both}
 use Rattle.std.proofs.lemmas.List.Kept.{AllPairs-filter}
 use Rattle.std.proofs.lemmas.List.Sums.{length-filter, count_by-le-length}
 use Rattle.std.proofs.lemmas.Option.{slice_get-map}
 use Rattle.rad_rows.specs.Blocks.{LivesUntil, SeenBlock, block_mapped, block_without, cut_block}
 use Rattle.rad_rows.specs.Entries.{Ascends, BelongsTo, EntryLives, HasSpans, IsConsistent, IsGrouped, IsPlaced, IsSound, IsUpTo, all_rows, has_room_at, has_rows, is_roomy, key_of, on_block, on_blocks}
+use Rattle.rad_rows.specs.declared.live.Live.{Live}
 use Rattle.rad_rows.specs.Rows.{IsBefore, IsGiven, IsRising, Tells, change_row, has_other, is_dead, moment_max}
 use Rattle.rad_rows.proofs.BlockLemmas.{filter_live, none_dead}
 use Rattle.rad_rows.proofs.GroupLemmas.{grouped_without}
@@ -227,3 +229,23 @@ module _ {T S : Type 0} where
       order = subst (IsRising number last) (sym (ap all_rows is ∙ rows_cut live spans now es k.sound.spanned)) (rising_filter number last (live spans now) (all_rows es) k.order);
       room = λ is_ready. ap (has_room_at (key_of (last + 1))) is ∙ room_cut now (key_of (last + 1)) es (k.room is_ready);
     }
+
+-- ---- how many rows are live
+
+-- what a count is after one row was told
+abbrev Takes : {T : Type 0} → Live → T → Live → Type 0
+Takes old row new = new.count ≡ old.count - 1
+
+left_told : {T : Type 0} (dead : List T) (old new : Live) → FoldsTo Takes old dead new → new.count ≡ old.count - length dead
+left_told [] old new h = omega (arith, ap (λ (live : Live). live.count) (sym h))
+left_told (row ∷ dead) old new h = omega (arith, left_told dead h.0 new h.2, h.1)
+
+pub count_left : {T S : Type 0} (live : S → ℕ → T → Bool) (spans : S) (now : ℕ) (rows : List T) (old new : Live) → old.count ≡ length rows → Tells (λ (before : Live) (row : T) (after : Live). after.count ≡ before.count - 1) live spans now rows old new
+    → new.count ≡ length (filter (live spans now) rows)
+count_left live spans now rows old new is told =
+    omega (
+      arith,
+      is,
+      left_told (filter (is_dead live spans now) rows) old new told,
+      length-filter_both (live spans now) (is_dead live spans now) (λ x. refl) rows,
+    )

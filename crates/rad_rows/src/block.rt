@@ -128,17 +128,6 @@ impl<T: Row<S>, S: Copy> Block<T, S> {
         *bound = plain::change_all(rows, spans, by);
     }
 
-    /// How many rows are live at a moment.
-    pub fn count_live(&self, now: u64) -> usize
-        requires { now ≤ moment_max }
-        ensures { result ≡ length (filter (T.is_live self.now.spans now) self.now.rows) }
-    {
-        if now < self.bound {
-            return self.len();
-        }
-        plain::count_live(&self.rows, &self.spans, now)
-    }
-
     /// Tells the tally of each row that isn't live at a moment. The rows stay.
     pub fn tell_dead<G: Tally<T>>(&self, tally: &mut G, now: u64)
         requires { now ≤ moment_max }

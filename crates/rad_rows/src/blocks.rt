@@ -251,22 +251,3 @@ fn keep_with_rows<T: Row<S>, S: Copy>(blocks: &mut IndexMap<u64, Block<T, S>>)
         { block.len() != 0 },
     );
 }
-
-/// How many rows are live at a moment, of `count` rows.
-pub(crate) fn count_live<T: Row<S>, S: Copy>(
-    blocks: &IndexMap<u64, Block<T, S>>,
-    spans: &S,
-    now: u64,
-    count: usize,
-) -> usize
-    requires now { now ≤ moment_max }
-    requires spans { All (HasSpans spans.now) blocks.now.entries }
-    requires count { count ≡ length (all_rows blocks.now.entries) }
-    ensures { result ≡ length (filter (T.is_live spans.now now) (all_rows blocks.now.entries)) }
-{
-    let mut live: usize = 0;
-    for at in 0..blocks.len() {
-        live += blocks[at].count_live(now);
-    }
-    live
-}

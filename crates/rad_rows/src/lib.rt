@@ -7,7 +7,7 @@
 //! A bound is a moment before which each row lives. Each block has one, each 64 neighbouring blocks have one, and there is one of
 //! all. A bound may be too early, never too late. Before the bound of all, `expire` is one comparison. From then on it goes over the
 //! bounds of the groups, into the groups whose bound has come, and there into the blocks whose bound has come; the bounds that it
-//! passes are found anew. `tell_dead` goes the same way and leaves all as it is. `change_all` goes over every row, and leaves the
+//! passes are found anew. `tell_dead` and `count_live` go the same way and leave all as it is. `change_all` goes over every row, and leaves the
 //! bounds of the groups to the next `expire`. Nothing rests on moments that rise.
 //!
 //! `room` and `copy` are the calls that take memory. `room` puts an empty block under the key of the next number, by the map's
@@ -22,6 +22,7 @@ mod block;
 mod blocks;
 mod groups;
 mod iter;
+mod live;
 mod plain;
 mod row;
 mod rows;

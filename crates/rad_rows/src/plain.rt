@@ -14,20 +14,6 @@ fn is_live<T: Row<S>, S>(row: &T, spans: &S, now: u64) -> bool
     now < row.ends(spans)
 }
 
-/// How many rows are live at a moment.
-pub(crate) fn count_live<T: Row<S>, S>(rows: &[T], spans: &S, now: u64) -> usize
-    requires { now ≤ moment_max }
-    ensures { result ≡ length (filter (T.is_live spans.now now) rows.now) }
-{
-    let mut count: usize = 0;
-    for row in rows {
-        if is_live(row, spans, now) {
-            count += 1;
-        }
-    }
-    count
-}
-
 /// Removes the rows that aren't live at a moment, tells the tally of each, and returns a bound of the others.
 pub(crate) fn sweep<T: Row<S>, S, G: Tally<T>>(
     rows: &mut Vec<T>,

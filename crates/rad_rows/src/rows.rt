@@ -7,6 +7,7 @@ use crate::block::{BLOCK, Block};
 use crate::blocks::{self, BLOCKS_MIN};
 use crate::groups;
 use crate::iter::Iter;
+use crate::live::Live;
 use crate::row::{Change, Row, Tally};
 use indexmap::IndexMap;
 use std::alloc::{AllocError, Global};
@@ -121,7 +122,9 @@ impl<T: Row<S>, S: Copy> Rows<T, S> {
         if now < self.bound {
             return self.count;
         }
-        blocks::count_live(&self.blocks, &self.spans, now, self.count)
+        let mut live = Live { count: self.count };
+        groups::tell_dead(&self.blocks, &self.bounds, &self.spans, &mut live, now);
+        live.count
     }
 
     /// Whether each row is live at a moment.
