@@ -5,6 +5,7 @@ ghost use Rattle.rad_auth.specs.Admission.{HoldsAdmitted};
 ghost use Rattle.rad_auth.specs.Sealing.{IsJob};
 ghost use Rattle.rad_server.specs.Steps.{IsSealable};
 
+use crate::datagrams::Replies;
 use rad_auth::{Arrival, Clients, Discard, Job, Request, admitted_is_answerable, check8, seal8};
 use rad_config::MOMENT_MAX;
 use rad_packet::Frame;
@@ -13,20 +14,25 @@ use rad_shell::Timed;
 
 type Verdict<'a> = Option<Result<Request<'a>, Discard>>;
 
-/// Answers the datagrams. Returns how many replies were sealed.
+/// Answers the datagrams, and counts the replies that are sealed.
 pub(crate) fn answer_alone(
     server: &mut Server,
     arrivals: &[Timed],
     frames: &mut [Frame; 8],
-) -> usize {
-    let mut sealed: usize = 0;
+) -> Replies {
+    let mut replies = Replies::none();
     for batch in arrivals.chunks(8) {
-        sealed = sealed.wrapping_add(answer_batch(server, batch, frames));
+        answer_batch(server, batch, frames, &mut replies);
     }
-    sealed
+    replies
 }
 
-fn answer_batch(server: &mut Server, batch: &[Timed], frames: &mut [Frame; 8]) -> usize {
+fn answer_batch(
+    server: &mut Server,
+    batch: &[Timed],
+    frames: &mut [Frame; 8],
+    replies: &mut Replies,
+) {
     let clients = server.config().clients();
     let verdicts = check8(
         clients,
@@ -52,16 +58,17 @@ fn answer_batch(server: &mut Server, batch: &[Timed], frames: &mut [Frame; 8]) -
         step(server, clients, batch, 6, g),
         step(server, clients, batch, 7, h),
     ];
-    seal(clients, &verdicts, &answers, frames)
+    seal(clients, &verdicts, &answers, frames, replies);
 }
 
-// Seals the answers to the requests of a batch. Returns how many replies they are.
+// Seals the answers to the requests of a batch, and counts them.
 fn seal<'a>(
     clients: &'a Clients,
     verdicts: &[Verdict; 8],
     answers: &'a [Option<Answer>; 8],
     frames: &mut [Frame; 8],
-) -> usize
+    replies: &mut Replies,
+)
     requires verdicts { All (HoldsAdmitted clients.now) verdicts.now }
     requires answers { All (λ answer. IfSome answer IsSealable) answers.now }
 {
@@ -76,11 +83,9 @@ fn seal<'a>(
         job(clients, &verdicts[7], &answers[7]),
     ];
     seal8(&jobs, frames);
-    count(&jobs)
-}
-
-fn count(jobs: &[Option<Job>; 8]) -> usize {
-    jobs.iter().filter(|job| job.is_some()).count()
+    for job in jobs.iter().flatten() {
+        replies.add(job.body.code());
+    }
 }
 
 fn arrival<'a>(batch: &[Timed<'a>], lane: usize) -> Option<Arrival<'a>> {

@@ -6,13 +6,15 @@ mod alone;
 mod asks;
 mod datagrams;
 mod desks;
+mod lots;
+mod messages;
 mod pairs;
 mod requests;
+mod round_config;
 mod round_tables;
 mod servers;
 mod tables;
 
-use servers::read_config;
 use std::alloc::Global;
 use std::env;
 use std::process::ExitCode;
@@ -39,18 +41,27 @@ fn main(rt: HostRuntime) -> ExitCode {
     }
 }
 
-// Measures and prints. What is alive at a `?` is dropped there, and each such drop is proved: so here, as in what this calls, a
-// function of its own makes each big value, and lends it to the next.
+// Measures and prints. What is alive at a `?` is dropped there, and each such drop is proved: so in what this calls a function of its
+// own makes each big value, and lends it to the next.
 fn print<R: Threads + Wait + Sync + Clock + Print>(
     rt: &R,
     alloc: Global,
     bench: Bench,
 ) -> Option<()> {
-    let config = read_config(alloc)?;
     match bench {
-        Bench::Desk => tables::print_tables(rt, alloc, &config),
-        Bench::Round => round_tables::print_table(rt, alloc, &config),
+        Bench::Desk => print_desk(rt, alloc),
+        Bench::Round => print_round(rt, alloc),
     }
+}
+
+fn print_desk<R: Threads + Wait + Sync + Clock + Print>(rt: &R, alloc: Global) -> Option<()> {
+    let config = servers::read_config(alloc)?;
+    tables::print_tables(rt, alloc, &config)
+}
+
+fn print_round<R: Threads + Wait + Sync + Clock + Print>(rt: &R, alloc: Global) -> Option<()> {
+    let config = round_config::read_config(alloc)?;
+    round_tables::print_table(rt, alloc, &config)
 }
 
 // What the first word names.

@@ -1,6 +1,7 @@
 //! The table of rounds. What a line compares takes turns, so that what else the machine does for a while disturbs none of it alone.
 
-use crate::pairs::{Alone, Lot, Pair, Timing, Way, grant};
+use crate::lots::{Load, Lot, Size};
+use crate::pairs::{Alone, Pair, Way};
 use rad_config::Config;
 use rad_shell::Service;
 use std::alloc::Global;
@@ -9,38 +10,29 @@ use std::sync::Wait;
 use std::thread::Threads;
 use std::time::Clock;
 
-/// Tries with one pair. In each, a clock goes on by up to 512 seconds for each number of workers, and a session lives a day.
-const TRIES: u32 = 20;
+// How often the ways are gone through with one pair, there and back.
+const TURNS: u32 = 10;
 
-/// A number of sessions, and how many pairs are measured with it.
-#[derive(Clone, Copy)]
-struct Size {
-    sessions: u16,
-    pairs: u32,
-}
+// How many pairs are measured for a line.
+const SMALL_PAIRS: u32 = 10;
 
-const FEW: Size = Size {
-    sessions: 16,
-    pairs: 10,
-};
+const FULL_PAIRS: u32 = 2;
 
-const MANY: Size = Size {
-    sessions: 4_096,
-    pairs: 1,
-};
+const SIZES: [Size; 2] = [Size::Small, Size::Full];
 
-const TIMINGS: [Timing; 3] = [Timing::Apart, Timing::Together, Timing::Again];
+const LOADS: [Load; 2] = [Load::Accounting, Load::Access];
 
 const COUNTS: [u16; 4] = [1, 8, 64, 512];
 
+const WAYS: [Way; 4] = [
+    Way::Alone,
+    Way::Workers(1),
+    Way::Workers(2),
+    Way::Workers(4),
+];
+
 /// The least nanoseconds of each way.
-#[derive(Clone, Copy)]
-struct Best {
-    alone: u64,
-    one: u64,
-    two: u64,
-    four: u64,
-}
+type Best = [u64; 4];
 
 /// Measures and prints; none if memory is refused, a reply is missing, or the clock or the printing fails.
 pub(crate) fn print_table<R: Threads + Wait + Sync + Clock + Print>(
@@ -49,11 +41,15 @@ pub(crate) fn print_table<R: Threads + Wait + Sync + Clock + Print>(
     config: &Config,
 ) -> Option<()> {
     println!(rt;
-        "| requests | sessions | datagrams | one thread µs | one worker µs | times one thread | two workers µs | four workers µs |"
-    ).ok()?;
-    println!(rt; "|---|---|---|---|---|---|---|---|").ok()?;
-    print_size(rt, alloc, config, FEW)?;
-    print_size(rt, alloc, config, MANY)
+        "| requests | rows | datagrams | one thread µs | one worker µs | two workers µs | four workers µs \
+        | one worker to one thread | two | four | four workers to one |"
+    )
+    .ok()?;
+    println!(rt; "|---|---|---|---|---|---|---|---|---|---|---|").ok()?;
+    for size in SIZES.iter() {
+        print_size(rt, alloc, config, *size)?;
+    }
+    Some(())
 }
 
 fn print_size<R: Threads + Wait + Sync + Clock + Print>(
@@ -62,8 +58,8 @@ fn print_size<R: Threads + Wait + Sync + Clock + Print>(
     config: &Config,
     size: Size,
 ) -> Option<()> {
-    for timing in TIMINGS.iter() {
-        print_lines(rt, alloc, config, size, *timing)?;
+    for load in LOADS.iter() {
+        print_lines(rt, alloc, config, size, *load)?;
     }
     Some(())
 }
@@ -73,15 +69,16 @@ fn print_lines<R: Threads + Wait + Sync + Clock + Print>(
     alloc: Global,
     config: &Config,
     size: Size,
-    timing: Timing,
+    load: Load,
 ) -> Option<()> {
     for count in COUNTS.iter() {
         let lot = Lot {
-            timing,
+            size,
+            load,
             count: *count,
         };
-        let best = measure(rt, alloc, config, size, lot)?;
-        print_line(rt, size, lot, best)?;
+        let best = measure(rt, alloc, config, lot)?;
+        print_line(rt, lot, best)?;
     }
     Some(())
 }
@@ -90,17 +87,15 @@ fn measure<R: Threads + Wait + Sync + Clock>(
     rt: &R,
     alloc: Global,
     config: &Config,
-    size: Size,
     lot: Lot,
 ) -> Option<Best> {
-    let mut best = Best {
-        alone: u64::MAX,
-        one: u64::MAX,
-        two: u64::MAX,
-        four: u64::MAX,
+    let pairs = match lot.size {
+        Size::Small => SMALL_PAIRS,
+        Size::Full => FULL_PAIRS,
     };
-    for _ in 0..size.pairs {
-        best = measure_pair(rt, alloc, config, size.sessions, lot, best)?;
+    let mut best = [u64::MAX; 4];
+    for _ in 0..pairs {
+        best = measure_pair(rt, alloc, config, lot, best)?;
     }
     Some(best)
 }
@@ -109,29 +104,22 @@ fn measure_pair<R: Threads + Wait + Sync + Clock>(
     rt: &R,
     alloc: Global,
     config: &Config,
-    sessions: u16,
     lot: Lot,
     best: Best,
 ) -> Option<Best> {
     let mut service = Service::open(alloc, config).ok()?;
-    measure_service(rt, alloc, &mut service, sessions, lot, best)
+    measure_service(rt, alloc, &mut service, lot, best)
 }
 
 fn measure_service<R: Threads + Wait + Sync + Clock>(
     rt: &R,
     alloc: Global,
     service: &mut Service,
-    sessions: u16,
     lot: Lot,
     best: Best,
 ) -> Option<Best> {
-    grant(rt, alloc, service, sessions)?;
-    let mut alone = Alone::open(alloc, service.server())?;
-    let mut pair = Pair {
-        alloc,
-        service,
-        alone: &mut alone,
-    };
+    let mut alone = Alone::open(alloc, service.server().config())?;
+    let mut pair = Pair::new(alloc, service, &mut alone);
     tries(rt, &mut pair, lot, best)
 }
 
@@ -141,40 +129,44 @@ fn tries<R: Threads + Wait + Sync + Clock>(
     lot: Lot,
     best: Best,
 ) -> Option<Best> {
+    pair.fill(rt, lot)?;
     let mut best = best;
-    for _ in 0..TRIES {
-        best = better(rt, pair, lot, best)?;
+    for _ in 0..TURNS {
+        better(rt, pair, lot, &mut best)?;
     }
     Some(best)
 }
 
-// One try of each way.
+// Two tries of each way, there and back: so each comes once with its tables in the caches, after a try with the same tables.
 fn better<R: Threads + Wait + Sync + Clock>(
     rt: &R,
     pair: &mut Pair,
     lot: Lot,
-    best: Best,
-) -> Option<Best> {
-    Some(Best {
-        alone: best.alone.min(pair.time(rt, lot, Way::Alone)?),
-        one: best.one.min(pair.time(rt, lot, Way::Workers(1))?),
-        two: best.two.min(pair.time(rt, lot, Way::Workers(2))?),
-        four: best.four.min(pair.time(rt, lot, Way::Workers(4))?),
-    })
+    best: &mut Best,
+) -> Option<()> {
+    for way in 0..WAYS.len() {
+        best[way] = best[way].min(pair.time(rt, lot, WAYS[way])?);
+    }
+    for way in (0..WAYS.len()).rev() {
+        best[way] = best[way].min(pair.time(rt, lot, WAYS[way])?);
+    }
+    Some(())
 }
 
-fn print_line<R: Print>(rt: &R, size: Size, lot: Lot, best: Best) -> Option<()> {
-    let name = lot.timing.name();
+fn print_line<R: Print>(rt: &R, lot: Lot, best: Best) -> Option<()> {
+    let name = lot.load.name();
+    let rows = lot.size.rows();
     let Lot { count, .. } = lot;
-    let Size { sessions, .. } = size;
-    let alone = microseconds(best.alone, lot);
-    let one = microseconds(best.one, lot);
-    let times = one / alone;
-    let two = microseconds(best.two, lot);
-    let four = microseconds(best.four, lot);
-    println!(rt;
-        "| {name} | {sessions} | {count} | {alone:.2} | {one:.2} | {times:.2} | {two:.2} | {four:.2} |"
-    ).ok()
+    let alone = microseconds(best[0], lot);
+    let one = microseconds(best[1], lot);
+    let two = microseconds(best[2], lot);
+    let four = microseconds(best[3], lot);
+    print!(rt; "| {name} | {rows} | {count} | {alone:.2} | {one:.2} | {two:.2} | {four:.2} ").ok()?;
+    let by_one = one / alone;
+    let by_two = two / alone;
+    let by_four = four / alone;
+    let gain = four / one;
+    println!(rt; "| {by_one:.2} | {by_two:.2} | {by_four:.2} | {gain:.2} |").ok()
 }
 
 // Of one round.

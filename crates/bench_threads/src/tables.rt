@@ -1,7 +1,7 @@
 //! The tables of a desk. What a line compares takes turns, so that what else the machine does for a while disturbs none of it alone.
 
 use crate::asks::{Work, time_asks, time_steps};
-use crate::desks::{time_copied, time_moved};
+use crate::desks::time_desks;
 use crate::requests::Kind;
 use crate::servers::server_with;
 use rad_config::Config;
@@ -103,7 +103,7 @@ fn print_ask<R: Print>(
 }
 
 fn print_desks<R: Clock + Print>(rt: &R, alloc: Global, few: &Server, many: &Server) -> Option<()> {
-    println!(rt; "\n| sessions | copied ns | moved ns |\n|---|---|---|").ok()?;
+    println!(rt; "\n| sessions | open and close ns |\n|---|---|").ok()?;
     measure_desks(rt, alloc, few, FEW)?;
     measure_desks(rt, alloc, many, MANY)
 }
@@ -115,15 +115,12 @@ fn measure_desks<R: Clock + Print>(
     sessions: u32,
 ) -> Option<()> {
     const COUNT: u32 = 1_000;
-    let mut copied = u64::MAX;
-    let mut moved = u64::MAX;
+    let mut spent = u64::MAX;
     for _ in 0..TRIES {
-        copied = copied.min(time_copied(rt, alloc, server, COUNT)?);
-        moved = moved.min(time_moved(rt, alloc, server, COUNT)?);
+        spent = spent.min(time_desks(rt, alloc, server, COUNT)?);
     }
-    let copied = nanoseconds(copied, COUNT, 1);
-    let moved = nanoseconds(moved, COUNT, 1);
-    println!(rt; "| {sessions} | {copied:.1} | {moved:.1} |").ok()
+    let each = nanoseconds(spent, COUNT, 1);
+    println!(rt; "| {sessions} | {each:.1} |").ok()
 }
 
 fn nanoseconds(spent: u64, count: u32, threads: u32) -> f64 {

@@ -83,11 +83,6 @@ both clients (Ok r) request e = let parts = at (content_checks (client_at client
         let same : r ≡ request = cc in
         (same, subst (λ (q : Request). content_checks (client_at clients q.client) q.packet ≡ Ok tt) same is)
 
--- what an admitted request's own octets hold is the request
-pub read_again : (clients : List Client) (request : Request) → IsAdmitted clients request → IsInOwnDatagram clients request
-unfolding admission
-read_again clients request e = (both clients (request_in clients (own_datagram request)) request e).0
-
 pub answerable : (clients : List Client) (request : Request) → IsAdmitted clients request → IsAnswerable clients request
 unfolding admission
 answerable clients request e =

@@ -158,7 +158,3 @@ pub record IsAnswerable (clients : List Client) (request : Request) : Type 0 whe
 -- every admitted request may be answered
 abbrev pub AdmittedAreAnswerable : Type 0
 AdmittedAreAnswerable = (clients : List Client) (request : Request) → IsAdmitted clients request → IsAnswerable clients request
-
--- what is read of a datagram that was admitted is the request that its admission gave
-abbrev pub IsReadAgain : List Client → Datagram → Result Request Discard → Type 0
-IsReadAgain clients datagram read = (request : Request) → IsAdmitted clients request → own_datagram request ≡ datagram → read ≡ Ok request

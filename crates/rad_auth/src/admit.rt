@@ -2,7 +2,7 @@
 ghost use Rattle.std.specs.Prelude.{◌≡◌, ◌<◌, length, map, All, IfOk, Ok};
 ghost use Rattle.rad_packet.specs.Attributes.{has};
 ghost use Rattle.rad_packet.specs.Types.{type_message_authenticator};
-ghost use Rattle.rad_auth.specs.Admission.{AdmittedAreAnswerable, HoldsAdmitted, IsAdmitted, IsAnswerable, IsInOwnDatagram, IsReadAgain, admission, content_checks, has_bad_authenticator, has_bad_message_authenticator, has_right_message_authenticator, is_code_accepted, lane_admission, lacks_message_authenticator, lacks_status_type, request_in};
+ghost use Rattle.rad_auth.specs.Admission.{AdmittedAreAnswerable, HoldsAdmitted, IsAdmitted, IsAnswerable, IsInOwnDatagram, admission, content_checks, has_bad_authenticator, has_bad_message_authenticator, has_right_message_authenticator, is_code_accepted, lane_admission, lacks_message_authenticator, lacks_status_type, request_in};
 ghost use Rattle.rad_auth.specs.Clients.{Client};
 ghost use Rattle.rad_auth.specs.Datagrams.{datagram_of};
 ghost use Rattle.rad_auth.specs.RequestLanes.{IsAccountingAuthenticator, IsCandidate, IsMessageAuthenticator, IsHmacUnder, OfCandidate, asked_of, verdict_on, verdict_on_lane};
@@ -70,16 +70,6 @@ pub fn admitted_is_answerable(_clients: &Clients, _request: &Request)
     requires { IsAdmitted _clients.now _request.now }
     ensures { IsAnswerable _clients.now _request.now }
 {}
-
-/// The request of a datagram that was admitted before, up to Length: it is read again, and no digest is computed.
-///
-/// Of another datagram the content isn't checked. Source: RFC 2865, section 3.
-#[doc(hidden)]
-pub fn readmit<'a>(clients: &Clients, arrival: &Arrival<'a>) -> Result<Request<'a>, Discard>
-    ensures { IsReadAgain clients.now (datagram_of arrival.now) result }
-{
-    read_request(clients, arrival)
-}
 
 fn read_lane<'a>(clients: &Clients, arrival: &Option<Arrival<'a>>) -> Lane<'a>
     ensures verdict { lane_admission clients.now arrival.now ≡ verdict_on_lane clients.now result }

@@ -28,9 +28,7 @@ mod seal;
 mod secret;
 mod summary;
 
-pub use admit::{
-    PROXY_STATES_MAX, admitted_are_answerable, admitted_is_answerable, check8, readmit,
-};
+pub use admit::{PROXY_STATES_MAX, admitted_are_answerable, admitted_is_answerable, check8};
 pub use arrival::{Arrival, Door, Request};
 pub use chap::{CHAP_VALUE_LEN, chap_response, chap_right};
 pub use client::{CLIENTS_MAX, ClientFault, Clients};

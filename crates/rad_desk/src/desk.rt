@@ -1,11 +1,11 @@
 //! The desk.
-ghost use Rattle.std.specs.Prelude.{◌≡◌, ◌≢◌, ◌↔◌, ◌≤◌, vec_len, Err, IfErr, IsTrue, OnErr, OnOk, IfOk, All};
+ghost use Rattle.std.specs.Prelude.{◌≡◌, ◌≢◌, ◌↔◌, ◌≤◌, vec_len, Err, IfErr, IsTrue, OnErr, OnOk, IfOk};
 ghost use Rattle.rad_auth.specs.Admission.{IsAdmitted};
 ghost use Rattle.rad_config.specs.Spans.{moment_max};
 ghost use Rattle.rad_server.specs.Runs.{IsHistory};
 ghost use Rattle.rad_desk.specs.Desks.{IsBlankOf, passes_max};
 ghost use Rattle.rad_desk.specs.Passes.{AddsReceipt, AreNew};
-ghost use Rattle.rad_desk.specs.Settlements.{Agrees, Disagrees};
+ghost use Rattle.rad_desk.specs.Settlements.{Agrees, Disagrees, receipt_count};
 ghost use Rattle.rad_desk.specs.declared.mismatch.Mismatch.{Mismatch};
 
 use crate::locked::Locked;
@@ -48,7 +48,10 @@ impl<'c, L: Opened> Desk<'c, L> {
         ensures { IfOk result (λ opened. AreNew passes opened.1.items) }
     {
         let opening = server.copy()?;
-        let (lock, all) = open_with::<L>(alloc, blank, server.copy()?, passes)?;
+        let copy = server.copy()?;
+        let (total, mut rest) = blank.open::<L>();
+        let all = split(alloc, &mut rest, passes)?;
+        let lock = Mutex::new(Locked::new(copy, Vec::new(alloc), total, rest));
         Ok((Desk { opening, lock }, all))
     }
 
@@ -100,24 +103,6 @@ fn is_same(server: Server, other: &Server) -> bool
     server.same(other)
 }
 
-/// A lock over a server that is moved in, and its passes.
-#[doc(hidden)]
-pub fn open_with<'c, L: Opened>(
-    alloc: Global,
-    blank: Blank,
-    server: Server<'c>,
-    passes: u64,
-) -> Result<(Mutex<Locked<'c, L>>, Vec<Pass<L>>), AllocError>
-    requires passes { (1 ≤ passes) × (passes ≤ passes_max) }
-    requires blank { IsBlankOf blank.name blank.parts L.name L.parts passes }
-    requires opening { server ≡ L.opening }
-    ensures { IfOk result (λ opened. AreNew passes opened.1.items) }
-{
-    let (total, mut rest) = blank.open::<L>();
-    let all = split(alloc, &mut rest, passes)?;
-    Ok((Mutex::new(Locked::new(alloc, server, total, rest)), all))
-}
-
 // The parts of a share, each in a pass of its own.
 fn split<L: Opened>(
     alloc: Global,
@@ -135,22 +120,30 @@ fn split<L: Opened>(
     Ok(all)
 }
 
-/// The server and the history of a lock, if they agree with the receipts of the passes.
-#[doc(hidden)]
-pub fn close<'c, L: Opened>(
-    locked: Locked<'c, L>,
-    passes: Vec<Pass<L>>,
-) -> Result<Closed<'c>, Mismatch>
-    ensures history { IfOk result (λ closed. closed.history.items ≡ locked.entry.history) }
+// The server and the history that were under the lock, if they agree with the receipts of the passes.
+fn close<'c, L: Opened>(locked: Locked<'c, L>, passes: Vec<Pass<L>>) -> Result<Closed<'c>, Mismatch>
     ensures run { IfOk result (λ closed. IsHistory L.opening closed.history.items closed.server) }
     ensures agreed { IfOk result (λ closed. Agrees closed.history.items passes.items) }
     ensures refused { IfErr result (Disagrees locked.entry.history passes.items) }
     ensures complete { vec_len passes ≡ L.parts → result ≢ Err Mismatch.Count }
 {
     let verdict = compare(locked.history(), passes.as_slice());
-    let (history, server) = locked.into_parts(passes);
-    match verdict {
-        Ok(()) => Ok(Closed { server, history }),
-        Err(mismatch) => Err(mismatch),
+    let (history, server, mut total, rest) = locked.into_parts();
+    let mut all = merged(passes, rest);
+    total.audit(&mut all);
+    verdict?;
+    Ok(Closed { server, history })
+}
+
+// The shares of all passes in one.
+#[tactic(auto, using(crate::proofs::ReceiptLemmas::receipt_count_push))]
+fn merged<L: Opened>(mut passes: Vec<Pass<L>>, mut all: Share<L>) -> Share<L>
+    requires { (all.parts ≡ 0) × (all.amount ≡ 0) }
+    ensures parts { result.parts ≡ vec_len passes }
+    ensures amount { result.amount ≡ receipt_count passes.items }
+{
+    while let Some(pass) = passes.pop() {
+        all.merge(pass.into_share());
     }
+    all
 }

@@ -16,7 +16,7 @@ mod pass;
 mod receipt;
 mod settling;
 
-pub use desk::{Desk, PASSES_MAX, close, open_with};
+pub use desk::{Desk, PASSES_MAX};
 #[doc(hidden)]
 pub use locked::Locked;
 pub use mismatch::Mismatch;

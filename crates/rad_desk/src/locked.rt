@@ -1,20 +1,18 @@
 //! What lies under the desk's lock.
-ghost use Rattle.std.specs.Prelude.{◌≡◌, ◌≤◌, ◌+◌, [], ◌∷◌, ◌++◌, length, vec_len, OnErr, OnOk, IfOk};
+ghost use Rattle.std.specs.Prelude.{◌≡◌, ◌≤◌, ◌+◌, [], length, OnErr, OnOk, IfOk};
 ghost use Rattle.rad_auth.specs.Admission.{IsAdmitted};
 ghost use Rattle.rad_config.specs.Spans.{moment_max};
 ghost use Rattle.rad_packet.specs.Packets.{packet_octets};
 ghost use Rattle.rad_server.specs.Runs.{IsAsked, IsHistory};
 ghost use Rattle.rad_server.specs.Steps.{IsSealable};
 ghost use Rattle.rad_desk.specs.Desks.{Appends};
-ghost use Rattle.rad_desk.specs.Settlements.{receipt_count};
 
 use crate::opened::Opened;
-use crate::pass::Pass;
 use crate::receipt::Receipt;
 use rad_auth::Request;
 use rad_packet::Octets;
 use rad_server::{Entry, Server, exchange};
-use std::alloc::{AllocError, Global};
+use std::alloc::AllocError;
 use std::marker::Model;
 use std::sync::ledger::{self, Share};
 
@@ -47,21 +45,22 @@ impl<'c, L: Opened> Model for Locked<'c, L> {
 }
 
 impl<'c, L: Opened> Locked<'c, L> {
-    /// A server without a history.
-    pub(crate) fn new(
-        alloc: Global,
+    /// A server that is moved in, with room for its history.
+    pub fn new(
         server: Server<'c>,
+        history: Vec<Entry>,
         total: ledger::Book<L>,
         rest: Share<L>,
     ) -> Locked<'c, L>
         requires opening { server ≡ L.opening }
+        requires empty { history.items ≡ [] }
         requires total { total.total ≡ 0 }
         requires rest { (rest.parts ≡ 0) × (rest.amount ≡ 0) }
         ensures { result.history ≡ [] }
     {
         Locked {
             server,
-            history: Vec::new(alloc),
+            history,
             total,
             rest,
         }
@@ -69,8 +68,8 @@ impl<'c, L: Opened> Locked<'c, L> {
 
     /// One exchange, which the share counts.
     ///
-    /// If memory is refused, nothing has changed.
-    pub(crate) fn exchange(
+    /// The octets are those of the request up to Length. If memory is refused, nothing has changed.
+    pub fn exchange(
         &mut self,
         share: &mut Share<L>,
         tag: u64,
@@ -105,43 +104,26 @@ impl<'c, L: Opened> Locked<'c, L> {
     }
 
     /// The history, oldest entry first.
-    pub(crate) fn history(&self) -> &[Entry]
-        ensures { result.now ≡ self.now.history }
+    pub fn history(&self) -> &Vec<Entry>
+        ensures { result.now.items ≡ self.now.history }
     {
-        self.history.as_slice()
+        &self.history
     }
 
-    /// The history and the server.
-    ///
-    /// When all passes of the ledger are given, their receipts are as many as the entries.
-    pub(crate) fn into_parts(self, passes: Vec<Pass<L>>) -> (Vec<Entry>, Server<'c>)
+    /// The history and the server, and what is left of the ledger: its total is the history's length.
+    pub fn into_parts(self) -> (Vec<Entry>, Server<'c>, ledger::Book<L>, Share<L>)
         ensures history { result.0.items ≡ self.entry.history }
         ensures server { result.1 ≡ self.entry.server }
         ensures run { IsHistory L.opening self.entry.history self.entry.server }
-        ensures count { vec_len passes ≡ L.parts
-            → receipt_count passes.items ≡ length self.entry.history }
+        ensures total { result.2.total ≡ length self.entry.history }
+        ensures rest { (result.3.parts ≡ 0) × (result.3.amount ≡ 0) }
     {
         let Locked {
             server,
             history,
-            mut total,
+            total,
             rest,
         } = self;
-        let mut all = merged(passes, rest);
-        total.audit(&mut all);
-        (history, server)
+        (history, server, total, rest)
     }
-}
-
-// The shares of all passes in one.
-#[tactic(auto, using(crate::proofs::ReceiptLemmas::receipt_count_push))]
-fn merged<L: Opened>(mut passes: Vec<Pass<L>>, mut all: Share<L>) -> Share<L>
-    requires { (all.parts ≡ 0) × (all.amount ≡ 0) }
-    ensures parts { result.parts ≡ vec_len passes }
-    ensures amount { result.amount ≡ receipt_count passes.items }
-{
-    while let Some(pass) = passes.pop() {
-        all.merge(pass.into_share());
-    }
-    all
 }

@@ -66,30 +66,10 @@ impl<L: Opened> Pass<L> {
     }
 
     /// One exchange under the lock, of which the pass keeps a receipt.
-    ///
-    /// As `Desk::ask`, by the desk's lock.
-    pub fn ask<'c, R: Wait>(
+    pub(crate) fn ask<'c, R: Wait>(
         &mut self,
         rt: &R,
         lock: &Mutex<Locked<'c, L>>,
-        tag: u64,
-        request: &Request,
-        moment: u64,
-        draw: &[u8; 16],
-    ) -> Result<(), AllocError>
-        requires moment { moment ≤ moment_max }
-        requires admitted { IsAdmitted L.opening.configuration.clients request.now }
-        ensures asked { OnOk result (AddsReceipt tag request.now moment draw.now self.old self.new) }
-        ensures unchanged { OnErr result (self.new ≡ self.old) }
-    {
-        self.exchange(&mut lock.lock(rt), tag, request, moment, draw)
-    }
-
-    /// The same on what is under the lock, for a caller that has taken it: so it makes several exchanges before another takes it.
-    #[doc(hidden)]
-    pub fn exchange<'c>(
-        &mut self,
-        locked: &mut Locked<'c, L>,
         tag: u64,
         request: &Request,
         moment: u64,
@@ -107,6 +87,7 @@ impl<L: Opened> Pass<L> {
         } = self;
         let octets = Octets::of(*alloc, request.packet.octets())?;
         receipts.reserve(1)?;
+        let mut locked = lock.lock(rt);
         let receipt = locked.exchange(share, tag, request, octets, moment, draw)?;
         receipts.push_reserved(receipt);
         Ok(())

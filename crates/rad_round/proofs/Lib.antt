@@ -1,3 +1,6 @@
+pub mod BatchLemmas
+pub mod GatherLemmas
+pub mod HandInLemmas
+pub mod ListLemmas
+pub mod ShareLemmas
 pub mod WorkLemmas
-pub mod TableLemmas
-pub mod AloneLemmas

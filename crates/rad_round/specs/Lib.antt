@@ -1,4 +1,4 @@
 pub mod Rounds
 pub mod Faults
+pub mod Services
 pub mod Works
-pub mod Alone

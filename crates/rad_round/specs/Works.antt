@@ -1,6 +1,7 @@
--- Works: what a worker of a round knows while it works. Arrivals are counted from 0, and so are lanes and the receipts of a pass.
-use Rattle.std.specs.Prelude.{◌≡◌, ◌≢◌, ℕ, ◌+◌, ◌/◌, List, [], Option, Some, None, Result, Ok, length, replicate, slice_get, slice_set, IsSome, All}
+-- Works: what the workers of a round know while they work, and once they are done. Arrivals, batches and lanes are counted from 0.
+use Rattle.std.specs.Prelude.{◌≡◌, ◌⊎◌, ℕ, ◌+◌, ◌*◌, ◌/◌, ◌<◌, ◌≤◌, List, [], ◌∷◌, ◌++◌, drop, map, take, Option, Some, None, IfSome, Result, Ok, Err, length, slice_get, All, sum_by}
 use Rattle.std.specs.Option.{option_map}
+use Rattle.std.specs.Vec.{vec_capacity, vec_len}
 use Rattle.rad_auth.specs.Admission.{HoldsAdmitted, admission}
 use Rattle.rad_auth.specs.Clients.{Client, client_at}
 use Rattle.rad_auth.specs.Datagrams.{datagram_of}
@@ -8,43 +9,25 @@ use Rattle.rad_auth.specs.Sealing.{job_octets, reply_octets}
 use Rattle.rad_auth.specs.declared.arrival.Request.{Request}
 use Rattle.rad_auth.specs.declared.discard.Discard.{Discard}
 use Rattle.rad_auth.specs.declared.job.Job.{Job}
-use Rattle.rad_claim.specs.Claims.{Claims, ClaimSeat, IsFinishedSeatOf, IsSeatOf}
-use Rattle.rad_desk.specs.Passes.{Pass}
-use Rattle.rad_desk.specs.declared.mismatch.Mismatch.TheVariants.{Opening, Count}
+use Rattle.rad_claim.specs.Claims.{Claims, ClaimSeat, IsFinishedSeatOf, IsNewSeatOf}
 use Rattle.rad_desk.specs.declared.receipt.Receipt.{Receipt}
+use Rattle.rad_log.specs.Logs.{entries_of}
+use Rattle.rad_log.specs.declared.rule.Taking.{Taking}
 use Rattle.rad_packet.specs.Bodies.{Body}
+use Rattle.rad_packet.specs.Packets.{packet_octets}
 use Rattle.rad_server.specs.Runs.{IsAsked}
 use Rattle.rad_server.specs.Steps.{IsSealable}
 use Rattle.rad_server.specs.declared.answer.Answer.TheVariants.{Send}
 use Rattle.rad_server.specs.declared.entry.Entry.{Entry}
-use Rattle.rad_round.specs.Rounds.{IsOutcome}
+use Rattle.rad_round.specs.Rounds.{AreMoments, IsEntryOf, IsOutcome, arrivals_max}
 use Rattle.rad_round.specs.declared.outcome.Outcome.{Outcome}
-use Rattle.rad_round.specs.declared.outcome.Outcome.TheVariants.{Dropped, Busy, NoMemory, Reply}
-use Rattle.rad_round.specs.declared.round_fault.RoundFault.{RoundFault}
-use Rattle.rad_round.specs.declared.round_fault.RoundFault.TheVariants.{Mismatch, NoThread}
+use Rattle.rad_round.specs.declared.outcome.Outcome.TheVariants.{Dropped, NoMemory}
+use Rattle.rad_round.specs.declared.room.Room.{Room}
 use Rattle.rad_round.specs.declared.timed.Timed.{Timed}
-use Rattle.rad_round.specs.declared.worker.Numbered.{Numbered}
 
--- ---- receipts
-
--- each receipt stays where it was
-abbrev pub AreKept : List Receipt → List Receipt → Type 0
-AreKept before after = (index : ℕ) (receipt : Receipt) → slice_get before index ≡ Some receipt → slice_get after index ≡ Some receipt
-
--- an entry is that of a receipt with this place
-abbrev pub HasReceipt : List Receipt → Option ℕ → Entry → Type 0
-HasReceipt receipts None entry = ⊥
-HasReceipt receipts (Some place) entry = (index : ℕ) × (slice_get receipts index ≡ Some record { place = place; entry = entry })
-
--- the same of the receipts of some pass
-abbrev pub HasReceiptOfSome : List Pass → Option ℕ → Entry → Type 0
-HasReceiptOfSome passes place entry =
-    (number : ℕ) × (pass : Pass) × (slice_get passes number ≡ Some pass) × HasReceipt pass.receipts place entry
-
--- an entry is at this place of a history
-abbrev pub IsEntryAt : List Entry → Option ℕ → Entry → Type 0
-IsEntryAt history None entry = ⊥
-IsEntryAt history (Some place) entry = slice_get history place ≡ Some entry
+-- how many batches these arrivals are
+abbrev pub batch_count : List Timed → ℕ
+batch_count arrivals = (length arrivals + 7) / 8
 
 -- ---- lanes
 
@@ -61,31 +44,70 @@ abbrev pub AreVerdicts : List Client → List Timed → ℕ → List Verdict →
 AreVerdicts clients arrivals first verdicts = (lane : ℕ) (verdict : Verdict) → slice_get verdicts lane ≡ Some verdict
     → IsVerdict clients arrivals (first + lane) verdict
 
--- the receipt of this index is that of an arrival's request
-pub record IsAskedIn (arrivals : List Timed) (receipts : List Receipt) (number : ℕ) (verdict : Verdict) (index : ℕ) : Type 0 where
+-- a batch: the clients, all arrivals, its number, and the verdict in each of its lanes
+pub record CheckedBatch : Type 0 where
+  pub clients : List Client
+  pub arrivals : List Timed
+  pub number : ℕ
+  pub verdicts : List Verdict
+
+-- the batch of a number is checked
+pub record IsChecked (clients : List Client) (arrivals : List Timed) (number : ℕ) (verdicts : List Verdict) : Type 0 where
+  pub within : number * 8 < arrivals_max
+  pub moments : AreMoments arrivals
+  pub lanes : length verdicts ≡ 8
+  pub checked : AreVerdicts clients arrivals (number * 8) verdicts
+
+-- these are the octets of the request that was admitted
+pub record HasOctets (verdict : Verdict) (octets : List ℕ) : Type 0 where
+  pub request : Request
+  pub verdict_is : verdict ≡ Some (Ok request)
+  pub octets_are : octets ≡ packet_octets request.packet
+
+-- the octets in each lane, where there are any, are those of its request
+abbrev pub AreOctets : List Verdict → List (Option (List ℕ)) → Type 0
+AreOctets verdicts octets = (lane : ℕ) (verdict : Verdict) (some : Option (List ℕ)) → slice_get verdicts lane ≡ Some verdict
+    → slice_get octets lane ≡ Some some → IfSome some (HasOctets verdict)
+
+-- a receipt is that of the request of the arrival of this number
+pub record IsAskedOf (arrivals : List Timed) (number : ℕ) (verdict : Verdict) (receipt : Receipt) : Type 0 where
   pub request : Request
   pub verdict_is : verdict ≡ Some (Ok request)
   pub timed : Timed
   pub arrival : slice_get arrivals number ≡ Some timed
-  pub receipt : Receipt
-  pub at : slice_get receipts index ≡ Some receipt
   pub asked : IsAsked number request timed.moment timed.draw receipt.entry
   pub sealable : IsSealable receipt.entry.answer
 
--- the lanes of a batch that were asked have their receipts
-abbrev pub AreAsked : List Timed → List Receipt → ℕ → List Verdict → List (Option ℕ) → Type 0
-AreAsked arrivals receipts first verdicts asked = (lane : ℕ) (verdict : Verdict) (index : ℕ) → slice_get verdicts lane ≡ Some verdict
-    → slice_get asked lane ≡ Some (Some index) → IsAskedIn arrivals receipts (first + lane) verdict index
+-- the receipt in each lane, where there is one, is that of its arrival, the first of which has this number
+abbrev pub AreAsked : List Timed → ℕ → List Verdict → List (Option Receipt) → Type 0
+AreAsked arrivals first verdicts asked = (lane : ℕ) (verdict : Verdict) (receipt : Option Receipt) → slice_get verdicts lane ≡ Some verdict
+    → slice_get asked lane ≡ Some receipt → IfSome receipt (IsAskedOf arrivals (first + lane) verdict)
+
+-- a batch was asked: there is a lane for each of its verdicts
+abbrev pub AreAskedOf : CheckedBatch → List (Option Receipt) → Type 0
+AreAskedOf batch asked = (length asked ≡ 8) × AreAsked batch.arrivals (batch.number * 8) batch.verdicts asked
+
+-- the elements that are there, in order
+abbrev pub somes : {A : Type 0} → List (Option A) → List A
+somes [] = []
+somes (None ∷ rest) = somes rest
+somes (Some x ∷ rest) = x ∷ somes rest
+
+-- the entry of a receipt, if there is one
+abbrev pub entry_of : Option Receipt → Option Entry
+entry_of receipt = option_map (λ r. r.entry) receipt
+
+-- the entries of the lanes that were asked
+abbrev pub entries_in : List (Option Receipt) → List Entry
+entries_in asked = somes (map entry_of asked)
 
 -- ---- sealing
 
 -- what is to be sent in a lane: this body, to this request
-pub record Sends (receipts : List Receipt) (verdict : Verdict) (asked : Option ℕ) (request : Request) (body : Body) : Type 0 where
-  pub index : ℕ
+pub record Sends (verdict : Verdict) (asked : Option Receipt) (request : Request) (body : Body) : Type 0 where
   pub receipt : Receipt
   pub verdict_is : verdict ≡ Some (Ok request)
-  pub asked_is : asked ≡ Some index
-  pub at : slice_get receipts index ≡ Some receipt
+  pub asked_is : asked ≡ Some receipt
   pub answer : receipt.entry.answer ≡ Send body
 
 -- the octets of a reply to a client's request
@@ -94,117 +116,272 @@ reply_to clients request body =
     reply_octets body request.packet.identifier request.packet.authenticator (client_at clients request.client).secret
 
 -- a job is that of a lane
-abbrev pub IsJobOf : List Client → List Receipt → Verdict → Option ℕ → Option Job → Type 0
-IsJobOf clients receipts verdict asked job = (request : Request) (body : Body) → Sends receipts verdict asked request body
+abbrev pub IsJobOf : List Client → Verdict → Option Receipt → Option Job → Type 0
+IsJobOf clients verdict asked job = (request : Request) (body : Body) → Sends verdict asked request body
     → (some : Job) × (job ≡ Some some) × (job_octets some ≡ reply_to clients request body)
 
 -- the same by the number of the lane
-abbrev pub IsJobIn : List Client → List Receipt → List Verdict → List (Option ℕ) → ℕ → Option Job → Type 0
-IsJobIn clients receipts verdicts asked lane job = (verdict : Verdict) (index : Option ℕ) → slice_get verdicts lane ≡ Some verdict
-    → slice_get asked lane ≡ Some index → IsJobOf clients receipts verdict index job
+abbrev pub IsJobIn : List Client → List Verdict → List (Option Receipt) → ℕ → Option Job → Type 0
+IsJobIn clients verdicts asked lane job = (verdict : Verdict) (receipt : Option Receipt) → slice_get verdicts lane ≡ Some verdict
+    → slice_get asked lane ≡ Some receipt → IsJobOf clients verdict receipt job
 
 -- a frame has the reply of a lane
-abbrev pub IsSealed : List Client → List Receipt → Verdict → Option ℕ → List ℕ → Type 0
-IsSealed clients receipts verdict asked frame = (request : Request) (body : Body) → Sends receipts verdict asked request body
+abbrev pub IsSealed : List Client → Verdict → Option Receipt → List ℕ → Type 0
+IsSealed clients verdict asked frame = (request : Request) (body : Body) → Sends verdict asked request body
     → frame ≡ reply_to clients request body
 
 -- the same by the number of the lane
-abbrev pub IsSealedIn : List Client → List Receipt → List Verdict → List (Option ℕ) → ℕ → List ℕ → Type 0
-IsSealedIn clients receipts verdicts asked lane frame = (verdict : Verdict) (index : Option ℕ) → slice_get verdicts lane ≡ Some verdict
-    → slice_get asked lane ≡ Some index → IsSealed clients receipts verdict index frame
+abbrev pub IsSealedIn : List Client → List Verdict → List (Option Receipt) → ℕ → List ℕ → Type 0
+IsSealedIn clients verdicts asked lane frame = (verdict : Verdict) (receipt : Option Receipt) → slice_get verdicts lane ≡ Some verdict
+    → slice_get asked lane ≡ Some receipt → IsSealed clients verdict receipt frame
 
 -- each frame has the reply of its lane
-abbrev pub AreSealed : List Client → List Receipt → List Verdict → List (Option ℕ) → List (List ℕ) → Type 0
-AreSealed clients receipts verdicts asked frames = (lane : ℕ) (frame : List ℕ) → slice_get frames lane ≡ Some frame
-    → IsSealedIn clients receipts verdicts asked lane frame
+abbrev pub AreSealed : List Client → List Verdict → List (Option Receipt) → List (List ℕ) → Type 0
+AreSealed clients verdicts asked frames = (lane : ℕ) (frame : List ℕ) → slice_get frames lane ≡ Some frame
+    → IsSealedIn clients verdicts asked lane frame
 
--- ---- outcomes
+-- ---- batches
 
--- only what has an entry has a place
-abbrev pub IsPlaced : Outcome → Option ℕ → Type 0
-IsPlaced (Dropped discard) place = place ≡ None
-IsPlaced NoMemory place = place ≡ None
-IsPlaced Busy place = Unit {0}
-IsPlaced (Reply frame) place = Unit {0}
+-- the outcome of an arrival, with its entry if an exchange was made
+abbrev pub IsOutcomeWith : List Client → ℕ → Timed → Outcome → Option Entry → Type 0
+IsOutcomeWith clients number timed outcome None = IsOutcome clients (λ entry. ⊥) number timed outcome
+IsOutcomeWith clients number timed outcome (Some entry) = IsEntryOf clients number timed outcome entry
 
--- an outcome is that of the arrival of this number, where `Has` says which entry is at which place
-pub record IsFound (clients : List Client) (arrivals : List Timed) (Has : Option ℕ → Entry → Type 0) (number : ℕ) (place : Option ℕ)
-    (outcome : Outcome) : Type 0 where
-  pub timed : Timed
-  pub arrival : slice_get arrivals number ≡ Some timed
-  pub outcome_of : IsOutcome clients (Has place) number timed outcome
-  pub placed : IsPlaced outcome place
+-- what a lane has: the outcome of the arrival of this number, or nothing where there is no such arrival
+abbrev pub IsLane : List Client → List Timed → ℕ → Option Outcome → Option Entry → Type 0
+IsLane clients arrivals number None entry = (slice_get arrivals number ≡ None) × (entry ≡ None)
+IsLane clients arrivals number (Some outcome) entry =
+    (timed : Timed) × (slice_get arrivals number ≡ Some timed) × IsOutcomeWith clients number timed outcome entry
 
--- the same with its number
-abbrev pub IsFoundBy : List Client → List Timed → (Option ℕ → Entry → Type 0) → Numbered → Type 0
-IsFoundBy clients arrivals Has found = IsFound clients arrivals Has found.number found.place found.outcome
+-- the outcome in a lane with this verdict of which no exchange was made
+abbrev pub unasked : Verdict → Option Outcome
+unasked None = None
+unasked (Some (Err discard)) = Some (Dropped discard)
+unasked (Some (Ok request)) = Some NoMemory
+
+-- the same by the receipt of the lane, if it has one
+abbrev pub IsLaneOf : List Client → List Timed → ℕ → Option Outcome → Option (Option Receipt) → Type 0
+IsLaneOf clients arrivals number outcome asked = (receipt : Option Receipt) → asked ≡ Some receipt
+    → IsLane clients arrivals number outcome (entry_of receipt)
+
+-- what each lane of a batch has that begins with the arrival of this number
+pub record AreLanes (clients : List Client) (arrivals : List Timed) (first : ℕ) (outcomes : List (Option Outcome)) (entries : List (Option Entry))
+    : Type 0 where
+  pub outcome_each : length outcomes ≡ 8
+  pub entry_each : length entries ≡ 8
+  pub each : (lane : ℕ) (outcome : Option Outcome) (entry : Option Entry) → slice_get outcomes lane ≡ Some outcome
+      → slice_get entries lane ≡ Some entry → IsLane clients arrivals (first + lane) outcome entry
+
+-- the outcomes of a batch's lanes are put last, where these are the entries of the lanes
+pub record PutsLanes (batch : CheckedBatch) (entries : List (Option Entry)) (before after : List (Option Outcome)) : Type 0 where
+  pub outcomes : List (Option Outcome)
+  pub last : after ≡ before ++ outcomes
+  pub lanes : AreLanes batch.clients batch.arrivals (batch.number * 8) outcomes entries
+
+-- a batch that was answered: its number, the outcomes of its lanes, and what it appended to the history, if anything
+pub record Answered : Type 0 where
+  pub number : ℕ
+  pub outcomes : List (Option Outcome)
+  pub ticket : Option (Taking Entry)
+
+-- a batch without its outcomes
+pub record Claimed : Type 0 where
+  pub number : ℕ
+  pub ticket : Option (Taking Entry)
+
+-- the entries of a taking, if there is one
+abbrev pub taken : Option (Taking Entry) → List Entry
+taken None = []
+taken (Some taking) = taking.entries
+
+-- a batch was answered as it must be: the outcomes are those of its arrivals, and its taking has their entries and its number
+pub record IsAnswered (clients : List Client) (arrivals : List Timed) (answered : Answered) : Type 0 where
+  pub entries : List (Option Entry)
+  pub within : answered.number * 8 < arrivals_max
+  pub lanes : AreLanes clients arrivals (answered.number * 8) answered.outcomes entries
+  pub taken_is : taken answered.ticket ≡ somes entries
+  pub numbered : IfSome answered.ticket (λ taking. taking.number ≡ answered.number)
+
+-- how many entries batches have
+abbrev pub entry_count : List Answered → ℕ
+entry_count list = sum_by (λ answered. length (taken answered.ticket)) list
+
+-- the numbers of batches
+abbrev pub numbers_of : List Answered → List ℕ
+numbers_of list = map (λ answered. answered.number) list
 
 -- ---- workers
 
--- how many batches these arrivals are
-abbrev pub batch_count : List Timed → ℕ
-batch_count arrivals = (length arrivals + 7) / 8
+-- what is put last when a batch is answered: the outcomes of its lanes, where its taking has their entries
+pub record Answers (batch : CheckedBatch) (ticket : Option (Taking Entry)) (before after : List (Option Outcome)) : Type 0 where
+  pub entries : List (Option Entry)
+  pub puts : PutsLanes batch entries before after
+  pub taken_is : taken ticket ≡ somes entries
+  pub numbered : IfSome ticket (λ taking. taking.number ≡ batch.number)
 
--- a worker: its seat, which it gives away while it works; the receipts of its pass; and the outcomes of its arrivals
+-- batches with the outcomes of their lanes, eight for each
+abbrev pub answers_of : List Claimed → List (Option Outcome) → List Answered
+answers_of [] lanes = []
+answers_of (claimed ∷ rest) lanes =
+    record { number = claimed.number; outcomes = take 8 lanes; ticket = claimed.ticket } ∷ answers_of rest (drop 8 lanes)
+
+-- a worker: its seat, which it gives away while it works; its share of the ledger; the batches that it has answered; and how many it
+-- has room for
 pub record Worker : Type 0 where
   pub seat : Option ClaimSeat
-  pub pass : Pass
-  pub outcomes : List Numbered
+  pub parts : ℕ
+  pub amount : ℕ
+  pub answered : List Answered
+  pub room : ℕ
 
 -- a worker that has done nothing, with a seat of these claims
 pub record IsIdle (claims : Claims) (worker : Worker) : Type 0 where
   pub seat : ClaimSeat
   pub seat_is : worker.seat ≡ Some seat
-  pub own : IsSeatOf claims seat
-  pub none : worker.outcomes ≡ []
+  pub new : IsNewSeatOf claims seat
+  pub part : worker.parts ≡ 1
+  pub amount : worker.amount ≡ 0
+  pub none : worker.answered ≡ []
+  pub room : claims.batches ≤ worker.room
 
--- the outcomes of a worker are those of arrivals, by the receipts of its pass
-abbrev pub HasAnswered : List Client → List Timed → Worker → Type 0
-HasAnswered clients arrivals worker = All (IsFoundBy clients arrivals (HasReceipt worker.pass.receipts)) worker.outcomes
+-- a worker has answered the batches of these numbers, and its share counts their entries
+pub record HasAnswered (clients : List Client) (arrivals : List Timed) (numbers : List ℕ) (worker : Worker) : Type 0 where
+  pub numbers_are : numbers_of worker.answered ≡ numbers
+  pub right : All (IsAnswered clients arrivals) worker.answered
+  pub part : worker.parts ≡ 1
+  pub counted : worker.amount ≡ entry_count worker.answered
 
--- the same, and the worker has a seat of these claims that was told that there are no more batches
+-- a worker has answered one more batch
+pub record Adds (clients : List Client) (arrivals : List Timed) (number : ℕ) (before after : Worker) : Type 0 where
+  pub answered : Answered
+  pub number_is : answered.number ≡ number
+  pub right : IsAnswered clients arrivals answered
+  pub last : after.answered ≡ before.answered ++ answered ∷ []
+  pub amount : after.amount ≡ before.amount + length (taken answered.ticket)
+  pub part : after.parts ≡ before.parts
+  pub room : after.room ≡ before.room
+
+-- a worker has answered all batches that it claimed, and was told that there are no more
 pub record HasFinished (claims : Claims) (clients : List Client) (arrivals : List Timed) (worker : Worker) : Type 0 where
   pub seat : ClaimSeat
   pub seat_is : worker.seat ≡ Some seat
   pub finished : IsFinishedSeatOf claims seat
-  pub answered : HasAnswered clients arrivals worker
+  pub answered : HasAnswered clients arrivals seat.claimed worker
 
--- ---- the table
+-- ---- the lock
 
--- The outcomes of a round, and the places of their entries. Where there is no place yet, the outcome says nothing.
-pub record Table : Type 0 where
+-- what lies under the lock of a round: the history, and the log of what each taking of the lock appended to it
+pub record Shared : Type 0 where
+  pub history : List Entry
+  pub log : List (Taking Entry)
+
+-- the history is what was appended to it
+abbrev pub IsLogged : List Entry → List (Taking Entry) → Type 0
+IsLogged history log = entries_of log ≡ history
+
+-- ---- the end of a round
+
+-- all batches of several lists
+abbrev pub all_of : List (List Answered) → List Answered
+all_of [] = []
+all_of (list ∷ rest) = list ++ all_of rest
+
+-- a batch is one of a list
+abbrev pub IsIn : List Answered → Answered → Type 0
+IsIn list answered = (place : ℕ) × (slice_get list place ≡ Some answered)
+
+-- the outcomes of a batch are at the places of their arrivals
+abbrev pub IsPlaced : List Outcome → Answered → Type 0
+IsPlaced outcomes answered = (lane : ℕ) (outcome : Outcome) → lane < 8 → slice_get answered.outcomes lane ≡ Some (Some outcome)
+    → slice_get outcomes (answered.number * 8 + lane) ≡ Some outcome
+
+-- whichever batch of a list has the number of this one, is this one
+abbrev pub IsTheOne : List Answered → Answered → Type 0
+IsTheOne list answered = (other : Answered) → IsIn list other → other.number ≡ answered.number → other ≡ answered
+
+-- the batches of a list are put among outcomes: each that is the one of its number is placed, and each other that was placed stays so
+pub record ArePut (list : List Answered) (before after : List Outcome) : Type 0 where
+  pub count : length after ≡ length before
+  pub put : (answered : Answered) → IsTheOne list answered → IsIn list answered → IsPlaced after answered
+  pub kept : (answered : Answered) → IsTheOne list answered → IsPlaced before answered → IsPlaced after answered
+
+-- each lane that has an outcome has a place among so many, from this one on
+abbrev pub FitFrom : ℕ → List (Option Outcome) → ℕ → Type 0
+FitFrom first lanes count = (lane : ℕ) (outcome : Outcome) → slice_get lanes lane ≡ Some (Some outcome) → first + lane < count
+
+-- the same of the lanes of a batch
+pub record FitsAmong (count : ℕ) (answered : Answered) : Type 0 where
+  pub within : answered.number * 8 < arrivals_max
+  pub lanes : FitFrom (answered.number * 8) answered.outcomes count
+
+-- the last eight lanes have their places among so many, from this one on
+abbrev pub LastFit : ℕ → List (Option Outcome) → ℕ → Type 0
+LastFit first lanes count = (rest last : List (Option Outcome)) → lanes ≡ rest ++ last → length last ≡ 8 → FitFrom first last count
+
+-- the outcomes of the last eight lanes are taken, and put at the places from this one on; all other places stay as they were
+pub record PutsLast (first : ℕ) (lanes : List (Option Outcome)) (before : List Outcome) (rest : List (Option Outcome)) (after : List Outcome)
+    : Type 0 where
+  pub last : List (Option Outcome)
+  pub eight : length last ≡ 8
+  pub taken : lanes ≡ rest ++ last
+  pub count : length after ≡ length before
+  pub put : (lane : ℕ) (outcome : Outcome) → slice_get last lane ≡ Some (Some outcome) → slice_get after (first + lane) ≡ Some outcome
+  pub others : (place : ℕ) → (place < first) ⊎ (first + 8 ≤ place) → slice_get after place ≡ slice_get before place
+
+-- the batches of a list are in the log, as far as they appended something
+abbrev pub AreLogged : List (Taking Entry) → List Answered → Type 0
+AreLogged log list = (answered : Answered) (taking : Taking Entry) → IsIn list answered → answered.ticket ≡ Some taking
+    → (place : ℕ) × (slice_get log place ≡ Some taking)
+
+-- what workers hand in: their seats, the shares of all in one, and the outcomes of the round; and how many seats there is room for
+pub record HandedIn : Type 0 where
+  pub seats : List ClaimSeat
+  pub parts : ℕ
+  pub amount : ℕ
   pub outcomes : List Outcome
-  pub places : List (Option (Option ℕ))
+  pub room : ℕ
 
--- a table without an outcome
-abbrev pub empty_table : ℕ → Table
-empty_table count = record { outcomes = replicate count NoMemory; places = replicate count None }
+-- So many workers have handed in: each its seat and a list of the batches that it had claimed. The batches are answered and logged, the
+-- share counts their entries, and they are put among the outcomes, which were others before.
+pub record HaveHandedIn (claims : Claims) (clients : List Client) (arrivals : List Timed) (log : List (Taking Entry)) (before : List Outcome)
+    (count : ℕ) (handed : HandedIn) : Type 0 where
+  pub lists : List (List Answered)
+  pub seat_each : length handed.seats ≡ count
+  pub part_each : handed.parts ≡ count
+  pub finished : All (IsFinishedSeatOf claims) handed.seats
+  pub claimed : map (λ seat. seat.claimed) handed.seats ≡ map numbers_of lists
+  pub right : All (IsAnswered clients arrivals) (all_of lists)
+  pub counted : handed.amount ≡ entry_count (all_of lists)
+  pub logged : AreLogged log (all_of lists)
+  pub put : ArePut (all_of lists) before handed.outcomes
 
--- a table with one more outcome
-abbrev pub with_found : Numbered → Table → Table
-with_found found table = record {
-  outcomes = slice_set table.outcomes found.number found.outcome;
-  places = slice_set table.places found.number (Some found.place);
-}
+-- one more worker hands in
+pub record TakesIn (claims : Claims) (clients : List Client) (arrivals : List Timed) (log : List (Taking Entry)) (before after : HandedIn)
+    : Type 0 where
+  pub seat : ClaimSeat
+  pub list : List Answered
+  pub seats : after.seats ≡ before.seats ++ seat ∷ []
+  pub part : after.parts ≡ before.parts + 1
+  pub finished : IsFinishedSeatOf claims seat
+  pub claimed : seat.claimed ≡ numbers_of list
+  pub right : All (IsAnswered clients arrivals) list
+  pub counted : after.amount ≡ before.amount + entry_count list
+  pub logged : AreLogged log list
+  pub put : ArePut list before.outcomes after.outcomes
+  pub room : after.room ≡ before.room
 
--- there is room for the outcome of each arrival, and each one that is there is that of the arrival of its number
-pub record AreFound (clients : List Client) (arrivals : List Timed) (Has : Option ℕ → Entry → Type 0) (table : Table) : Type 0 where
-  pub outcome_each : length table.outcomes ≡ length arrivals
-  pub place_each : length table.places ≡ length arrivals
-  pub found : (number : ℕ) (place : Option ℕ) → slice_get table.places number ≡ Some (Some place)
-      → (outcome : Outcome) × (slice_get table.outcomes number ≡ Some outcome) × IsFound clients arrivals Has number place outcome
+-- ---- memory
 
--- all outcomes are there
-abbrev pub AreComplete : List (Option (Option ℕ)) → Type 0
-AreComplete places = All (λ place. IsSome place) places
-
--- each entry is at the place that the outcome of its arrival says
-abbrev pub AreTagged : List Entry → List (Option (Option ℕ)) → Type 0
-AreTagged history places = (place : ℕ) (entry : Entry) → slice_get history place ≡ Some entry
-    → slice_get places entry.tag ≡ Some (Some (Some place))
-
--- ---- faults
-
--- a fault that a round may have: its opening and its count always agree, and without a thread it goes on
-abbrev pub IsOwnFault : RoundFault → Type 0
-IsOwnFault fault = (fault ≢ Mismatch Opening) × ((fault ≢ Mismatch Count) × (fault ≢ NoThread))
+-- room for a round of these arrivals by so many workers
+pub record IsRoomFor (arrivals : List Timed) (workers : ℕ) (room : Room) : Type 0 where
+  pub some : 1 ≤ workers
+  pub parts : room.blank.parts ≡ workers
+  pub first : room.first ≡ room.log
+  pub batches : room.claims.batches ≡ batch_count arrivals
+  pub seats : room.claims.seats ≡ workers
+  pub seat_each : vec_len room.seats ≡ workers
+  pub new : All (IsNewSeatOf room.claims) room.seats.items
+  pub none_returned : room.returned.items ≡ []
+  pub returned_room : workers ≤ vec_capacity room.returned
+  pub no_history : room.history.items ≡ []
+  pub outcome_each : length room.outcomes.items ≡ length arrivals

@@ -1,18 +1,24 @@
-//! Batches: eight arrivals that are checked and sealed side by side.
-ghost use Rattle.std.specs.Prelude.{◌≡◌, ◌+◌, ◌≤◌, ◌^◌, ◌<◌, slice_get, IfSome};
+//! Batches: up to eight arrivals, each in a lane, that are checked, asked and sealed side by side.
+ghost use Rattle.std.specs.Prelude.{◌≡◌, ◌+◌, ◌*◌, ◌<◌, ◌≤◌, length, map, replicate, slice_get, IfSome, None};
 ghost use Rattle.std.specs.Option.{option_map};
+ghost use Rattle.std.specs.Vec.{vec_capacity};
+ghost use Rattle.rad_auth.specs.Admission.{HoldsAdmitted};
 ghost use Rattle.rad_auth.specs.Sealing.{IsJob};
-ghost use Rattle.rad_round.specs.Rounds.{AreMoments};
-ghost use Rattle.rad_round.specs.Works.{AreAsked, AreKept, AreSealed, AreVerdicts, IsAskedIn, IsJobIn, IsJobOf, IsVerdict, batch_count};
+ghost use Rattle.rad_server.specs.Steps.{IsSealable};
+ghost use Rattle.rad_round.specs.Rounds.{arrivals_max};
+ghost use Rattle.rad_round.specs.Works.{AreAskedOf, AreOctets, AreSealed, AreVerdicts, HasOctets, IsChecked, IsJobIn, IsJobOf, IsLaneOf, IsSealedIn, PutsLanes, batch_count, entry_of, unasked};
 
+use crate::leftovers::put_back;
+use crate::outcome::Outcome;
 use crate::timed::Timed;
 use rad_auth::{Arrival, Clients, Discard, Job, Request, admitted_is_answerable, check8, seal8};
-use rad_desk::{Locked, Opened, Pass, Receipt};
-use rad_packet::Frame;
+use rad_desk::Receipt;
+use rad_packet::{Frame, Octets};
 use rad_server::Answer;
-use std::sync::{Mutex, Wait};
+use std::alloc::Global;
+use std::marker::Model;
 
-/// The most arrivals of a batch, each in a lane.
+/// The most arrivals of a batch.
 pub(crate) const BATCH: usize = 8;
 
 /// The verdict on an arrival; None in a lane without one.
@@ -25,15 +31,16 @@ pub(crate) fn batch_count(arrivals: &[Timed]) -> u64
     arrivals.len().div_ceil(BATCH) as u64
 }
 
-/// Checks the arrivals from this number on.
+/// Checks the arrivals of the batch of this number.
 pub(crate) fn check_batch<'a>(
     clients: &Clients,
     arrivals: &[Timed<'a>],
-    first: usize,
+    number: usize,
 ) -> [Verdict<'a>; BATCH]
-    requires { first + 8 < 2 ^ 64 }
-    ensures { AreVerdicts clients.now arrivals.now first result }
+    requires { number * 8 < arrivals_max }
+    ensures { AreVerdicts clients.now arrivals.now (number * 8) result }
 {
+    let first = number * BATCH;
     check8(
         clients,
         &[
@@ -49,6 +56,181 @@ pub(crate) fn check_batch<'a>(
     )
 }
 
+/// The arrivals of a batch, and what admission says of each.
+#[derive(Drop)]
+pub(crate) struct Batch<'r, 'a> {
+    clients: &'r Clients,
+    pub arrivals: &'r [Timed<'a>],
+    /// Batches are counted from 0: batch b begins with arrival 8b.
+    pub number: usize,
+    pub verdicts: &'r [Verdict<'a>; BATCH],
+}
+
+impl<'r, 'a> Model for Batch<'r, 'a> {
+    ghost use Rattle.rad_round.specs.Works.{CheckedBatch, IsChecked};
+
+    ghost Value = { CheckedBatch };
+
+    ghost view = { λ batch. record {
+      clients = batch.clients.now;
+      arrivals = batch.arrivals.now;
+      number = batch.number;
+      verdicts = batch.verdicts.now;
+    } };
+
+    ghost invariant = { λ batch.
+        IsChecked batch.clients.now batch.arrivals.now batch.number batch.verdicts.now };
+}
+
+impl<'r, 'a> Batch<'r, 'a> {
+    /// The batch of this number, with the verdicts on its arrivals.
+    pub fn new(
+        clients: &'r Clients,
+        arrivals: &'r [Timed<'a>],
+        number: usize,
+        verdicts: &'r [Verdict<'a>; BATCH],
+    ) -> Batch<'r, 'a>
+        requires { IsChecked clients.now arrivals.now number verdicts.now }
+        ensures clients { result.clients ≡ clients.now }
+        ensures arrivals { result.arrivals ≡ arrivals.now }
+        ensures number { result.number ≡ number }
+    {
+        Batch {
+            clients,
+            arrivals,
+            number,
+            verdicts,
+        }
+    }
+
+    /// Whether there is a request in the batch.
+    pub fn has_requests(&self) -> bool {
+        let verdicts = self.verdicts;
+        verdicts
+            .iter()
+            .any(|verdict| matches!(verdict, Some(Ok(_))))
+    }
+
+    /// The octets of the requests, up to Length. Where memory is refused there are none.
+    pub fn octets(&self, alloc: Global) -> [Option<Octets>; BATCH]
+        ensures { AreOctets self.now.verdicts result }
+    {
+        let verdicts = self.verdicts;
+        [
+            octets_of(alloc, &verdicts[0]),
+            octets_of(alloc, &verdicts[1]),
+            octets_of(alloc, &verdicts[2]),
+            octets_of(alloc, &verdicts[3]),
+            octets_of(alloc, &verdicts[4]),
+            octets_of(alloc, &verdicts[5]),
+            octets_of(alloc, &verdicts[6]),
+            octets_of(alloc, &verdicts[7]),
+        ]
+    }
+
+    /// Seals the replies of the batch, each into the frame of its lane.
+    pub fn seal(&self, asked: &[Option<Receipt>], frames: &mut [Frame; BATCH])
+        requires asked { AreAskedOf self.now asked.now }
+        ensures { AreSealed self.now.clients self.now.verdicts asked.now frames.new }
+    {
+        let jobs = [
+            self.job(asked, 0),
+            self.job(asked, 1),
+            self.job(asked, 2),
+            self.job(asked, 3),
+            self.job(asked, 4),
+            self.job(asked, 5),
+            self.job(asked, 6),
+            self.job(asked, 7),
+        ];
+        seal8(&jobs, frames);
+    }
+
+    // The reply to be sealed in a lane, if there is one.
+    fn job<'s>(&'s self, asked: &'s [Option<Receipt>], lane: usize) -> Option<Job<'s>>
+        requires lane { lane < 8 }
+        requires asked { AreAskedOf self.now asked.now }
+        ensures job { IfSome result IsJob }
+        ensures of_lane { IsJobIn self.now.clients self.now.verdicts asked.now lane result }
+    {
+        let verdicts = self.verdicts;
+        job_of(self.clients, &verdicts[lane], &asked[lane])
+    }
+
+    /// Puts the outcomes of the batch last, once its replies are sealed. Frames that no reply takes are left.
+    pub fn put_outcomes(
+        &self,
+        asked: &[Option<Receipt>],
+        frames: [Frame; BATCH],
+        left: &mut Vec<Frame>,
+        outcomes: &mut Vec<Option<Outcome>>,
+    )
+        requires asked { AreAskedOf self.now asked.now }
+        requires sealed { AreSealed self.now.clients self.now.verdicts asked.now frames }
+        requires room { length outcomes.old.items + 8 ≤ vec_capacity outcomes.old }
+        ensures lanes { PutsLanes self.now (map entry_of asked.now)
+            outcomes.old.items outcomes.new.items }
+        ensures room { vec_capacity outcomes.new ≡ vec_capacity outcomes.old }
+    {
+        let mut frames = frames.into_iter();
+        for lane in 0..BATCH {
+            let Some(frame) = frames.next() else {
+                unreachable!()
+            };
+            let (outcome, rest) = self.outcome(asked, lane, frame);
+            outcomes.push_reserved(outcome);
+            put_back(left, rest);
+        }
+    }
+
+    // The outcome in a lane, and its frame if no reply takes it.
+    fn outcome(
+        &self,
+        asked: &[Option<Receipt>],
+        lane: usize,
+        frame: Frame,
+    ) -> (Option<Outcome>, Option<Frame>)
+        requires lane { lane < 8 }
+        requires asked { AreAskedOf self.now asked.now }
+        requires sealed { IsSealedIn self.now.clients self.now.verdicts asked.now lane frame }
+        ensures { IsLaneOf self.now.clients self.now.arrivals (self.now.number * 8 + lane)
+            result.0 (slice_get asked.now lane) }
+    {
+        let verdicts = self.verdicts;
+        let Some(receipt) = &asked[lane] else {
+            return (unasked(&verdicts[lane]), Some(frame));
+        };
+        match &receipt.entry.answer {
+            Answer::Busy => (Some(Outcome::Busy), Some(frame)),
+            Answer::Send(_) => (Some(Outcome::Reply(frame)), None),
+        }
+    }
+
+    /// The same where nothing of the batch was asked.
+    pub fn put_unasked(&self, outcomes: &mut Vec<Option<Outcome>>)
+        requires room { length outcomes.old.items + 8 ≤ vec_capacity outcomes.old }
+        ensures lanes { PutsLanes self.now (replicate 8 None)
+            outcomes.old.items outcomes.new.items }
+        ensures room { vec_capacity outcomes.new ≡ vec_capacity outcomes.old }
+    {
+        let verdicts = self.verdicts;
+        for lane in 0..BATCH {
+            outcomes.push_reserved(unasked(&verdicts[lane]));
+        }
+    }
+}
+
+// The outcome in a lane of which no exchange was made.
+fn unasked(verdict: &Verdict) -> Option<Outcome>
+    ensures { result ≡ unasked verdict.now }
+{
+    match verdict {
+        None => None,
+        Some(Err(discard)) => Some(Outcome::Dropped(*discard)),
+        Some(Ok(_)) => Some(Outcome::NoMemory),
+    }
+}
+
 // The arrival of this number, if there is one.
 fn arrival_at<'a>(arrivals: &[Timed<'a>], number: usize) -> Option<Arrival<'a>>
     ensures { result ≡ option_map (λ timed. timed.arrival) (slice_get arrivals.now number) }
@@ -57,128 +239,33 @@ fn arrival_at<'a>(arrivals: &[Timed<'a>], number: usize) -> Option<Arrival<'a>>
     Some(timed.arrival)
 }
 
-/// Asks the requests of a batch, one after another, with one taking of the lock. Returns the index of each one's receipt in the pass.
-pub(crate) fn ask_batch<'c, L: Opened, R: Wait>(
-    rt: &R,
-    lock: &Mutex<Locked<'c, L>>,
-    arrivals: &[Timed],
-    pass: &mut Pass<L>,
-    first: usize,
-    verdicts: &[Verdict; BATCH],
-) -> [Option<usize>; BATCH]
-    requires place { first + 8 < 2 ^ 64 }
-    requires moments { AreMoments arrivals.now }
-    requires verdicts { AreVerdicts L.opening.configuration.clients arrivals.now
-        first verdicts.now }
-    ensures kept { AreKept pass.old.receipts pass.new.receipts }
-    ensures asked { AreAsked arrivals.now pass.new.receipts first verdicts.now result }
-{
-    let mut locked = lock.lock(rt);
-    let mut asked = [None; BATCH];
-    for lane in 0..BATCH {
-        asked[lane] = ask(&mut locked, arrivals, pass, first + lane, &verdicts[lane]);
-    }
-    asked
-}
-
-// Asks the request of an arrival, if it is one. Returns the index of its receipt.
-fn ask<'c, L: Opened>(
-    locked: &mut Locked<'c, L>,
-    arrivals: &[Timed],
-    pass: &mut Pass<L>,
-    number: usize,
-    verdict: &Verdict,
-) -> Option<usize>
-    requires moments { AreMoments arrivals.now }
-    requires verdict { IsVerdict L.opening.configuration.clients arrivals.now number verdict.now }
-    ensures kept { AreKept pass.old.receipts pass.new.receipts }
-    ensures asked { IfSome result (IsAskedIn arrivals.now pass.new.receipts number verdict.now) }
+// The octets of a request, if it is one and there is memory.
+fn octets_of(alloc: Global, verdict: &Verdict) -> Option<Octets>
+    ensures { IfSome result (HasOctets verdict.now) }
 {
     let Some(Ok(request)) = verdict else {
         return None;
     };
-    let timed = arrivals.get(number)?;
-    let index = pass.receipts().len();
-    let tag = number as u64;
-    pass.exchange(locked, tag, request, timed.moment, &timed.draw)
-        .ok()?;
-    Some(index)
+    Octets::of(alloc, request.packet.octets()).ok()
 }
 
-/// Seals the replies of a batch, each into the frame of its lane.
-pub(crate) fn seal_batch(
-    clients: &Clients,
-    arrivals: &[Timed],
-    receipts: &[Receipt],
-    first: usize,
-    verdicts: &[Verdict; BATCH],
-    asked: &[Option<usize>; BATCH],
-    frames: &mut [Frame; BATCH],
-)
-    requires place { first + 8 < 2 ^ 64 }
-    requires verdicts { AreVerdicts clients.now arrivals.now first verdicts.now }
-    requires asked { AreAsked arrivals.now receipts.now first verdicts.now asked.now }
-    ensures { AreSealed clients.now receipts.now verdicts.now asked.now frames.new }
-{
-    let jobs = [
-        job(clients, arrivals, receipts, first, verdicts, asked, 0),
-        job(clients, arrivals, receipts, first, verdicts, asked, 1),
-        job(clients, arrivals, receipts, first, verdicts, asked, 2),
-        job(clients, arrivals, receipts, first, verdicts, asked, 3),
-        job(clients, arrivals, receipts, first, verdicts, asked, 4),
-        job(clients, arrivals, receipts, first, verdicts, asked, 5),
-        job(clients, arrivals, receipts, first, verdicts, asked, 6),
-        job(clients, arrivals, receipts, first, verdicts, asked, 7),
-    ];
-    seal8(&jobs, frames);
-}
-
-// The reply to be sealed in a lane, if there is one.
-fn job<'a>(
-    clients: &'a Clients,
-    arrivals: &[Timed],
-    receipts: &'a [Receipt],
-    first: usize,
-    verdicts: &[Verdict; BATCH],
-    asked: &[Option<usize>; BATCH],
-    lane: usize,
-) -> Option<Job<'a>>
-    requires lane { (lane < 8) × (first + 8 < 2 ^ 64) }
-    requires verdicts { AreVerdicts clients.now arrivals.now first verdicts.now }
-    requires asked { AreAsked arrivals.now receipts.now first verdicts.now asked.now }
-    ensures job { IfSome result IsJob }
-    ensures of_lane { IsJobIn clients.now receipts.now verdicts.now asked.now lane result }
-{
-    job_of(
-        clients,
-        arrivals,
-        receipts,
-        first + lane,
-        &verdicts[lane],
-        asked[lane],
-    )
-}
-
-// The reply to an arrival that is to be sealed, if there is one.
+// The reply to a request that is to be sealed, if there is one.
 fn job_of<'a>(
     clients: &'a Clients,
-    arrivals: &[Timed],
-    receipts: &'a [Receipt],
-    number: usize,
     verdict: &Verdict,
-    asked: Option<usize>,
+    asked: &'a Option<Receipt>,
 ) -> Option<Job<'a>>
-    requires verdict { IsVerdict clients.now arrivals.now number verdict.now }
-    requires asked { IfSome asked (IsAskedIn arrivals.now receipts.now number verdict.now) }
+    requires admitted { HoldsAdmitted clients.now verdict.now }
+    requires sealable { IfSome asked.now (λ receipt. IsSealable receipt.entry.answer) }
     ensures job { IfSome result IsJob }
-    ensures of_lane { IsJobOf clients.now receipts.now verdict.now asked result }
+    ensures of_lane { IsJobOf clients.now verdict.now asked.now result }
 {
-    let _ = arrivals;
-    let _ = number;
     let Some(Ok(request)) = verdict else {
         return None;
     };
-    let receipt = receipts.get(asked?)?;
+    let Some(receipt) = asked else {
+        return None;
+    };
     let Answer::Send(body) = &receipt.entry.answer else {
         return None;
     };

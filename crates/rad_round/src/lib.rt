@@ -1,21 +1,25 @@
-//! The round: datagrams that one worker answers, or several over one desk.
+//! The round: datagrams that several workers answer over one lock.
 //!
-//! `Service::round` answers datagrams by one worker, which has the server to itself, or by several over a desk of `rad_desk`, which
-//! claim them in batches (`rad_claim`). Nothing is decided here: answers are `rad_server`'s.
+//! `Service::round` lets its workers claim the datagrams in batches (`rad_claim`), and ask one server for each batch with one taking
+//! of a lock. What lies under the lock is what lies under a desk's (`rad_desk`), with the keeper of a log of the takings (`rad_log`).
+//! A ticket of each taking shows, at the end, that the history has what its worker was answered: nothing is compared, and nothing
+//! fails once the first exchange is made. One worker is the same, without a thread. Nothing is decided here: answers are
+//! `rad_server`'s.
 //!
 //! Other crates rest on this: when `Service::round` returns `Ok`, the history leads from the server before to the one after, and each
 //! datagram has its outcome by that history (`specs/Rounds.antt`).
 #![tactic(auto)]
 
-mod alone;
 mod batch;
 mod gate;
+mod gather;
+mod leftovers;
 mod outcome;
 mod room;
 mod round;
 mod round_fault;
 mod service;
-mod table;
+mod shared;
 mod timed;
 mod worker;
 

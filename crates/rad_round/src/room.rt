@@ -1,96 +1,64 @@
-//! The room that the workers of a round leave to those of the next.
-use crate::batch::BATCH;
+//! Memory for a round.
+ghost use Rattle.std.specs.Prelude.{◌≡◌, ◌≤◌, length, IfOk};
+ghost use Rattle.rad_round.specs.Rounds.{arrivals_max, workers_max};
+ghost use Rattle.rad_round.specs.Works.{IsRoomFor};
+
+use crate::batch::batch_count;
 use crate::outcome::Outcome;
-use crate::worker::Numbered;
-use rad_packet::Frame;
+use crate::timed::Timed;
+use rad_claim::{ClaimSeat, Claims};
+use rad_log::{FirstSeat, Log};
+use rad_server::Entry;
 use std::alloc::{AllocError, Global};
+use std::sync::ledger::Blank;
 
-/// The most frames that a worker keeps: as many as a round has replies.
-const FRAMES_MAX: usize = 512;
-
-/// What a worker leaves. What is in it says nothing.
+/// What a round needs that takes memory, but for its workers and what the steps of its server take.
 #[derive(Drop)]
 pub(crate) struct Room {
-    pub outcomes: Vec<Numbered>,
-    /// Frames that no reply has taken.
-    pub frames: Vec<Frame>,
+    pub alloc: Global,
+    pub blank: Blank,
+    pub log: Log<Entry>,
+    pub first: FirstSeat<Entry>,
+    pub claims: Claims,
+    pub seats: Vec<ClaimSeat>,
+    /// Empty, with room for the seats when they come back.
+    pub returned: Vec<ClaimSeat>,
+    /// Empty, with room for an entry of each arrival.
+    pub history: Vec<Entry>,
+    /// A place for the outcome of each arrival.
+    pub outcomes: Vec<Outcome>,
 }
 
 impl Room {
-    pub fn new(alloc: Global) -> Room {
-        Room {
-            outcomes: Vec::new(alloc),
-            frames: Vec::new(alloc),
-        }
-    }
-
-    // Keeps a frame, if there is memory.
-    fn keep(&mut self, frame: Frame) {
-        if self.frames.len() < FRAMES_MAX && self.frames.reserve(1).is_ok() {
-            self.frames.push_reserved(frame);
-        }
-    }
-}
-
-/// Leaves room to the next round, if there is memory to keep it.
-pub(crate) fn leave(rooms: &mut Vec<Room>, room: Room) {
-    if rooms.reserve(1).is_ok() {
-        rooms.push_reserved(room);
-    }
-}
-
-/// Gives the frames of a round's replies back to the rooms of its workers, of which there were so many. The batches take turns, since
-/// nothing says which worker had one.
-pub(crate) fn give_back(rooms: &mut [Room], mut outcomes: Vec<Outcome>, workers: usize) {
-    while let Some(outcome) = outcomes.pop() {
-        let batch = outcomes.len() / BATCH;
-        if let Outcome::Reply(frame) = outcome {
-            give(rooms, batch.checked_rem(workers), frame);
-        }
+    /// Room for these arrivals and so many workers.
+    pub fn new(alloc: Global, arrivals: &[Timed], workers: u64) -> Result<Room, AllocError>
+        requires workers { (1 ≤ workers) × (workers ≤ workers_max) }
+        requires count { length arrivals.now ≤ arrivals_max }
+        ensures { IfOk result (IsRoomFor arrivals.now workers) }
+    {
+        let (log, first) = Log::open(alloc)?;
+        let (claims, seats) = Claims::open(alloc, batch_count(arrivals), workers)?;
+        Ok(Room {
+            alloc,
+            blank: Blank::new(workers),
+            log,
+            first,
+            claims,
+            seats,
+            returned: Vec::with_capacity(alloc, workers as usize)?,
+            history: Vec::with_capacity(alloc, arrivals.len())?,
+            outcomes: outcomes_for(alloc, arrivals.len())?,
+        })
     }
 }
 
-// Gives a frame to the room of this number, counted from the last one, if there is one.
-fn give(rooms: &mut [Room], number: Option<usize>, frame: Frame) {
-    let Some(number) = number else {
-        return;
-    };
-    if number < rooms.len() {
-        let place = rooms.len() - 1 - number;
-        rooms[place].keep(frame);
+// So many outcomes, which say nothing.
+fn outcomes_for(alloc: Global, count: usize) -> Result<Vec<Outcome>, AllocError>
+    ensures { IfOk result (λ outcomes. length outcomes.items ≡ count) }
+{
+    let mut outcomes = Vec::with_capacity(alloc, count)?;
+    for _i in 0..count {
+        outcomes.push(Outcome::NoMemory)?;
     }
-}
-
-/// Keeps a frame for the next batch, if there is memory to keep it.
-pub(crate) fn put_back(frames: &mut Vec<Frame>, frame: Option<Frame>) {
-    let Some(frame) = frame else {
-        return;
-    };
-    if frames.reserve(1).is_ok() {
-        frames.push_reserved(frame);
-    }
-}
-
-/// Eight frames: first those that are left.
-pub(crate) fn eight_frames(
-    alloc: Global,
-    left: &mut Vec<Frame>,
-) -> Result<[Frame; BATCH], AllocError> {
-    Ok([
-        frame(alloc, left)?,
-        frame(alloc, left)?,
-        frame(alloc, left)?,
-        frame(alloc, left)?,
-        frame(alloc, left)?,
-        frame(alloc, left)?,
-        frame(alloc, left)?,
-        frame(alloc, left)?,
-    ])
-}
-
-fn frame(alloc: Global, left: &mut Vec<Frame>) -> Result<Frame, AllocError> {
-    match left.pop() {
-        Some(frame) => Ok(frame),
-        None => Frame::new(alloc),
-    }
+    Ok(outcomes)
 }

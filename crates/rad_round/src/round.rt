@@ -1,26 +1,25 @@
-//! A round with several workers, each on a thread, over one lock.
-ghost use Rattle.std.specs.Prelude.{◌≡◌, ◌<◌, ◌≤◌, length, vec_len, IfErr, IfOk};
-ghost use Rattle.std.specs.List.{All};
+//! A round: its workers, each on a thread, over one lock.
+ghost use Rattle.std.specs.Prelude.{◌≡◌, ◌<◌, ◌≤◌, length, vec_len, All, IfErr, IfOk, OnOk};
 ghost use Rattle.rad_claim.specs.Claims.{IsNewSeatOf};
-ghost use Rattle.rad_desk.specs.Desks.{IsBlankOf};
-ghost use Rattle.rad_round.specs.Rounds.{AreMoments, Round, arrivals_max, workers_max};
-ghost use Rattle.rad_round.specs.Works.{HasFinished, IsIdle, IsOwnFault, batch_count};
+ghost use Rattle.rad_round.specs.Rounds.{AreMoments, Round, arrivals_max};
+ghost use Rattle.rad_round.specs.Works.{HasFinished, IsIdle, IsRoomFor};
 
 use crate::batch::batch_count;
 use crate::gate::Gate;
+use crate::gather::gather;
+use crate::leftovers::Leftovers;
 use crate::outcome::Outcome;
 use crate::room::Room;
-use crate::round_fault::RoundFault;
-use crate::table::{Table, collect, finish};
+use crate::shared::{OpenRound, Setting, Shared};
 use crate::timed::Timed;
 use crate::worker::Worker;
-use rad_auth::Clients;
-use rad_claim::{ClaimSeat, Claims};
-use rad_desk::{Closed, Locked, Opened, Pass, close, open_with};
+use rad_claim::ClaimSeat;
+use rad_desk::{Locked, Opened};
+use rad_log::Logged;
 use rad_server::{Entry, Server};
 use std::alloc::{AllocError, Global};
-use std::marker::Brand;
-use std::sync::ledger::Blank;
+use std::marker::{Brand, PhantomData};
+use std::sync::ledger::Share;
 use std::sync::{Mutex, Wait};
 use std::thread::{Threads, for_each_mut};
 
@@ -33,121 +32,109 @@ pub struct Done {
     pub history: Vec<Entry>,
 }
 
-/// A round on a server that is moved in. It comes back as it is afterwards.
+/// A round on a server that is moved in. It comes back as it is afterwards, or as it was if memory for the workers is refused, before
+/// the first exchange.
 pub(crate) fn run_round<'c, R: Threads + Wait + Sync, G: Gate + Sync>(
     rt: &R,
-    alloc: Global,
     server: Server<'c>,
+    room: Room,
     arrivals: &[Timed],
-    workers: u64,
     gate: &G,
-    rooms: &mut Vec<Room>,
-) -> Result<(Server<'c>, Done), RoundFault>
-    requires workers { (1 ≤ workers) × (workers ≤ workers_max) }
+    leftovers: &mut Leftovers,
+) -> Result<(Server<'c>, Done), Server<'c>>
+    requires room { IsRoomFor arrivals.now room.claims.seats room }
     requires count { length arrivals.now ≤ arrivals_max }
     requires moments { AreMoments arrivals.now }
     ensures round { IfOk result (λ made.
         Round server.entry arrivals.now made.1.outcomes.items made.1.history.items made.0) }
-    ensures fault { IfErr result IsOwnFault }
+    ensures unchanged { IfErr result (λ left. left ≡ server.entry) }
 {
-    run_in::<Brand, R, G>(
-        rt,
-        alloc,
-        Blank::new(workers),
-        server,
-        arrivals,
-        workers,
-        gate,
-        rooms,
-    )
+    run_in::<Brand, R, G>(rt, server, room, arrivals, gate, leftovers)
 }
 
-// The same, in a ledger.
-fn run_in<'c, L: Opened + Send + Sync, R: Threads + Wait + Sync, G: Gate + Sync>(
+// The same, in a ledger and a log.
+fn run_in<'c, L: Opened + Logged + Send + Sync, R: Threads + Wait + Sync, G: Gate + Sync>(
     rt: &R,
-    alloc: Global,
-    blank: Blank,
     server: Server<'c>,
+    room: Room,
     arrivals: &[Timed],
-    workers: u64,
     gate: &G,
-    rooms: &mut Vec<Room>,
-) -> Result<(Server<'c>, Done), RoundFault>
-    requires workers { (1 ≤ workers) × (workers ≤ workers_max) }
+    leftovers: &mut Leftovers,
+) -> Result<(Server<'c>, Done), Server<'c>>
+    requires room { IsRoomFor arrivals.now L.parts room }
+    requires blank { (room.blank.name ≡ L.name) × (room.blank.parts ≡ L.parts) }
+    requires log { room.log ≡ L.table }
+    requires opening { server ≡ L.opening }
     requires count { length arrivals.now ≤ arrivals_max }
     requires moments { AreMoments arrivals.now }
-    requires blank { IsBlankOf blank.name blank.parts L.name L.parts workers }
-    requires opening { server ≡ L.opening }
     ensures round { IfOk result (λ made.
         Round L.opening arrivals.now made.1.outcomes.items made.1.history.items made.0) }
-    ensures fault { IfErr result IsOwnFault }
+    ensures unchanged { IfErr result (λ left. left ≡ L.opening) }
 {
-    let clients = server.config().clients();
-    let (claims, seats) = Claims::open(alloc, batch_count(arrivals), workers)?;
-    let (lock, passes) = open_with::<L>(alloc, blank, server, workers)?;
-    let mut workers = begin(alloc, &claims, seats, passes, rooms)?;
-    work_all(
-        rt,
-        &lock,
-        &claims,
-        clients,
-        arrivals,
-        gate,
-        workers.as_mut_slice(),
-    );
-    settle_round(
+    let Room {
         alloc,
+        blank,
+        log,
+        first,
         claims,
-        clients,
+        seats,
+        returned,
+        history,
+        outcomes,
+    } = room;
+    let (total, mut rest) = blank.open::<L>();
+    let setting = Setting {
+        log,
+        claims,
+        clients: server.config().clients(),
         arrivals,
-        lock.into_inner(),
-        workers,
-        rooms,
-    )
+        of: PhantomData,
+    };
+    let Ok(mut workers) = begin(alloc, &setting, seats, &mut rest, leftovers) else {
+        return Err(server);
+    };
+    let locked = Locked::new(server, history, total, rest);
+    let lock = Mutex::new(Shared::new(locked, first.keeper()));
+    let round = OpenRound { setting, lock };
+    work_all(rt, &round, workers.as_mut_slice(), gate);
+    Ok(gather(round, workers, returned, outcomes, leftovers))
 }
 
-// A worker for each pass and seat, in the room that an earlier round has left, if it has.
-fn begin<L: Opened>(
+// A worker for each seat, with room for all batches.
+fn begin<L: Opened + Logged>(
     alloc: Global,
-    claims: &Claims,
+    setting: &Setting<L>,
     mut seats: Vec<ClaimSeat>,
-    mut passes: Vec<Pass<L>>,
-    rooms: &mut Vec<Room>,
+    rest: &mut Share<L>,
+    leftovers: &mut Leftovers,
 ) -> Result<Vec<Worker<L>>, AllocError>
-    requires count { vec_len seats ≡ vec_len passes }
-    requires seats { All (IsNewSeatOf claims.now) seats.items }
-    ensures count { IfOk result (λ workers. vec_len workers ≡ vec_len passes) }
-    ensures idle { IfOk result (λ workers. All (IsIdle claims.now) workers.items) }
+    requires seats { All (IsNewSeatOf setting.now.claims) seats.items }
+    requires rest { (rest.old.parts ≡ vec_len seats) × (rest.old.amount ≡ 0) }
+    ensures count { IfOk result (λ workers. vec_len workers ≡ vec_len seats) }
+    ensures idle { IfOk result (λ workers. All (IsIdle setting.now.claims) workers.items) }
+    ensures rest { OnOk result ((rest.new.parts ≡ 0) × (rest.new.amount ≡ 0)) }
 {
-    let _ = claims;
-    let mut workers = Vec::with_capacity(alloc, passes.len())?;
-    while let Some(pass) = passes.pop() {
-        let Some(seat) = seats.pop() else {
-            unreachable!()
-        };
-        let room = rooms.pop().unwrap_or(Room::new(alloc));
-        workers.push(Worker::new(alloc, seat, pass, room))?;
+    let batches = batch_count(setting.arrivals) as usize;
+    let mut workers = Vec::with_capacity(alloc, seats.len())?;
+    while let Some(seat) = seats.pop() {
+        let share = rest.split_off(1, 0);
+        let worker = Worker::new(alloc, seat, share, leftovers.take(), batches)?;
+        workers.push(worker)?;
     }
     Ok(workers)
 }
 
 // Lets the workers work, each on a thread, one of them on this one.
-fn work_all<'c, L: Opened + Send + Sync, R: Threads + Wait + Sync, G: Gate + Sync>(
+fn work_all<'c, L: Opened + Logged + Send + Sync, R: Threads + Wait + Sync, G: Gate + Sync>(
     rt: &R,
-    lock: &Mutex<Locked<'c, L>>,
-    claims: &Claims,
-    clients: &Clients,
-    arrivals: &[Timed],
-    gate: &G,
+    round: &OpenRound<'_, '_, 'c, L>,
     workers: &mut [Worker<L>],
+    gate: &G,
 )
-    requires count { length arrivals.now ≤ arrivals_max }
-    requires moments { AreMoments arrivals.now }
-    requires clients { clients.now ≡ L.opening.configuration.clients }
     requires workers { 0 < length workers.old }
-    requires batches { claims.now.batches ≡ batch_count arrivals.now }
-    requires idle { All (IsIdle claims.now) workers.old }
-    ensures { All (HasFinished claims.now clients.now arrivals.now) workers.new }
+    requires idle { All (IsIdle round.now.setting.claims) workers.old }
+    ensures { All (HasFinished round.now.setting.claims round.now.setting.clients.now
+        round.now.setting.arrivals.now) workers.new }
 {
     let count = workers.len();
     for_each_mut(
@@ -155,41 +142,9 @@ fn work_all<'c, L: Opened + Send + Sync, R: Threads + Wait + Sync, G: Gate + Syn
         workers,
         count,
         &|_number: usize, worker: &mut Worker<L>|
-            requires { (length arrivals.now ≤ arrivals_max) × AreMoments arrivals.now
-                × (clients.now ≡ L.opening.configuration.clients)
-                × (claims.now.batches ≡ batch_count arrivals.now) × IsIdle claims.now worker.now }
-            ensures { HasFinished claims.entry.now clients.entry.now arrivals.entry.now worker.exit.now }
-        { worker.work(rt, lock, claims, clients, arrivals, gate) },
+            requires { IsIdle round.now.setting.claims worker.now }
+            ensures { HasFinished round.entry.now.setting.claims round.entry.now.setting.clients.now
+                round.entry.now.setting.arrivals.now worker.exit.now }
+        { worker.work(rt, round, gate) },
     );
-}
-
-// What the workers made, once their receipts agree with the history.
-fn settle_round<'c, L: Opened>(
-    alloc: Global,
-    claims: Claims,
-    clients: &Clients,
-    arrivals: &[Timed],
-    locked: Locked<'c, L>,
-    workers: Vec<Worker<L>>,
-    rooms: &mut Vec<Room>,
-) -> Result<(Server<'c>, Done), RoundFault>
-    requires clients { clients.now ≡ L.opening.configuration.clients }
-    requires parts { vec_len workers ≡ L.parts }
-    requires seats { vec_len workers ≡ claims.seats }
-    requires finished { All (HasFinished claims clients.now arrivals.now) workers.items }
-    ensures round { IfOk result (λ made.
-        Round L.opening arrivals.now made.1.outcomes.items made.1.history.items made.0) }
-    ensures fault { IfErr result IsOwnFault }
-{
-    let mut table = Table::new(alloc, arrivals.len())?;
-    let mut seats = Vec::with_capacity(alloc, workers.len())?;
-    let passes = collect(
-        alloc, &claims, clients, arrivals, workers, &mut seats, &mut table, rooms,
-    )?;
-    let Ok(_batches) = claims.close(seats) else {
-        unreachable!()
-    };
-    let Closed { server, history } = close(locked, passes)?;
-    let outcomes = finish(clients, arrivals, history.as_slice(), table)?;
-    Ok((server, Done { outcomes, history }))
 }

@@ -9,7 +9,7 @@ use thiserror::Error;
 /// Why a round failed. The server is as it was before.
 #[derive(Clone, Copy, Debug, PartialEq, Eq, Error)]
 pub enum RoundFault {
-    /// The history doesn't agree with what the workers were answered.
+    /// The history doesn't agree with what the workers were answered. `Service::round` doesn't report it: nothing is compared.
     #[error("{0}")]
     Mismatch(Mismatch),
     /// Memory was refused.
@@ -40,15 +40,5 @@ impl From<AllocError> for RoundFault {
 
     fn from(_error: AllocError) -> RoundFault {
         RoundFault::NoMemory
-    }
-}
-
-impl From<Mismatch> for RoundFault {
-    ghost use Rattle.rad_round.specs.declared.round_fault.RoundFault.TheVariants.{Mismatch as of_mismatch};
-
-    ghost from_gives = { λ mismatch fault. fault ≡ of_mismatch mismatch };
-
-    fn from(mismatch: Mismatch) -> RoundFault {
-        RoundFault::Mismatch(mismatch)
     }
 }

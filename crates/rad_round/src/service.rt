@@ -1,25 +1,23 @@
 //! The service: a server that answers rounds of datagrams.
-ghost use Rattle.std.specs.Prelude.{◌≡◌, ◌≢◌, ◌≤◌, length, Err, IfErr, IfOk, IfSome, None, OnErr};
+ghost use Rattle.std.specs.Prelude.{◌≡◌, ◌≢◌, ◌≤◌, length, Err, IfErr, IfOk, OnErr};
 ghost use Rattle.rad_desk.specs.declared.mismatch.Mismatch.{Mismatch};
 ghost use Rattle.rad_server.specs.Repeats.{Repeat};
-ghost use Rattle.rad_server.specs.Runs.{IsHistory, IsLawfulThroughout};
+ghost use Rattle.rad_server.specs.Runs.{IsLawfulThroughout};
 ghost use Rattle.rad_server.specs.States.{opening};
 ghost use Rattle.rad_round.specs.Rounds.{AreMoments, Round, arrivals_max, workers_max};
-ghost use Rattle.rad_round.specs.Works.{IsOwnFault};
 ghost use Rattle.rad_round.specs.declared.round_fault.RoundFault.{RoundFault};
 
-use crate::alone::round_alone;
 use crate::batch::batch_count;
 use crate::gate::Gate;
-use crate::room::{Room, give_back, leave};
+use crate::leftovers::Leftovers;
+use crate::room::Room;
 use crate::round::{Done, run_round};
 use crate::round_fault::RoundFault;
 use crate::timed::Timed;
 use rad_config::Config;
-use rad_server::{Entry, Server, follow, runs_are_lawful, runs_repeat};
+use rad_server::{Server, runs_are_lawful, runs_repeat};
 use std::alloc::{AllocError, Global};
 use std::marker::Model;
-use std::mem;
 use std::sync::Wait;
 use std::thread::Threads;
 
@@ -33,24 +31,21 @@ pub const WORKERS_MAX: u64 = 8;
 #[derive(Drop)]
 pub struct Service<'c> {
     alloc: Global,
-    current: Server<'c>,
-    // An equal server, if there is one. While several workers have the current server, it stands in for it.
-    spare: Option<Server<'c>>,
-    // What the workers of a round leave to those of the next.
-    rooms: Vec<Room>,
-    // How many workers the last round had.
-    workers: u64,
+    // None while a round has it.
+    server: Option<Server<'c>>,
+    leftovers: Leftovers,
 }
 
 impl<'c> Model for Service<'c> {
-    ghost use Rattle.std.specs.Prelude.{◌≡◌, IfSome};
+    ghost use Rattle.std.specs.Prelude.{IsSome};
     ghost use Rattle.rad_server.specs.Servers.{Server};
+    ghost use Rattle.rad_round.specs.Services.{server_of};
 
     ghost Value = { Server };
 
-    ghost view = { λ service. service.current };
+    ghost view = { λ service. server_of service.server };
 
-    ghost invariant = { λ service. IfSome service.spare (λ spare. spare ≡ service.current) };
+    ghost invariant = { λ service. IsSome service.server };
 }
 
 impl<'c> Service<'c> {
@@ -59,12 +54,11 @@ impl<'c> Service<'c> {
         ensures configuration { IfOk result (λ service. service.configuration ≡ config.now) }
         ensures state { IfOk result (λ service. service.state ≡ opening config.now) }
     {
+        let server = Server::open(alloc, config)?;
         Ok(Service {
             alloc,
-            current: Server::open(alloc, config)?,
-            spare: None,
-            rooms: Vec::new(alloc),
-            workers: 1,
+            server: Some(server),
+            leftovers: Leftovers::new(alloc),
         })
     }
 
@@ -72,7 +66,10 @@ impl<'c> Service<'c> {
     pub fn server(&self) -> &Server<'c>
         ensures { result.now ≡ self.now }
     {
-        &self.current
+        let Some(server) = &self.server else {
+            unreachable!()
+        };
+        server
     }
 
     /// Where its memory comes from.
@@ -82,9 +79,10 @@ impl<'c> Service<'c> {
 
     /// Answers the datagrams of a round, at most `ARRIVALS_MAX`, by at most so many workers, from 1 to `WORKERS_MAX`.
     ///
-    /// Batch b has the datagrams 8b to 8b + 7, as far as there are any. One worker takes batch after batch; several claim them, each the
-    /// next one whenever it is done. The caller's thread is one of the workers, and no more workers start than there are batches. The tag
-    /// of an entry is the number of its datagram. If a round fails, the server is as it was before. The call may wait for other threads.
+    /// Batch b has the datagrams 8b to 8b + 7, as far as there are any. The workers claim them, each the next one whenever it is done.
+    /// The caller's thread is one of the workers, and no more workers start than there are batches. The tag of an entry is the number of
+    /// its datagram. A round fails only if memory is refused before its first exchange, and then the server is as it was. The call may
+    /// wait for other threads.
     pub fn round<R: Threads + Wait + Sync, G: Gate + Sync>(
         &mut self,
         rt: &R,
@@ -105,8 +103,9 @@ impl<'c> Service<'c> {
         ensures opening { result ≢ Err (RoundFault.Mismatch Mismatch.Opening) }
         ensures count { result ≢ Err (RoundFault.Mismatch Mismatch.Count) }
         ensures thread { result ≢ Err RoundFault.NoThread }
+        ensures fault { IfErr result (λ fault. fault ≡ RoundFault.NoMemory) }
     {
-        self.current.state_is_lawful();
+        self.server().state_is_lawful();
         runs_repeat();
         runs_are_lawful();
         self.answer(rt, arrivals, workers, gate)
@@ -126,70 +125,28 @@ impl<'c> Service<'c> {
         ensures round { IfOk result (λ done.
             Round self.old arrivals.now done.outcomes.items done.history.items self.new) }
         ensures unchanged { OnErr result (self.new ≡ self.old) }
-        ensures fault { IfErr result IsOwnFault }
+        ensures fault { IfErr result (λ fault. fault ≡ RoundFault.NoMemory) }
     {
         let workers = workers.min(batch_count(arrivals).max(1));
-        self.workers = workers;
-        if workers == 1 {
-            self.answer_alone(arrivals, gate)
-        } else {
-            self.answer_together(rt, arrivals, workers, gate)
+        let room = Room::new(self.alloc, arrivals, workers)?;
+        let Service {
+            server: current,
+            leftovers,
+            ..
+        } = self;
+        let Some(server) = current.take() else {
+            unreachable!()
+        };
+        match run_round(rt, server, room, arrivals, gate, leftovers) {
+            Ok((server, done)) => {
+                *current = Some(server);
+                Ok(done)
+            }
+            Err(server) => {
+                *current = Some(server);
+                Err(RoundFault::NoMemory)
+            }
         }
-    }
-
-    // A round with one worker, on the current server. An equal server isn't kept: it would have to make each exchange again.
-    fn answer_alone<G: Gate>(&mut self, arrivals: &[Timed], gate: &G) -> Result<Done, RoundFault>
-        requires count { length arrivals.now ≤ arrivals_max }
-        requires moments { AreMoments arrivals.now }
-        ensures round { IfOk result (λ done.
-            Round self.old arrivals.now done.outcomes.items done.history.items self.new) }
-        ensures unchanged { OnErr result (self.new ≡ self.old) }
-        ensures fault { IfErr result IsOwnFault }
-    {
-        let mut room = self.rooms.pop().unwrap_or(Room::new(self.alloc));
-        let made = round_alone(
-            self.alloc,
-            &mut self.current,
-            arrivals,
-            gate,
-            &mut room.frames,
-        );
-        leave(&mut self.rooms, room);
-        let done = made?;
-        self.spare = None;
-        Ok(done)
-    }
-
-    // A round with several workers. They have the current server under a lock.
-    fn answer_together<R: Threads + Wait + Sync, G: Gate + Sync>(
-        &mut self,
-        rt: &R,
-        arrivals: &[Timed],
-        workers: u64,
-        gate: &G,
-    ) -> Result<Done, RoundFault>
-        requires workers { (1 ≤ workers) × (workers ≤ workers_max) }
-        requires count { length arrivals.now ≤ arrivals_max }
-        requires moments { AreMoments arrivals.now }
-        ensures round { IfOk result (λ done.
-            Round self.old arrivals.now done.outcomes.items done.history.items self.new) }
-        ensures unchanged { OnErr result (self.new ≡ self.old) }
-        ensures fault { IfErr result IsOwnFault }
-    {
-        let spare = take_spare(&mut self.spare, &self.current)?;
-        let server = mem::replace(&mut self.current, spare);
-        let (after, done) = run_round(
-            rt,
-            self.alloc,
-            server,
-            arrivals,
-            workers,
-            gate,
-            &mut self.rooms,
-        )?;
-        let before = mem::replace(&mut self.current, after);
-        self.spare = brought_up(before, done.history.as_slice(), &self.current);
-        Ok(done)
     }
 
     /// Takes back what a round made, once its replies are sent. The frames serve the replies of later rounds.
@@ -197,30 +154,6 @@ impl<'c> Service<'c> {
         ensures { self.new ≡ self.old }
     {
         let Done { outcomes, .. } = done;
-        give_back(&mut self.rooms, outcomes, self.workers as usize);
+        self.leftovers.give_back(outcomes);
     }
-}
-
-// A server that is as the current one: the spare one if there is one, or a copy.
-fn take_spare<'c>(
-    spare: &mut Option<Server<'c>>,
-    current: &Server<'c>,
-) -> Result<Server<'c>, AllocError>
-    requires { IfSome spare.old (λ server. server ≡ current.now) }
-    ensures taken { IfOk result (λ server. server ≡ current.now) }
-    ensures left { spare.new ≡ None }
-{
-    match spare.take() {
-        Some(spare) => Ok(spare),
-        None => current.copy(),
-    }
-}
-
-// A server after the exchanges that led to `leader`; none if memory is refused.
-fn brought_up<'c>(mut server: Server<'c>, history: &[Entry], leader: &Server) -> Option<Server<'c>>
-    requires { IsHistory server history.now leader.now }
-    ensures { IfSome result (λ server. server ≡ leader.now) }
-{
-    follow(&mut server, history, leader).ok()?;
-    Some(server)
 }

@@ -1,354 +1,202 @@
-//! Workers of a round that has several.
-ghost use Rattle.std.specs.Prelude.{◌≡◌, [], ◌+◌, ◌*◌, ◌<◌, ◌≤◌, ◌^◌, length, IfSome, Some};
-ghost use Rattle.rad_round.specs.Rounds.{AreMoments, arrivals_max};
-ghost use Rattle.rad_round.specs.Works.{AreAsked, AreSealed, AreVerdicts, HasAnswered, HasFinished, HasReceipt, IsAskedIn, IsFoundBy, IsSealed, IsSealedIn, IsIdle, IsVerdict, batch_count};
+//! Workers.
+ghost use Rattle.std.specs.Prelude.{◌≡◌, [], ◌+◌, ◌*◌, ◌^◌, ◌<◌, ◌≤◌, length, IfOk, Some};
+ghost use Rattle.std.specs.Vec.{vec_capacity};
+ghost use Rattle.rad_round.specs.Rounds.{arrivals_max};
+ghost use Rattle.rad_round.specs.Works.{Adds, Answers, HasFinished, IsIdle, answers_of, taken};
 
-use crate::batch::{BATCH, Verdict, ask_batch, check_batch, seal_batch};
+use crate::batch::{BATCH, Batch, check_batch};
 use crate::gate::Gate;
+use crate::leftovers::eight_frames;
 use crate::outcome::Outcome;
-use crate::room::{Room, eight_frames, put_back};
-use crate::timed::Timed;
-use rad_auth::Clients;
-use rad_claim::{ClaimSeat, Claims};
-use rad_desk::{Locked, Opened, Pass, Receipt};
+use crate::shared::OpenRound;
+use rad_claim::ClaimSeat;
+use rad_desk::Opened;
+use rad_log::{Logged, Ticket};
 use rad_packet::Frame;
-use rad_server::Answer;
-use std::alloc::Global;
+use rad_server::Entry;
+use std::alloc::{AllocError, Global};
 use std::marker::Model;
-use std::sync::{Mutex, Wait};
+use std::sync::Wait;
+use std::sync::ledger::Share;
 
-/// The outcome of an arrival.
+/// A batch that a worker claimed and answered.
 #[derive(Drop)]
-pub(crate) struct Numbered {
-    /// The arrival's number.
+pub(crate) struct Claimed<L: Logged> {
     pub number: usize,
-    /// The place of its entry in the history, if it has one.
-    pub place: Option<u64>,
-    pub outcome: Outcome,
+    /// None: nothing of it was asked.
+    pub ticket: Option<Ticket<Entry, L>>,
 }
 
-/// A worker: its seat, its pass, and the outcomes of its arrivals.
+impl<L: Logged> Model for Claimed<L> {
+    ghost use Rattle.rad_round.specs.Works.{Claimed};
+
+    ghost Value = { Claimed };
+
+    ghost view = { λ claimed. record { number = claimed.number; ticket = claimed.ticket } };
+}
+
+/// A worker: its seat, its share of the ledger, the batches that it claimed, and the outcomes of their lanes, eight for each batch.
 #[derive(Drop)]
-pub(crate) struct Worker<L: Opened> {
-    alloc: Global,
+pub(crate) struct Worker<L: Opened + Logged> {
     // None while it works, since a claim takes the seat and returns it.
     seat: Option<ClaimSeat>,
-    pass: Pass<L>,
-    outcomes: Vec<Numbered>,
+    share: Share<L>,
+    claimed: Vec<Claimed<L>>,
+    outcomes: Vec<Option<Outcome>>,
     // Frames that no reply has taken.
     frames: Vec<Frame>,
 }
 
-impl<L: Opened> Model for Worker<L> {
-    ghost use Rattle.rad_round.specs.Works.{Worker};
+impl<L: Opened + Logged> Model for Worker<L> {
+    ghost use Rattle.std.specs.Prelude.{◌≡◌, ◌*◌, ◌≤◌, length};
+    ghost use Rattle.std.specs.Vec.{vec_capacity};
+    ghost use Rattle.rad_round.specs.Works.{Worker, answers_of};
 
     ghost Value = { Worker };
 
-    ghost view = { λ worker. record { seat = worker.seat; pass = worker.pass; outcomes = worker.outcomes.items } };
+    ghost view = { λ worker. record {
+      seat = worker.seat;
+      parts = worker.share.parts;
+      amount = worker.share.amount;
+      answered = answers_of worker.claimed.items worker.outcomes.items;
+      room = vec_capacity worker.claimed;
+    } };
+
+    ghost invariant = { λ worker.
+        (length worker.outcomes.items ≡ length worker.claimed.items * 8)
+        × (vec_capacity worker.claimed * 8 ≤ vec_capacity worker.outcomes) };
 }
 
-impl<L: Opened> Worker<L> {
-    /// A worker that has done nothing.
-    pub fn new(alloc: Global, seat: ClaimSeat, pass: Pass<L>, room: Room) -> Worker<L>
-        ensures seat { result.seat ≡ Some seat }
-        ensures outcomes { result.outcomes ≡ [] }
+/// What is left of a worker.
+#[derive(Drop)]
+pub(crate) struct Parts<L: Opened + Logged> {
+    pub seat: Option<ClaimSeat>,
+    pub share: Share<L>,
+    pub claimed: Vec<Claimed<L>>,
+    pub outcomes: Vec<Option<Outcome>>,
+    pub frames: Vec<Frame>,
+}
+
+impl<L: Opened + Logged> Worker<L> {
+    /// A worker that has done nothing, with room for so many batches.
+    pub fn new(
+        alloc: Global,
+        seat: ClaimSeat,
+        share: Share<L>,
+        frames: Vec<Frame>,
+        batches: usize,
+    ) -> Result<Worker<L>, AllocError>
+        requires { batches * 8 < 2 ^ 32 }
+        ensures seat { IfOk result (λ worker. worker.seat ≡ Some seat) }
+        ensures share { IfOk result (λ worker.
+            (worker.parts ≡ share.parts) × (worker.amount ≡ share.amount)) }
+        ensures none { IfOk result (λ worker. worker.answered ≡ []) }
+        ensures room { IfOk result (λ worker. batches ≤ worker.room) }
     {
-        let Room {
-            mut outcomes,
-            frames,
-        } = room;
-        outcomes.clear();
-        Worker {
-            alloc,
+        let claimed = Vec::with_capacity(alloc, batches)?;
+        let outcomes = Vec::with_capacity(alloc, claimed.capacity() * BATCH)?;
+        Ok(Worker {
             seat: Some(seat),
-            pass,
+            share,
+            claimed,
+            outcomes,
+            frames,
+        })
+    }
+
+    /// Its parts.
+    pub fn into_parts(self) -> Parts<L>
+        ensures seat { result.seat ≡ self.seat }
+        ensures share { (result.share.parts ≡ self.parts) × (result.share.amount ≡ self.amount) }
+        ensures answered { answers_of result.claimed.items result.outcomes.items ≡ self.answered }
+        ensures lanes { length result.outcomes.items ≡ length result.claimed.items * 8 }
+    {
+        let Worker {
+            seat,
+            share,
+            claimed,
+            outcomes,
+            frames,
+        } = self;
+        Parts {
+            seat,
+            share,
+            claimed,
             outcomes,
             frames,
         }
     }
 
-    /// The seat, the pass, the outcomes, and the frames that no reply has taken.
-    pub fn into_parts(self) -> (Option<ClaimSeat>, Pass<L>, Vec<Numbered>, Vec<Frame>)
-        ensures seat { result.0 ≡ self.seat }
-        ensures pass { result.1 ≡ self.pass }
-        ensures outcomes { result.2.items ≡ self.outcomes }
-    {
-        let Worker {
-            seat,
-            pass,
-            outcomes,
-            frames,
-            ..
-        } = self;
-        (seat, pass, outcomes, frames)
-    }
-
     /// Claims and answers one batch after another, until there are no more.
-    pub fn work<'c, R: Wait, G: Gate>(
-        &mut self,
-        rt: &R,
-        lock: &Mutex<Locked<'c, L>>,
-        claims: &Claims,
-        clients: &Clients,
-        arrivals: &[Timed],
-        gate: &G,
-    )
-        requires count { length arrivals.now ≤ arrivals_max }
-        requires moments { AreMoments arrivals.now }
-        requires clients { clients.now ≡ L.opening.configuration.clients }
-        requires batches { claims.now.batches ≡ batch_count arrivals.now }
-        requires before { IsIdle claims.now self.old }
-        ensures { HasFinished claims.now clients.now arrivals.now self.new }
+    pub fn work<R: Wait, G: Gate>(&mut self, rt: &R, round: &OpenRound<L>, gate: &G)
+        requires { IsIdle round.now.setting.claims self.old }
+        ensures { HasFinished round.now.setting.claims round.now.setting.clients.now
+            round.now.setting.arrivals.now self.new }
     {
         let Some(mut seat) = self.seat.take() else {
             unreachable!()
         };
         loop {
-            let (batch, next) = claims.claim(seat);
+            let (batch, next) = round.setting.claims.claim(seat);
             seat = next;
             let Some(batch) = batch else {
                 break;
             };
-            self.answer_batch(rt, lock, clients, arrivals, gate, batch as usize);
+            self.answer(rt, round, gate, batch as usize);
         }
         self.seat = Some(seat);
     }
 
     // Answers a batch.
-    fn answer_batch<'c, R: Wait, G: Gate>(
-        &mut self,
-        rt: &R,
-        lock: &Mutex<Locked<'c, L>>,
-        clients: &Clients,
-        arrivals: &[Timed],
-        gate: &G,
-        batch: usize,
-    )
-        requires batch { batch * 8 < arrivals_max }
-        requires moments { AreMoments arrivals.now }
-        requires clients { clients.now ≡ L.opening.configuration.clients }
-        requires before { HasAnswered clients.now arrivals.now self.old }
-        ensures { HasAnswered clients.now arrivals.now self.new }
+    fn answer<R: Wait, G: Gate>(&mut self, rt: &R, round: &OpenRound<L>, gate: &G, number: usize)
+        requires number { number * 8 < arrivals_max }
+        requires part { self.old.parts ≡ 1 }
+        requires room { length self.old.answered < self.old.room }
+        ensures { Adds round.now.setting.clients.now round.now.setting.arrivals.now
+            number self.old self.new }
     {
-        let first = batch * BATCH;
-        let verdicts = check_batch(clients, arrivals, first);
-        gate.pass(batch as u64);
-        match eight_frames(self.alloc, &mut self.frames) {
-            Err(_) => self.put_without_frames(clients, arrivals, first, &verdicts),
-            Ok(frames) => self.answer(rt, lock, clients, arrivals, first, &verdicts, frames),
-        }
-    }
-
-    // Answers the requests of a batch.
-    #[tactic(auto, using(crate::proofs::WorkLemmas::answered_kept))]
-    fn answer<'c, R: Wait>(
-        &mut self,
-        rt: &R,
-        lock: &Mutex<Locked<'c, L>>,
-        clients: &Clients,
-        arrivals: &[Timed],
-        first: usize,
-        verdicts: &[Verdict; BATCH],
-        mut frames: [Frame; BATCH],
-    )
-        requires place { first + 8 < 2 ^ 64 }
-        requires moments { AreMoments arrivals.now }
-        requires clients { clients.now ≡ L.opening.configuration.clients }
-        requires verdicts { AreVerdicts clients.now arrivals.now first verdicts.now }
-        requires before { HasAnswered clients.now arrivals.now self.old }
-        ensures { HasAnswered clients.now arrivals.now self.new }
-    {
-        let asked = ask_batch(rt, lock, arrivals, &mut self.pass, first, verdicts);
-        let receipts = self.pass.receipts();
-        seal_batch(
-            clients,
-            arrivals,
-            receipts,
-            first,
-            verdicts,
-            &asked,
-            &mut frames,
-        );
-        self.put_answered(clients, arrivals, first, verdicts, &asked, frames);
-    }
-
-    // Keeps the outcomes of a batch for which there are no frames.
-    fn put_without_frames(
-        &mut self,
-        clients: &Clients,
-        arrivals: &[Timed],
-        first: usize,
-        verdicts: &[Verdict; BATCH],
-    )
-        requires place { first + 8 < 2 ^ 64 }
-        requires verdicts { AreVerdicts clients.now arrivals.now first verdicts.now }
-        requires before { HasAnswered clients.now arrivals.now self.old }
-        ensures { HasAnswered clients.now arrivals.now self.new }
-    {
-        for lane in 0..BATCH {
-            let receipts = self.pass.receipts();
-            let found = without_exchange(
-                clients,
-                arrivals,
-                receipts,
-                first + lane,
-                &verdicts[lane],
-            );
-            self.put(found, clients, arrivals);
-        }
-    }
-
-    // Keeps the outcomes of a batch.
-    fn put_answered(
-        &mut self,
-        clients: &Clients,
-        arrivals: &[Timed],
-        first: usize,
-        verdicts: &[Verdict; BATCH],
-        asked: &[Option<usize>; BATCH],
-        frames: [Frame; BATCH],
-    )
-        requires place { first + 8 < 2 ^ 64 }
-        requires verdicts { AreVerdicts clients.now arrivals.now first verdicts.now }
-        requires asked { AreAsked arrivals.now self.old.pass.receipts first verdicts.now asked.now }
-        requires sealed { AreSealed clients.now self.old.pass.receipts
-            verdicts.now asked.now frames }
-        requires before { HasAnswered clients.now arrivals.now self.old }
-        ensures { HasAnswered clients.now arrivals.now self.new }
-    {
-        let mut frames = frames.into_iter();
-        for lane in 0..BATCH {
-            let frame = frames.next();
-            self.put_lane(clients, arrivals, first, verdicts, asked, lane, frame);
-        }
-    }
-
-    // Keeps the outcome of a lane.
-    fn put_lane(
-        &mut self,
-        clients: &Clients,
-        arrivals: &[Timed],
-        first: usize,
-        verdicts: &[Verdict; BATCH],
-        asked: &[Option<usize>; BATCH],
-        lane: usize,
-        frame: Option<Frame>,
-    )
-        requires lane { (lane < 8) × (first + 8 < 2 ^ 64) }
-        requires verdicts { AreVerdicts clients.now arrivals.now first verdicts.now }
-        requires asked { AreAsked arrivals.now self.old.pass.receipts first verdicts.now asked.now }
-        requires sealed { IfSome frame
-            (IsSealedIn clients.now self.old.pass.receipts verdicts.now asked.now lane) }
-        requires before { HasAnswered clients.now arrivals.now self.old }
-        ensures pass { self.new.pass ≡ self.old.pass }
-        ensures after { HasAnswered clients.now arrivals.now self.new }
-    {
-        let Some(frame) = frame else {
-            return;
-        };
-        let receipts = self.pass.receipts();
-        let verdict = &verdicts[lane];
-        let (found, left) = answered(
-            clients,
-            arrivals,
-            receipts,
-            first + lane,
-            verdict,
-            asked[lane],
-            frame,
-        );
-        self.put(found, clients, arrivals);
-        self.put_back(left);
-    }
-
-    // Keeps an outcome.
-    #[tactic(auto, using(crate::proofs::WorkLemmas::answered_push))]
-    fn put(&mut self, found: Option<Numbered>, clients: &Clients, arrivals: &[Timed])
-        requires found { IfSome found
-            (IsFoundBy clients.now arrivals.now (HasReceipt self.old.pass.receipts)) }
-        requires before { HasAnswered clients.now arrivals.now self.old }
-        ensures pass { self.new.pass ≡ self.old.pass }
-        ensures after { HasAnswered clients.now arrivals.now self.new }
-    {
-        let _ = clients;
-        let _ = arrivals;
-        let Some(found) = found else {
-            return;
-        };
-        // Without memory the outcome is missing, and the round fails.
-        if self.outcomes.reserve(1).is_ok() {
-            self.outcomes.push_reserved(found);
-        }
-    }
-
-    // Keeps a frame for the next batch.
-    fn put_back(&mut self, frame: Option<Frame>)
-        ensures { self.new ≡ self.old }
-    {
-        put_back(&mut self.frames, frame)
+        let Worker {
+            share,
+            claimed,
+            outcomes,
+            frames,
+            ..
+        } = self;
+        let setting = &round.setting;
+        let verdicts = check_batch(setting.clients, setting.arrivals, number);
+        let batch = Batch::new(setting.clients, setting.arrivals, number, &verdicts);
+        gate.pass(number as u64);
+        let ticket = answer_batch(rt, round, &batch, share, frames, outcomes);
+        claimed.push_reserved(Claimed { number, ticket });
     }
 }
 
-// The outcome of an arrival of which no exchange was made.
-fn without_exchange(
-    clients: &Clients,
-    arrivals: &[Timed],
-    receipts: &[Receipt],
-    number: usize,
-    verdict: &Verdict,
-) -> Option<Numbered>
-    requires { IsVerdict clients.now arrivals.now number verdict.now }
-    ensures { IfSome result (IsFoundBy clients.now arrivals.now (HasReceipt receipts.now)) }
+// Asks and seals a batch that is checked, and puts the outcomes of its lanes last. Without memory for its frames nothing of it is asked.
+fn answer_batch<L: Opened + Logged, R: Wait>(
+    rt: &R,
+    round: &OpenRound<L>,
+    batch: &Batch,
+    share: &mut Share<L>,
+    frames: &mut Vec<Frame>,
+    outcomes: &mut Vec<Option<Outcome>>,
+) -> Option<Ticket<Entry, L>>
+    requires clients { batch.now.clients ≡ round.now.setting.clients.now }
+    requires arrivals { batch.now.arrivals ≡ round.now.setting.arrivals.now }
+    requires part { share.old.parts ≡ 1 }
+    requires room { length outcomes.old.items + 8 ≤ vec_capacity outcomes.old }
+    ensures answered { Answers batch.now result outcomes.old.items outcomes.new.items }
+    ensures counted { share.new.amount ≡ share.old.amount + length (taken result) }
+    ensures part { share.new.parts ≡ 1 }
+    ensures room { vec_capacity outcomes.new ≡ vec_capacity outcomes.old }
 {
-    let _ = clients;
-    let _ = arrivals;
-    let _ = receipts;
-    let outcome = match verdict {
-        None => return None,
-        Some(Err(discard)) => Outcome::Dropped(*discard),
-        Some(Ok(_)) => Outcome::NoMemory,
+    let alloc = *outcomes.allocator();
+    let Ok(mut lanes) = eight_frames(alloc, frames) else {
+        batch.put_unasked(outcomes);
+        return None;
     };
-    Some(Numbered {
-        number,
-        place: None,
-        outcome,
-    })
-}
-
-// The outcome of an arrival, and its frame if no reply takes it.
-fn answered(
-    clients: &Clients,
-    arrivals: &[Timed],
-    receipts: &[Receipt],
-    number: usize,
-    verdict: &Verdict,
-    asked: Option<usize>,
-    frame: Frame,
-) -> (Option<Numbered>, Option<Frame>)
-    requires verdict { IsVerdict clients.now arrivals.now number verdict.now }
-    requires asked { IfSome asked (IsAskedIn arrivals.now receipts.now number verdict.now) }
-    requires sealed { IsSealed clients.now receipts.now verdict.now asked frame }
-    ensures { IfSome result.0 (IsFoundBy clients.now arrivals.now (HasReceipt receipts.now)) }
-{
-    let Some(index) = asked else {
-        let outcome = without_exchange(clients, arrivals, receipts, number, verdict);
-        return (outcome, Some(frame));
-    };
-    let Receipt { place, entry } = &receipts[index];
-    match &entry.answer {
-        Answer::Busy => (Some(found(number, *place, Outcome::Busy)), Some(frame)),
-        Answer::Send(_) => (Some(found(number, *place, Outcome::Reply(frame))), None),
-    }
-}
-
-fn found(number: usize, place: u64, outcome: Outcome) -> Numbered
-    ensures number { result.number ≡ number }
-    ensures place { result.place ≡ Some place }
-    ensures outcome { result.outcome ≡ outcome }
-{
-    Numbered {
-        number,
-        place: Some(place),
-        outcome,
-    }
+    let mut asked = [None, None, None, None, None, None, None, None];
+    let ticket = round.ask(rt, alloc, share, batch, &mut asked);
+    batch.seal(&asked, &mut lanes);
+    batch.put_outcomes(&asked, lanes, frames, outcomes);
+    ticket
 }

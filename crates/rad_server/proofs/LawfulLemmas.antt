@@ -95,13 +95,13 @@ IfSome-map f P (Some x) holds = holds
 -- ---- ladders
 
 -- what holds of the value that follows a check holds of the check's too, since a refusal has none
-pub IfOk-refuse_if : {A E : Type 0} (P : A → Type 0) (refused : Bool) (refusal : E) (next : Unit {0} → Result A E) → IfOk (next tt) P
+IfOk-refuse_if : {A E : Type 0} (P : A → Type 0) (refused : Bool) (refusal : E) (next : Unit {0} → Result A E) → IfOk (next tt) P
     → IfOk (refuse_if refused refusal >>= next) P
 IfOk-refuse_if P true refusal next holds = tt
 IfOk-refuse_if P false refusal next holds = holds
 
 -- what holds of the last value, where it follows from what holds of a step's
-pub IfOk-ok_or : {A B E : Type 0} (P : A → Type 0) (Q : B → Type 0) (o : Option A) (refusal : E) (next : A → Result B E) → IfSome o P
+IfOk-ok_or : {A B E : Type 0} (P : A → Type 0) (Q : B → Type 0) (o : Option A) (refusal : E) (next : A → Result B E) → IfSome o P
     → ((x : A) → P x → IfOk (next x) Q) → IfOk (ok_or o refusal >>= next) Q
 IfOk-ok_or P Q None refusal next holds follows = tt
 IfOk-ok_or P Q (Some x) refusal next holds follows = follows x holds

@@ -1,5 +1,4 @@
 mod AddressLemmas
-mod FollowLemmas
 mod LawfulLemmas
 mod OccurrenceLemmas
 mod PlanLemmas

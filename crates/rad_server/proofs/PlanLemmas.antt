@@ -1,5 +1,5 @@
 -- What a plan answers: a kept reply again, nothing at all, or what a rule says.
-use Rattle.std.proofs.Common.{◌≡◌, ℕ, ◌≤◌, Bool, true, false, not, cond, List, [], ◌∷◌, length, filter, find, All, Option, Some, None, IfSome, option_copied, option_map, Result, Ok, Err, arith, refl, sym, ap, subst}
+use Rattle.std.proofs.Common.{◌≡◌, ℕ, ◌≤◌, Bool, true, false, not, cond, List, [], ◌∷◌, length, filter, find, All, Option, Some, None, IfSome, option_map, Result, Ok, Err, arith, refl, sym, ap, subst}
 use Rattle.std.specs.Prelude.{◌==◌, IfOk}
 use Rattle.std.proofs.lemmas.Bool.{leb-true}
 use Rattle.std.proofs.lemmas.List.Elements.{All-head, All-tail}
@@ -11,7 +11,6 @@ use Rattle.rad_auth.specs.declared.arrival.Request.{Request}
 use Rattle.rad_config.specs.Configurations.{Configuration}
 use Rattle.rad_recent.specs.Recent.{is_full, kept_max, same_key, without_key}
 use Rattle.rad_recent.specs.declared.kept.Kept.{Kept}
-use Rattle.rad_server.specs.Changes.{IsChangeOf}
 use Rattle.rad_server.specs.Plans.{IsAccountingReply, IsNewReply, IsReplyOf}
 use Rattle.rad_server.specs.States.{State}
 use Rattle.rad_server.specs.Steps.{answer, answer_with, key_of, reply_by_port, reply_kept, without_reply}
@@ -65,7 +64,7 @@ kept_again configuration current request draw body other found = rw (other) (at 
         body_or (Some found) = found
 
 -- without room for one more reply, none is kept to a request with the same key
-pub nothing_removed : (current : State) (request : Request) → is_full (without_key (key_of request) current.replies) ≡ true
+nothing_removed : (current : State) (request : Request) → is_full (without_key (key_of request) current.replies) ≡ true
     → length current.replies.kept ≤ kept_max → without_reply request current ≡ current
 nothing_removed current request full few =
     ap (λ kept. record current { replies = record current.replies { kept = kept } })
@@ -80,14 +79,6 @@ no_answer configuration current request draw other found full few = rw (other) (
     at : (o : Option Kept) → option_map (λ reply. reply.body) o ≡ None → answer_with configuration current request draw o ≡ (Busy, current)
     at (Some reply) e = absurd cc
     at None e = rw (full) (ap (λ state. (Busy, state)) (nothing_removed current request full few))
-
--- a reply that a rule gives, with the change by which the rule leads on
-pub reply_made : (rule : State → Body × State) (current : State) (request : Request) (draw : List ℕ) (reply : NewReply)
-    → (rule (without_reply request current)).0 ≡ reply.body
-    → IsChangeOf rule current request draw (option_copied reply.answered) reply.change
-    → IsReplyOf rule current request draw reply
-reply_made rule current request draw reply says made =
-    record { planned = λ i. (says i, made.changed i); possible = made.possible }
 
 -- on the accounting port, the rule of the port is that of accounting
 pub accounting_is_new : (configuration : Configuration) (current : State) (request : Request) (draw : List ℕ) {E : Type 0} (r : Result NewReply E) → request.door ≡ Acct

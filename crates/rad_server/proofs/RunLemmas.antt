@@ -4,7 +4,7 @@ use Rattle.rad_auth.specs.Admission.{AdmittedAreAnswerable}
 use Rattle.rad_config.specs.Configurations.{Configuration}
 use Rattle.rad_config.specs.Ranges.{IsConfiguration}
 use Rattle.rad_server.specs.Lawful.{IsLawful, StepKeepsTheLaw}
-use Rattle.rad_server.specs.Runs.{IsExchange, LeadsTo, Run}
+use Rattle.rad_server.specs.Runs.{IsExchange, Run}
 use Rattle.rad_server.specs.States.{State}
 use Rattle.rad_server.specs.declared.entry.Entry.{Entry}
 
@@ -15,11 +15,6 @@ run_goes_on configuration before [] state entry after same exchange =
     (after, subst (λ s. IsExchange configuration s entry after) (sym same) exchange, refl)
 run_goes_on configuration before (first ∷ rest) state entry after run exchange =
     (run.0, run.1, run_goes_on configuration run.0 rest state entry after run.2 exchange)
-
--- after the first exchange of a run, the rest is a run from the state that it leads to
-pub rest_of_run : (configuration : Configuration) (before : State) (entry : Entry) (rest : List Entry) (after state : State)
-    → Run configuration before (entry ∷ rest) after → LeadsTo configuration before entry state → Run configuration state rest after
-rest_of_run configuration before entry rest after state run leads = subst (λ s. Run configuration s rest after) (sym (leads run.0 run.1)) run.2
 
 -- a run leads from a lawful state to a lawful one
 pub run_is_lawful : AdmittedAreAnswerable → StepKeepsTheLaw → (configuration : Configuration) (before : State) (history : List Entry) (after : State)

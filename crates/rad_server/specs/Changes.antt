@@ -1,20 +1,13 @@
 -- What a request changes among sessions and challenges. No other crate cites these.
-use Rattle.std.specs.Prelude.{◌≡◌, ℕ, ◌==◌, true, if◌then◌else◌, List, Option, Some, None, is_some, Result, Ok, Err, IsOk}
-use Rattle.rad_packet.specs.Bodies.{Body}
-use Rattle.rad_packet.specs.Codes.{code_access_accept, code_access_challenge}
+use Rattle.std.specs.Prelude.{◌≡◌, ℕ, true, List, Option, Some, None, IsOk}
 use Rattle.rad_auth.specs.declared.arrival.Request.{Request}
-use Rattle.rad_config.specs.Configurations.{Configuration, user_place}
-use Rattle.rad_pool.specs.Grants.{granted, with_session}
+use Rattle.rad_pool.specs.Grants.{with_session}
 use Rattle.rad_pool.specs.Meant.{meant}
-use Rattle.rad_pool.specs.declared.grant.Grant.{Grant}
-use Rattle.rad_pool.specs.declared.grant.Refusal.{Refusal}
 use Rattle.rad_pool.specs.Sessions.{Table, renewed, source_reset, stopped}
 use Rattle.rad_recent.specs.Challenges.{Waiting, next_number, without_answered}
 use Rattle.rad_server.specs.Access.{with_challenge, without_challenge}
 use Rattle.rad_server.specs.Accounting.{changed}
-use Rattle.rad_server.specs.Credentials.{Credentials}
 use Rattle.rad_server.specs.States.{State}
-use Rattle.rad_server.specs.Steps.{without_reply}
 use Rattle.rad_server.specs.declared.change.Change.{Change}
 use Rattle.rad_server.specs.declared.change.Change.TheVariants as changes
 use Rattle.rad_server.specs.declared.change.Event.{Event}
@@ -62,28 +55,3 @@ IsReadyFor changes.Nothing tables = Unit {0}
 IsReadyFor (changes.Challenge user) tables = tables.challenges.has_room ≡ true
 IsReadyFor (changes.Grant user) tables = tables.sessions.has_room ≡ true
 IsReadyFor (changes.Report event) tables = Unit {0}
-
--- The State that is answered and the change by which a rule leads on, in the state without a reply to a request with the same key. The
--- change can be made.
-pub record IsChangeOf (rule : State → Body × State) (current : State) (request : Request) (draw : List ℕ) (state : Option (List ℕ)) (change : Change) : Type 0 where
-  pub changed : (rule (without_reply request current)).1
-      ≡ after request draw state change (without_reply request current)
-  pub possible : CanBeMade (without_challenge request.client state current) change
-
--- the user that an Access-Request is of: the one whose challenge it answers, or the one whose name it has
-abbrev pub user_asking : Configuration → Option ℕ → Credentials → Option ℕ
-user_asking configuration challenged credentials =
-    if is_some credentials.state then challenged else user_place configuration.users credentials.name
-
--- the change that is what a user is granted, if a session is
-abbrev pub change_of_grant : ℕ → Result Grant Refusal → Change
-change_of_grant user (Ok grant) = changes.Grant (record { user = user; grant = grant })
-change_of_grant user (Err refusal) = changes.Nothing
-
--- what a reply of this Code to an Access-Request of a user changes
-abbrev pub change_of_reply : Configuration → Table → ℕ → Option ℕ → Change
-change_of_reply configuration table code None = changes.Nothing
-change_of_reply configuration table code (Some user) =
-    if code == code_access_accept then change_of_grant user (granted configuration user table)
-    else if code == code_access_challenge then changes.Challenge user
-    else changes.Nothing

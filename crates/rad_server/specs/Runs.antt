@@ -33,14 +33,6 @@ pub record IsExchange (configuration : Configuration) (before : State) (entry : 
   pub asked : IsRequestOf configuration.clients entry request
   pub answered : step configuration before request entry.moment entry.draw ≡ (entry.answer, after)
 
--- an entry can come next: the step at its request gives its answer
-abbrev pub CanComeNext : Configuration → State → Entry → Type 0
-CanComeNext configuration before entry = (after : State) × IsExchange configuration before entry after
-
--- the step at an entry leads to this state alone; of an entry that can't come next this says nothing
-abbrev pub LeadsTo : Configuration → State → Entry → State → Type 0
-LeadsTo configuration before entry state = (after : State) → IsExchange configuration before entry after → state ≡ after
-
 -- an entry holds what was asked: a tag, a request, its moment and its draw
 pub record IsAsked (tag : ℕ) (request : Request) (moment : ℕ) (draw : List ℕ) (entry : Entry) : Type 0 where
   pub has_tag : entry.tag ≡ tag

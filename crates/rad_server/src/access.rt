@@ -144,8 +144,8 @@ fn user_by_answer(
     }
 }
 
-/// The place of the user whose challenge a client answers with this State.
-pub(crate) fn find_challenged(
+// The place of the user whose challenge a client answers with this State.
+fn find_challenged(
     config: &Config,
     tables: &Tables,
     now: u64,

@@ -1,10 +1,10 @@
 //! What a request changes among sessions and challenges.
-ghost use Rattle.std.specs.Prelude.{◌≡◌, ℕ, List, None, option_copied, option_map};
+ghost use Rattle.std.specs.Prelude.{◌≡◌, ℕ, List, option_copied, option_map};
 ghost use Rattle.rad_config.specs.Configurations.{user_place};
 ghost use Rattle.rad_pool.specs.Meant.{meant};
 ghost use Rattle.rad_pool.specs.declared.session.Session.{Session};
 ghost use Rattle.rad_server.specs.Accounting.{account};
-ghost use Rattle.rad_server.specs.Changes.{CanBeMade, IsChangeOf, IsReadyFor, after_event, changed_by, session_of};
+ghost use Rattle.rad_server.specs.Changes.{CanBeMade, IsReadyFor, after_event, changed_by, session_of};
 ghost use Rattle.rad_server.specs.Servers.{state_with};
 ghost use Rattle.rad_server.specs.States.{State};
 
@@ -51,9 +51,9 @@ pub(crate) enum Change {
 
 /// What an Accounting-Request changes.
 pub(crate) fn reported_change(config: &Config, request: &Request) -> Change
-    ensures { (current : State) (draw : List ℕ)
-        → IsChangeOf (λ state. account config.now state request.now) current
-        request.now draw None result }
+    ensures changed { (state : State) (draw : List ℕ) →
+        (account config.now state request.now).1 ≡ changed_by request.now draw result state }
+    ensures possible { (state : State) → CanBeMade state result }
 {
     let report = Report::of(request.packet.attributes());
     let reference = Reference {

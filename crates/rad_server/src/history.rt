@@ -1,9 +1,9 @@
-//! Exchanges on a server and its history: one more, and those of a history again.
-ghost use Rattle.std.specs.Prelude.{◌≡◌, [], ◌∷◌, ◌++◌, ◌≤◌, IfOk, OnErr, OnOk};
+//! An exchange on a server and its history.
+ghost use Rattle.std.specs.Prelude.{◌≡◌, [], ◌∷◌, ◌++◌, ◌≤◌, IfOk, OnErr};
 ghost use Rattle.rad_packet.specs.Packets.{packet_octets};
 ghost use Rattle.rad_auth.specs.Admission.{IsAdmitted};
 ghost use Rattle.rad_config.specs.Spans.{moment_max};
-ghost use Rattle.rad_server.specs.Runs.{GoesOn, IsAsked, IsHistory};
+ghost use Rattle.rad_server.specs.Runs.{GoesOn, IsAsked};
 ghost use Rattle.rad_server.specs.Steps.{IsSealable, step};
 
 use crate::entry::Entry;
@@ -64,20 +64,4 @@ pub fn exchange(
         draw: *draw,
         answer,
     })
-}
-
-/// Makes the exchanges of a history again, on a server equal to the one from which the history leads to `leader`. Afterwards the
-/// server is equal to `leader`.
-///
-/// The entries say what changes: no password is checked, and no reply is made. If memory is refused, some may have been made.
-#[doc(hidden)]
-pub fn follow(server: &mut Server, history: &[Entry], leader: &Server) -> Result<(), AllocError>
-    requires { IsHistory server.old history.now leader.now }
-    ensures { OnOk result (server.new ≡ leader.now) }
-{
-    let _ = leader;
-    for i in 0..history.len() {
-        server.make_again(&history[i])?;
-    }
-    Ok(())
 }

@@ -4,7 +4,7 @@
 //! `Server::step` plans first: `plan` only reads, decides, and makes the reply's body. Then memory is made ready, and then `commit`,
 //! which neither decides nor fails, changes the state. So if memory is refused, the state is unchanged. Nothing here reads a clock or a socket.
 //!
-//! `exchange` appends a step to a history, `Book` keeps a server with its history, and `follow` makes the exchanges of a history again.
+//! `exchange` appends a step to a history, and `Book` keeps a server with its history.
 //!
 //! Other crates rest on this: an answer and the state after it are those of `specs/Steps.antt`, and an answer that is sent can be
 //! sealed.
@@ -13,7 +13,6 @@
 mod access;
 mod accounting;
 mod answer;
-mod answered;
 mod book;
 mod change;
 mod commit;
@@ -33,7 +32,7 @@ pub use answer::Answer;
 pub use book::Book;
 pub use denial::Denial;
 pub use entry::Entry;
-pub use history::{exchange, follow};
+pub use history::exchange;
 pub use lawful::lawful_steps;
 pub use runs::{runs_are_lawful, runs_repeat};
 pub use server::Server;

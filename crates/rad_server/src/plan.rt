@@ -131,8 +131,8 @@ fn octets_to_keep(
     }
 }
 
-/// What a request is recognised by, besides its octets.
-pub(crate) fn key_of(request: &Request) -> Key
+// What a request is recognised by, besides its octets.
+fn key_of(request: &Request) -> Key
     ensures { result ≡ key_of request.now }
 {
     Key {

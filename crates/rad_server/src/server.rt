@@ -1,23 +1,19 @@
 //! The server, and its step.
-ghost use Rattle.std.specs.Prelude.{◌≡◌, ◌≤◌, ◌↔◌, IfOk, IfSome, IsTrue, OnErr, OnOk};
+ghost use Rattle.std.specs.Prelude.{◌≡◌, ◌≤◌, ◌↔◌, IfOk, IfSome, IsTrue, OnErr};
 ghost use Rattle.rad_packet.specs.Packets.{packet_octets};
 ghost use Rattle.rad_auth.specs.Admission.{IsAdmitted};
 ghost use Rattle.rad_config.specs.Ranges.{IsConfiguration};
 ghost use Rattle.rad_config.specs.Spans.{moment_max};
 ghost use Rattle.rad_server.specs.Lawful.{IsLawful};
-ghost use Rattle.rad_server.specs.Plans.{IsPlanOf, planned_answer};
-ghost use Rattle.rad_server.specs.Runs.{CanComeNext, LeadsTo};
-ghost use Rattle.rad_server.specs.States.{at_moment, opening};
+ghost use Rattle.rad_server.specs.States.{opening};
 ghost use Rattle.rad_server.specs.Steps.{IsSealable, step};
 
 use crate::answer::Answer;
-use crate::answered::plan_answered;
 use crate::commit::{commit, make_room};
-use crate::entry::Entry;
 use crate::lawful::lawful_steps;
-use crate::plan::{Asked, Plan, plan_step};
+use crate::plan::{Asked, plan_step};
 use crate::tables::Tables;
-use rad_auth::{Arrival, Request, admitted_is_answerable, readmit};
+use rad_auth::{Request, admitted_is_answerable};
 use rad_config::Config;
 use rad_packet::Octets;
 use rad_pool::Sessions;
@@ -168,6 +164,7 @@ impl<'c> Server<'c> {
         ensures unchanged { OnErr result (self.new ≡ self.old) }
     {
         admitted_is_answerable(self.config.clients(), request);
+        lawful_steps();
         let Server {
             alloc,
             config,
@@ -182,77 +179,10 @@ impl<'c> Server<'c> {
         };
         let plan = plan_step(*alloc, config, tables, now, asked)?;
         let copy = plan.answer()?;
-        let answer = self.carry_out(request, moment, draw, plan)?;
-        Ok((answer, copy))
-    }
-
-    /// Makes an exchange again that an equal server made before: its entry says what changes.
-    pub(crate) fn make_again(&mut self, entry: &Entry) -> Result<(), AllocError>
-        requires { CanComeNext self.old.configuration self.old.state entry.now }
-        ensures leads { OnOk result
-            (LeadsTo self.old.configuration self.old.state entry.now self.new.state) }
-        ensures configuration { self.new.configuration ≡ self.old.configuration }
-        ensures unchanged { OnErr result (self.new ≡ self.old) }
-    {
-        let arrival = Arrival {
-            source: entry.source,
-            port: entry.port,
-            door: entry.door,
-            octets: entry.octets.octets(),
-        };
-        let Ok(request) = readmit(self.config.clients(), &arrival) else {
-            unreachable!()
-        };
-        let Server {
-            config,
-            clock,
-            tables,
-            ..
-        } = self;
-        let Entry {
-            octets,
-            moment,
-            draw,
-            answer,
-            ..
-        } = entry;
-        let now = (*clock).max(*moment);
-        let plan = plan_answered(config, tables, now, &request, octets, draw, answer)?;
-        self.carry_out(&request, *moment, draw, plan)?;
-        Ok(())
-    }
-
-    // Goes on to the next state by a plan, and gives its answer.
-    fn carry_out(
-        &mut self,
-        request: &Request,
-        moment: u64,
-        draw: &[u8; 16],
-        plan: Plan,
-    ) -> Result<Answer, AllocError>
-        requires moment { moment ≤ moment_max }
-        requires admitted { IsAdmitted self.old.configuration.clients request.now }
-        requires planned { IsPlanOf self.old.configuration (at_moment moment self.old.state)
-            request.now draw.now plan }
-        ensures answered { IfOk result (λ answer.
-            step self.old.configuration self.old.state request.now moment draw.now
-            ≡ (answer, self.new.state)) }
-        ensures planned { IfOk result (λ answer. answer ≡ planned_answer plan.entry) }
-        ensures configuration { self.new.configuration ≡ self.old.configuration }
-        ensures unchanged { OnErr result (self.new ≡ self.old) }
-    {
-        admitted_is_answerable(self.config.clients(), request);
-        lawful_steps();
-        let Server {
-            config,
-            clock,
-            tables,
-            ..
-        } = self;
-        let now = (*clock).max(moment);
         make_room(tables, &plan)?;
         *clock = now;
-        Ok(commit(config, tables, now, request, draw, plan))
+        let answer = commit(config, tables, now, request, draw, plan);
+        Ok((answer, copy))
     }
 
     /// An equal server over the same configuration.

@@ -85,8 +85,7 @@ fn holds(rt: &impl Abort, is_so: bool, what: &str) {
     assert!(rt; is_so, "{what}");
 }
 
-// Takes the steps in a server that is opened for them, and asserts what comes of each. In the end a server that follows the history
-// is the same.
+// Takes the steps in a server that is opened for them, and asserts what comes of each.
 fn play(rt: &impl Abort, alloc: Global, rows: &[Row]) -> Result<(), Fail> {
     let config = Config::read(alloc, CAMPUS)?;
     play_over(rt, alloc, &config, rows)
@@ -105,6 +104,5 @@ fn play_over(rt: &impl Abort, alloc: Global, config: &Config, rows: &[Row]) -> R
         let is_right = run.takes(*moment, step);
         holds(rt, is_right, what);
     }
-    holds(rt, run.is_followed(), "a server that follows the history");
     Ok(())
 }

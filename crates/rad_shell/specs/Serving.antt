@@ -32,11 +32,11 @@ serve_fault_number faults.Receive = 1
 serve_fault_number faults.Send = 2
 serve_fault_number faults.Mismatch = 3
 
--- the fault of a port is reported only if failures were counted: they were so many before, and so many after
+-- the fault of a port is reported only if failures were counted: they were so many before, and so many after; no other fault is reported
 abbrev pub HasCause : ℕ → ℕ → ServeFault → Type 0
 HasCause before after faults.Receive = before < after
 HasCause before after faults.Send = before < after
-HasCause before after faults.Mismatch = Unit {0}
+HasCause before after faults.Mismatch = ⊥
 
 -- ---- sums
 

@@ -18,8 +18,7 @@ mod turns;
 pub use memory_ports::{Datagram, MemoryPorts};
 pub use ports::{Got, PortFault, Ports, RECEIVED_MAX};
 pub use rad_desk::{
-    Closed, Desk, Mismatch, Opened, PASSES_MAX, Pass, Receipt, close, misplaced_disagree,
-    open_with, settle,
+    Closed, Desk, Mismatch, Opened, PASSES_MAX, Pass, Receipt, misplaced_disagree, settle,
 };
 pub use rad_round::{
     ARRIVALS_MAX, Done, Gate, OpenGate, Outcome, RoundFault, Service, Timed, WORKERS_MAX,

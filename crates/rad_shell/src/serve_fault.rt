@@ -13,7 +13,7 @@ pub enum ServeFault {
     /// A port failed while replies were sent. The round is closed: the replies before this one went out, the rest don't.
     #[error("send failed")]
     Send,
-    /// The history of a round doesn't agree with what its workers were answered.
+    /// The history of a round doesn't agree with what its workers were answered. This never comes.
     #[error("mismatch")]
     Mismatch,
 }

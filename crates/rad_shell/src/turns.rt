@@ -1,5 +1,5 @@
 //! Turns: in each, datagrams are received, answered in a round, and their replies sent.
-ghost use Rattle.std.specs.Prelude.{◌≡◌, ◌≤◌, ◌<◌, IfErr, IfNone, IfOk, IfSome, IsSome, OnErr, vec_len};
+ghost use Rattle.std.specs.Prelude.{◌≡◌, ◌≤◌, ◌<◌, IfErr, IfNone, IfOk, IfSome, IsSome, vec_len};
 ghost use Rattle.rad_round.specs.Rounds.{workers_max};
 ghost use Rattle.rad_shell.specs.Serving.{AddUp, HasCause, IsRoundMade, IsServed, IsTurn, turns_max};
 
@@ -7,8 +7,7 @@ use crate::ports::Ports;
 use crate::received::Received;
 use crate::serve_fault::ServeFault;
 use crate::served::Served;
-use rad_desk::Mismatch;
-use rad_round::{Done, Gate, RoundFault, Service};
+use rad_round::{Done, Gate, Service};
 use rad_server::{runs_are_lawful, runs_repeat};
 use rand_core::Rng;
 use std::alloc::{AllocError, Global};
@@ -55,7 +54,7 @@ impl<'a, D: Rng, G: Gate + Sync> Turns<'a, D, G> {
     /// A turn waits, receives until no datagram waits or there are `ARRIVALS_MAX`, takes 16 octets of the source for each datagram, in
     /// order of arrival, makes a round of them, and sends the replies in that order. If memory is refused for a round, its datagrams
     /// are lost, and after a pause the next turn goes on with the server as it was. A fault ends the turns: `ServeFault::Receive` or
-    /// `ServeFault::Send` if a port failed, `ServeFault::Mismatch` if a round did. The call may wait.
+    /// `ServeFault::Send`, if a port failed. `ServeFault::Mismatch` never comes. The call may wait.
     #[tactic(auto, using(crate::proofs::ServingLemmas::nothing_served, crate::proofs::ServingLemmas::one_more_turn, crate::proofs::ServingLemmas::served_all))]
     pub fn run<R: Threads + Wait + Sync, P: Ports>(
         &mut self,
@@ -111,10 +110,7 @@ impl<'a, D: Rng, G: Gate + Sync> Turns<'a, D, G> {
             return Err(ServeFault::Receive);
         }
         received.draw(*random);
-        let Ok(done) = answer(service, rt, received, *gate, workers) else {
-            return Err(ServeFault::Mismatch);
-        };
-        let Some(done) = done else {
+        let Some(done) = answer(service, rt, received, *gate, workers) else {
             served.add_lost(received.len());
             ports.pause();
             return Ok(());
@@ -136,21 +132,14 @@ fn answer<R: Threads + Wait + Sync, G: Gate + Sync>(
     received: &Received,
     gate: &G,
     workers: u64,
-) -> Result<Option<Done>, Mismatch>
+) -> Option<Done>
     requires workers { (1 ≤ workers) × (workers ≤ workers_max) }
     requires drawn { vec_len received.now.draws ≡ vec_len received.now.got }
-    ensures made { IfOk result (λ made. IfSome made (λ done.
-        IsRoundMade service.old done.outcomes.items service.new)) }
-    ensures lost { IfOk result (λ made. IfNone made (service.new ≡ service.old)) }
-    ensures unchanged { OnErr result (service.new ≡ service.old) }
+    ensures made { IfSome result (λ done.
+        IsRoundMade service.old done.outcomes.items service.new) }
+    ensures lost { IfNone result (service.new ≡ service.old) }
 {
-    let Ok(arrivals) = received.arrivals(service.alloc()) else {
-        return Ok(None);
-    };
+    let arrivals = received.arrivals(service.alloc()).ok()?;
     let workers = workers.min(WORKERS_THAT_PAY);
-    match service.round(rt, &arrivals, workers, gate) {
-        Ok(done) => Ok(Some(done)),
-        Err(RoundFault::Mismatch(mismatch)) => Err(mismatch),
-        Err(RoundFault::NoMemory | RoundFault::NoThread) => Ok(None),
-    }
+    service.round(rt, &arrivals, workers, gate).ok()
 }

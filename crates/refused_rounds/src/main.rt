@@ -1,8 +1,7 @@
 //! What rounds do where memory is refused. For each of six calls a line is printed: `right`, or `wrong` and why.
 //!
-//! The first opens a service. Then come rounds of the same datagrams: one by one worker, two by two workers, of which the first copies
-//! the server, and one by one worker again. The last call serves three turns. Whichever allocation is refused, the lines and the
-//! status stay the same.
+//! The first opens a service. Then come rounds of the same datagrams: one by one worker, two by two workers, and one by one worker
+//! again. The last call serves three turns. Whichever allocation is refused, the lines and the status stay the same.
 #![tactic(auto)]
 
 use rad_auth::{Arrival, Door};

@@ -11,7 +11,7 @@ use rad_packet::Body;
 use rad_packet::code::{ACCESS_ACCEPT, ACCESS_CHALLENGE, ACCESS_REJECT, ACCOUNTING_RESPONSE};
 use rad_pool::{Phase, Session, Sessions};
 use rad_recent::{Challenge, Challenges, Kept, Key, Recent};
-use rad_server::{Answer, Book, Server, follow};
+use rad_server::{Answer, Book, Server};
 use std::alloc::{AllocError, Global};
 
 /// The draw of each step.
@@ -187,15 +187,6 @@ impl<'c> Run<'c> {
         } else {
             None
         }
-    }
-
-    /// Whether the server as it was opened, once it has followed the history, is as this one is now.
-    pub fn is_followed(&self) -> bool {
-        let Ok(mut server) = self.book.opening().copy() else {
-            return false;
-        };
-        let history = self.book.history();
-        follow(&mut server, history, self.book.server()).is_ok() && server.same(self.book.server())
     }
 }
 

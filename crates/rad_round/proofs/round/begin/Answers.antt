@@ -1,22 +1,27 @@
-use Rattle.std.proofs.Common.{IfSome, ap, arith, subst}
+use Rattle.std.proofs.Common.{IfSome, ◌≤◌, ◌∙◌, arith, subst, sym}
 use Rattle.std.proofs.lemmas.List.Elements.{All-pop, All-push}
-use Rattle.rad_claim.specs.Claims.{ClaimSeat, IsNewSeatOf}
+use Rattle.rad_claim.specs.Claims.{IsNewSeatOf}
 use Rattle.rad_round.specs.Works.{IsIdle}
 use Rattle.rad_round.proofs.round.begin.Goals as goal
 
-pub loop-pass-preserved : goal.loop-pass-preserved
-loop-pass-preserved g c =
-    let claims = c.args.claims.now in
-    let popped = All-pop (IsNewSeatOf claims) c.loop-pass.seats.items c.pop-in-Some.new.self.items c.pop-in-Some.result c.pop-in-Some.ensures.items
-    c.loop-pass.invariant.2 in
-    let new = subst (λ some. IfSome some (IsNewSeatOf claims)) c.in-Some-pop.is popped.1 in (
-      omega (arith, c.loop-pass.invariant.0, c.in_ok-push.ensures.len, c.in-Some.ensures.len),
-      omega (arith, c.loop-pass.invariant.1, c.in-Some-pop.ensures.len, c.in-Some.ensures.len),
-      popped.0,
-      rw c.in_ok-push.ensures.items (All-push (IsIdle claims) c.loop-pass.workers.items c.new-in-Some.result c.loop-pass.invariant.3 (record {
-        seat = c.in-Some-pop.seat;
-        seat_is = c.new-in-Some.ensures.seat;
-        own = (ap (λ (s : ClaimSeat). s.table) new, ap (λ (s : ClaimSeat). s.batches) new);
-        none = c.new-in-Some.ensures.outcomes;
-      })),
-    )
+pub loop-seat-preserved : goal.loop-seat-preserved
+loop-seat-preserved g c =
+    let claims = c.args.setting.now.claims in
+    let i = c.loop-seat.invariant in
+    let popped = All-pop (IsNewSeatOf claims) c.loop-seat.seats.items c.pop.new.self.items c.pop.result c.pop.ensures.items i.seats in
+    let new = subst (λ some. IfSome some (IsNewSeatOf claims)) c.in-Some.is popped.1 in
+    let worker = c.in_ok-worker.ensures in record {
+      count = omega (arith, i.count, c.in_ok-push.ensures.len, c.in-Some.ensures.len);
+      parts = omega (arith, i.parts, c.split_off-share.ensures.parts_left, c.in-Some.ensures.len);
+      amount = omega (arith, i.amount, c.split_off-share.ensures.amount_left);
+      seats = popped.0;
+      idle = rw c.in_ok-push.ensures.items (All-push (IsIdle claims) c.loop-seat.workers.items c.in_ok-worker.worker i.idle (record {
+        seat = c.in-Some.seat;
+        seat_is = worker.seat;
+        new = new;
+        part = worker.share.0 ∙ c.split_off-share.ensures.parts;
+        amount = worker.share.1 ∙ c.split_off-share.ensures.amount;
+        none = worker.none;
+        room = subst (λ n. n ≤ c.in_ok-worker.worker.room) (c.batch_count-batches.ensures ∙ sym c.args.setting.now.batches) worker.room;
+      }));
+    }

@@ -3,12 +3,14 @@ use Rattle.rad_claim.specs.Claims.{IsNewSeatOf}
 use Rattle.rad_round.specs.Works.{IsIdle}
 use Rattle.rad_round.proofs.round.begin.Given as goal
 
-abbrev pub invariant-loop-pass : goal.invariant-loop-pass
-invariant-loop-pass g l =
-    (vec_len l.passes + vec_len l.workers ≡ vec_len l.initial.passes)
-    × (vec_len l.seats ≡ vec_len l.passes)
-    × All (IsNewSeatOf l.claims) l.seats.items
-    × All (IsIdle l.claims) l.workers.items
+abbrev pub invariant-loop-seat : goal.invariant-loop-seat
+invariant-loop-seat g l = record {
+  count : vec_len l.seats + vec_len l.workers ≡ vec_len l.initial.seats;
+  parts : l.rest.parts ≡ vec_len l.seats;
+  amount : l.rest.amount ≡ 0;
+  seats : All (IsNewSeatOf l.setting.claims) l.seats.items;
+  idle : All (IsIdle l.setting.claims) l.workers.items;
+}
 
-abbrev pub decreases-loop-pass : goal.decreases-loop-pass
-decreases-loop-pass g l = vec_len l.passes
+abbrev pub decreases-loop-seat : goal.decreases-loop-seat
+decreases-loop-seat g l = vec_len l.seats

@@ -11,8 +11,8 @@ of_all P all (Err fault) = tt
 
 pub returns-clause-lawful : goal.returns-clause-lawful
 returns-clause-lawful g c =
+    let before = c.server.result.now in
     of_all (λ done. IsLawfulThroughout c.args.self.now.configuration c.args.self.now.state done.history.items)
-    (λ done. subst (λ server. IsLawfulThroughout server.configuration server.state done.history.items) c.self.view_is
-    (c.runs_are_lawful.ensures c.self.inside.current.configuration c.self.inside.current.state done.history.items
-    c.state_is_lawful.ensures.configuration c.state_is_lawful.ensures.state))
+    (λ done. subst (λ server. IsLawfulThroughout server.configuration server.state done.history.items) c.server.ensures
+    (c.runs_are_lawful.ensures before.configuration before.state done.history.items c.state_is_lawful.ensures.configuration c.state_is_lawful.ensures.state))
     c.answer.result

@@ -1,15 +1,30 @@
-use Rattle.std.proofs.Common.{sym, subst}
-use Rattle.rad_round.proofs.WorkLemmas.{answered_kept}
-use Rattle.rad_round.specs.Works.{AreSealed, HasAnswered}
+use Rattle.std.proofs.Common.{◌<◌, ◌∙◌, arith, ap, length, subst, sym, vec_capacity}
+use Rattle.rad_round.specs.Works.{Worker, answers_of}
+use Rattle.rad_round.proofs.WorkLemmas.{adds_of, adds_seen, length_answers}
 use Rattle.rad_round.proofs.worker.Worker.answer.Goals as goal
 
-pub put_answered-requires-clause-sealed : goal.put_answered-requires-clause-sealed
-put_answered-requires-clause-sealed g c =
-    subst (λ receipts. AreSealed c.args.clients.now receipts c.args.verdicts.now c.ask_batch-asked.result c.seal_batch.new.frames)
-    c.receipts-receipts.ensures.receipts c.seal_batch.ensures
+pub answer_batch-ticket-requires-clause-room : goal.answer_batch-ticket-requires-clause-room
+answer_batch-ticket-requires-clause-room g c =
+    let own = c.self.inside in
+    let room : length (answers_of own.claimed.items own.outcomes.items) < vec_capacity own.claimed =
+    subst (λ (w : Worker). length w.answered < w.room) (sym c.self.view_is) c.requires.room in
+    omega (arith, room, length_answers own.claimed.items own.outcomes.items, c.self.invariant.0, c.self.invariant.1)
 
-pub put_answered-requires-clause-before : goal.put_answered-requires-clause-before
-put_answered-requires-clause-before g c =
-    answered_kept c.args.clients.now c.args.arrivals.now c.self.inside.pass.receipts c.ask_batch-asked.new.pass.receipts
-    c.self.inside.outcomes.items c.ask_batch-asked.ensures.kept
-    (subst (HasAnswered c.args.clients.now c.args.arrivals.now) (sym c.self.view_is) c.requires.before)
+pub push_reserved-requires : goal.push_reserved-requires
+push_reserved-requires g c =
+    let own = c.self.inside in
+    let room : length (answers_of own.claimed.items own.outcomes.items) < vec_capacity own.claimed =
+    subst (λ (w : Worker). length w.answered < w.room) (sym c.self.view_is) c.requires.room in
+    omega (arith, room, length_answers own.claimed.items own.outcomes.items, own.claimed.ok.0)
+
+pub returns : goal.returns
+returns g c =
+    let own = c.self.inside in
+    let batch = c.answer_batch-ticket.ensures in
+    adds_seen c.args.round.now.setting.clients.now c.args.round.now.setting.arrivals.now c.args.number _ _ _ c.self.view_is
+    (adds_of c.args.round.now.setting.clients.now c.args.round.now.setting.arrivals.now c.args.number c.new-batch.result c.answer_batch-ticket.result
+    own.claimed.items _ own.outcomes.items _ own.seat own.share.parts c.answer_batch-ticket.new.share.parts own.share.amount
+    c.answer_batch-ticket.new.share.amount (vec_capacity own.claimed) _
+    c.new-batch.ensures.clients c.new-batch.ensures.arrivals c.new-batch.ensures.number c.requires.number c.self.invariant.0
+    batch.answered c.push_reserved.ensures.items
+    (batch.part ∙ sym (ap (λ (w : Worker). w.parts) c.self.view_is ∙ c.requires.part)) batch.counted c.push_reserved.ensures.capacity)

@@ -1,10 +1,14 @@
-use Rattle.std.proofs.Common.{◌-◌, length}
+use Rattle.std.proofs.Common.{◌≤◌, ◌-◌, length}
 use Rattle.rad_claim.specs.Claims.{IsSeatOf}
 use Rattle.rad_round.specs.Works.{HasAnswered}
 use Rattle.rad_round.proofs.worker.Worker.work.Given as goal
 
 abbrev pub invariant-loop-batch : goal.invariant-loop-batch
-invariant-loop-batch g l = IsSeatOf l.claims l.seat × HasAnswered l.clients l.arrivals l.self
+invariant-loop-batch g l = record {
+  own : IsSeatOf l.round.setting.claims l.seat;
+  answered : HasAnswered l.round.setting.clients.now l.round.setting.arrivals.now l.seat.claimed l.self;
+  room : l.round.setting.claims.batches ≤ l.self.room;
+}
 
 abbrev pub decreases-loop-batch : goal.decreases-loop-batch
-decreases-loop-batch g l = l.claims.batches - length l.seat.claimed
+decreases-loop-batch g l = l.round.setting.claims.batches - length l.seat.claimed

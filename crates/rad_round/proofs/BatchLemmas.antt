@@ -1,0 +1,235 @@
+-- What a batch knows of its lanes.
+use Rattle.std.proofs.Common.{◌≡◌, ◌⊎◌, ◌<◌, ℕ, zero, suc, ◌+◌, ◌*◌, List, [], ◌∷◌, ◌++◌, length, map, replicate, get_or, All, Option, Some, None, IfSome, option_map, slice_get, arith, inl, inr, refl, sym, ap, subst, ◌∙◌, length-append}
+use Rattle.std.proofs.lemmas.Option.{get_or_from_slice_get, none-some, slice_get-get_or, slice_get-map, slice_get_within}
+use Rattle.rad_auth.specs.Admission.{HoldsAdmitted, admission, lane_admission}
+use Rattle.rad_auth.specs.Clients.{Client}
+use Rattle.rad_auth.specs.Datagrams.{datagram_of}
+use Rattle.rad_auth.specs.Sealing.{lane_octets, sealed}
+use Rattle.rad_auth.specs.declared.arrival.Arrival.{Arrival}
+use Rattle.rad_auth.specs.declared.job.Job.{Job}
+use Rattle.rad_desk.specs.declared.receipt.Receipt.{Receipt}
+use Rattle.rad_server.specs.declared.entry.Entry.{Entry}
+use Rattle.rad_round.specs.Works.{AreAskedOf, AreSealed, AreVerdicts, CheckedBatch, IsAskedOf, IsChecked, IsJobIn, IsLane, IsVerdict, PutsLanes, Verdict, entry_of, unasked}
+use Rattle.rad_round.specs.Rounds.{IsSentAs}
+use Rattle.rad_server.specs.Steps.{IsSealable}
+use Rattle.rad_auth.specs.declared.arrival.Request.{Request}
+use Rattle.rad_auth.specs.declared.discard.Discard.{Discard}
+use Rattle.std.proofs.Common.{Result, Ok, Err}
+use Rattle.rad_round.specs.declared.outcome.Outcome.{Outcome}
+use Rattle.rad_round.specs.declared.timed.Timed.{Timed}
+use Rattle.rad_round.proofs.ListLemmas.{get_either, some_is, zip2_get}
+
+-- ---- verdicts
+
+-- the admission of the arrivals at eight places is what the lanes of a batch say
+pub verdicts_of : (clients : List Client) (arrivals : List Timed) (first : ℕ) (lanes : List (Option Arrival)) (verdicts : List Verdict)
+    → verdicts ≡ map (lane_admission clients) lanes
+    → ((lane : ℕ) (arrival : Option Arrival) → slice_get lanes lane ≡ Some arrival
+    → arrival ≡ option_map (λ timed. timed.arrival) (slice_get arrivals (first + lane)))
+    → All (HoldsAdmitted clients) verdicts → AreVerdicts clients arrivals first verdicts
+verdicts_of clients arrivals first lanes verdicts are from admitted lane verdict at =
+    record {
+      value = in_lane (slice_get lanes lane) refl;
+      admitted = subst (HoldsAdmitted clients) (get_or_from_slice_get verdicts lane verdict verdict at)
+          (admitted lane verdict (slice_get_within verdicts lane verdict at));
+    }
+  where
+    mapped : option_map (lane_admission clients) (slice_get lanes lane) ≡ Some verdict
+    mapped = sym (slice_get-map (lane_admission clients) lanes lane) ∙ ap (λ list. slice_get list lane) (sym are) ∙ at
+
+    of_arrival : (some : Option Timed) → lane_admission clients (option_map (λ timed. timed.arrival) some)
+        ≡ option_map (λ timed. admission clients (datagram_of timed.arrival)) some
+    of_arrival None = refl
+    of_arrival (Some timed) = refl
+
+    in_lane : (some : Option (Option Arrival)) → slice_get lanes lane ≡ some
+        → verdict ≡ option_map (λ timed. admission clients (datagram_of timed.arrival)) (slice_get arrivals (first + lane))
+    in_lane None is = absurd (none-some verdict (ap (option_map (lane_admission clients)) (sym is) ∙ mapped))
+    in_lane (Some arrival) is =
+        sym (some_is (lane_admission clients arrival) verdict (ap (option_map (lane_admission clients)) (sym is) ∙ mapped))
+        ∙ ap (lane_admission clients) (from lane arrival is) ∙ of_arrival (slice_get arrivals (first + lane))
+
+-- ---- sealing
+
+-- the frames into which the jobs of all lanes are sealed have the replies
+pub sealed_of : (clients : List Client) (verdicts : List Verdict) (asked : List (Option Receipt))
+    (jobs : List (Option Job)) (before after : List (List ℕ)) → after ≡ sealed jobs before
+    → ((lane : ℕ) (job : Option Job) → slice_get jobs lane ≡ Some job → IsJobIn clients verdicts asked lane job)
+    → AreSealed clients verdicts asked after
+sealed_of clients verdicts asked jobs before after are jobs_are lane frame at_frame verdict receipt at_verdict at_asked request body sends =
+    let there = zip2_get lane_octets jobs before lane frame (ap (λ list. slice_get list lane) (sym are) ∙ at_frame) in
+    let job = jobs_are lane there.0 there.2 verdict receipt at_verdict at_asked request body sends in
+    sym there.3 ∙ ap (λ some. lane_octets some there.1) job.1 ∙ job.2
+
+-- ---- outcomes
+
+-- the outcomes of the lanes below one are put last
+pub record PutBelow (batch : CheckedBatch) (entries : List (Option Entry)) (lane : ℕ) (before after : List (Option Outcome)) : Type 0 where
+  pub outcomes : List (Option Outcome)
+  pub last : after ≡ before ++ outcomes
+  pub count : length outcomes ≡ lane
+  pub each : (place : ℕ) (outcome : Option Outcome) (entry : Option Entry) → slice_get outcomes place ≡ Some outcome
+      → slice_get entries place ≡ Some entry → IsLane batch.clients batch.arrivals (batch.number * 8 + place) outcome entry
+
+pub put_none : (batch : CheckedBatch) (entries : List (Option Entry)) (before : List (Option Outcome)) → PutBelow batch entries 0 before before
+put_none batch entries before = record {
+  outcomes = [];
+  last = sym (nothing before);
+  count = refl;
+  each = λ place outcome entry at there. absurd (none-some outcome at);
+}
+  where
+    nothing : (xs : List (Option Outcome)) → xs ++ [] ≡ xs
+    nothing [] = refl
+    nothing (x ∷ xs) = ap (λ l. x ∷ l) (nothing xs)
+
+join : (xs ys zs : List (Option Outcome)) → (xs ++ ys) ++ zs ≡ xs ++ (ys ++ zs)
+join [] ys zs = refl
+join (x ∷ xs) ys zs = ap (λ l. x ∷ l) (join xs ys zs)
+
+pub put_more : (batch : CheckedBatch) (entries : List (Option Entry)) (lane : ℕ) (before now after : List (Option Outcome)) (outcome : Option Outcome)
+    → PutBelow batch entries lane before now → after ≡ now ++ outcome ∷ []
+    → ((entry : Option Entry) → slice_get entries lane ≡ Some entry → IsLane batch.clients batch.arrivals (batch.number * 8 + lane) outcome entry)
+    → PutBelow batch entries (lane + 1) before after
+put_more batch entries lane before now after outcome put is own = record {
+  outcomes = put.outcomes ++ outcome ∷ [];
+  last = is ∙ ap (λ l. l ++ outcome ∷ []) put.last ∙ join before put.outcomes (outcome ∷ []);
+  count = omega (arith, length-append put.outcomes (outcome ∷ []), put.count);
+  each = λ place each entry at there. pick place each entry there (get_either put.outcomes (outcome ∷ []) place each at);
+}
+  where
+    pick : (place : ℕ) (each : Option Outcome) (entry : Option Entry) → slice_get entries place ≡ Some entry
+        → (slice_get put.outcomes place ≡ Some each) ⊎ ((j : ℕ) × (place ≡ length put.outcomes + j) × (slice_get (outcome ∷ []) j ≡ Some each))
+        → IsLane batch.clients batch.arrivals (batch.number * 8 + place) each entry
+    pick place each entry there (inl old) = put.each place each entry old there
+    pick place each entry there (inr new) = last new.0 new.1 new.2
+      where
+        last : (j : ℕ) → place ≡ length put.outcomes + j → slice_get (outcome ∷ []) j ≡ Some each
+            → IsLane batch.clients batch.arrivals (batch.number * 8 + place) each entry
+        last zero at one =
+            let same : place ≡ lane = omega (arith, at, put.count) in
+            subst (λ n. IsLane batch.clients batch.arrivals (batch.number * 8 + n) each entry) (sym same)
+            (subst (λ o. IsLane batch.clients batch.arrivals (batch.number * 8 + lane) o entry) (some_is outcome each one)
+            (own entry (subst (λ n. slice_get entries n ≡ Some entry) same there)))
+        last (suc j) at one = absurd (none-some each one)
+
+pub put_all : (batch : CheckedBatch) (entries : List (Option Entry)) (lane : ℕ) (before after : List (Option Outcome)) → lane ≡ 8 → length entries ≡ 8
+    → PutBelow batch entries lane before after → PutsLanes batch entries before after
+put_all batch entries lane before after is count put = record {
+  outcomes = put.outcomes;
+  last = put.last;
+  lanes = record { outcome_each = put.count ∙ is; entry_each = count; each = put.each };
+}
+
+-- the entry in a lane of receipts
+pub entry_at : (asked : List (Option Receipt)) (lane : ℕ) (entry : Option Entry) → slice_get (map entry_of asked) lane ≡ Some entry
+    → (receipt : Option Receipt) × (slice_get asked lane ≡ Some receipt) × (entry_of receipt ≡ entry)
+entry_at [] lane entry at = absurd (none-some entry at)
+entry_at (receipt ∷ asked) zero entry at = (receipt, refl, some_is (entry_of receipt) entry at)
+entry_at (receipt ∷ asked) (suc lane) entry at = entry_at asked lane entry at
+
+-- no lane has an entry
+pub none_at : (count lane : ℕ) (entry : Option Entry) → slice_get (replicate count None) lane ≡ Some entry → None ≡ entry
+none_at zero lane entry at = absurd (none-some entry at)
+none_at (suc count) zero entry at = some_is None entry at
+none_at (suc count) (suc lane) entry at = none_at count lane entry at
+
+-- ---- lanes
+
+-- the element of a list that was read
+pub the_read : {A : Type 0} (xs : List A) (k : ℕ) (read x : A) → read ≡ get_or xs k read → slice_get xs k ≡ Some x → x ≡ read
+the_read xs k read x is at = sym (get_or_from_slice_get xs k x read at) ∙ sym is
+
+-- where there is no arrival there is no verdict, else it is that of its admission
+verdict_at : (clients : List Client) (arrivals : List Timed) (number : ℕ) (verdict : Verdict) (some : Option Timed) → slice_get arrivals number ≡ some
+    → IsVerdict clients arrivals number verdict → verdict ≡ option_map (λ timed. admission clients (datagram_of timed.arrival)) some
+verdict_at clients arrivals number verdict some at is =
+    is.value ∙ ap (option_map (λ timed. admission clients (datagram_of timed.arrival))) at
+
+-- a lane of which no exchange was made
+pub unasked_lane : (clients : List Client) (arrivals : List Timed) (number : ℕ) (verdict : Verdict) → IsVerdict clients arrivals number verdict
+    → IsLane clients arrivals number (unasked verdict) None
+unasked_lane clients arrivals number verdict is = by (slice_get arrivals number) refl
+  where
+    of : (timed : Timed) (said : Result Request Discard) → slice_get arrivals number ≡ Some timed
+        → admission clients (datagram_of timed.arrival) ≡ said → IsLane clients arrivals number (unasked (Some said)) None
+    of timed (Err discard) at says = (timed, at, says)
+    of timed (Ok request) at says = (timed, at, (request, says))
+
+    by : (some : Option Timed) → slice_get arrivals number ≡ some → IsLane clients arrivals number (unasked verdict) None
+    by None at =
+        subst (λ v. IsLane clients arrivals number (unasked v) None) (sym (verdict_at clients arrivals number verdict None at is)) (at, refl)
+    by (Some timed) at =
+        subst (λ v. IsLane clients arrivals number (unasked v) None) (sym (verdict_at clients arrivals number verdict (Some timed) at is))
+        (of timed (admission clients (datagram_of timed.arrival)) at refl)
+
+-- a lane that was asked, where the answer is sent as this outcome
+pub asked_lane : (clients : List Client) (arrivals : List Timed) (number : ℕ) (verdict : Verdict) (receipt : Receipt) (outcome : Outcome)
+    → IsVerdict clients arrivals number verdict → (asked : IsAskedOf arrivals number verdict receipt)
+    → IsSentAs clients asked.request receipt.entry.answer outcome → IsLane clients arrivals number (Some outcome) (Some receipt.entry)
+asked_lane clients arrivals number verdict receipt outcome is asked sent =
+    let said : Some (admission clients (datagram_of asked.timed.arrival)) ≡ Some (Ok asked.request) =
+    sym (verdict_at clients arrivals number verdict (Some asked.timed) asked.arrival is) ∙ asked.verdict_is in (
+      asked.timed,
+      asked.arrival,
+      record {
+        request = asked.request;
+        admitted = some_is (admission clients (datagram_of asked.timed.arrival)) (Ok asked.request) said;
+        own = subst (HoldsAdmitted clients) asked.verdict_is is.admitted;
+        asked = asked.asked;
+        sent = sent;
+      },
+    )
+
+-- the verdict in each lane
+pub verdict_in : (batch_clients : List Client) (arrivals : List Timed) (number : ℕ) (verdicts : List Verdict) (lane : ℕ) (verdict : Verdict)
+    → IsChecked batch_clients arrivals number verdicts → lane < 8 → verdict ≡ get_or verdicts lane verdict
+    → (slice_get verdicts lane ≡ Some verdict) × IsVerdict batch_clients arrivals (number * 8 + lane) verdict
+verdict_in clients arrivals number verdicts lane verdict checked within is =
+    let at : slice_get verdicts lane ≡ Some verdict =
+    slice_get-get_or verdicts lane verdict (omega (arith, within, checked.lanes)) ∙ ap Some (sym is) in
+    (at, checked.checked lane verdict at)
+
+-- a batch that contracts see is checked
+abbrev pub IsCheckedBatch : CheckedBatch → Type 0
+IsCheckedBatch batch = IsChecked batch.clients batch.arrivals batch.number batch.verdicts
+
+-- the verdict in a lane of which nothing was read
+some_verdict : (batch : CheckedBatch) (lane : ℕ) → IsCheckedBatch batch → lane < 8
+    → (verdict : Verdict) × (slice_get batch.verdicts lane ≡ Some verdict) × IsVerdict batch.clients batch.arrivals (batch.number * 8 + lane) verdict
+some_verdict batch lane checked within =
+    let verdict = get_or batch.verdicts lane None in
+    let at : slice_get batch.verdicts lane ≡ Some verdict = slice_get-get_or batch.verdicts lane None (omega (arith, within, checked.lanes)) in
+    (verdict, at, checked.checked lane verdict at)
+
+-- what the lane of a receipt has, where its answer is sent as this outcome
+pub lane_of : (batch : CheckedBatch) (asked : List (Option Receipt)) (lane : ℕ) (receipt : Receipt) (outcome : Outcome) → IsCheckedBatch batch → lane < 8
+    → AreAskedOf batch asked → slice_get asked lane ≡ Some (Some receipt)
+    → ((verdict : Verdict) (is : IsAskedOf batch.arrivals (batch.number * 8 + lane) verdict receipt) → slice_get batch.verdicts lane ≡ Some verdict
+    → IsSentAs batch.clients is.request receipt.entry.answer outcome)
+    → IsLane batch.clients batch.arrivals (batch.number * 8 + lane) (Some outcome) (Some receipt.entry)
+lane_of batch asked lane receipt outcome checked within are at sent =
+    let said = some_verdict batch lane checked within in
+    let is = are.1 lane said.0 (Some receipt) said.1 at in
+    asked_lane batch.clients batch.arrivals (batch.number * 8 + lane) said.0 receipt outcome said.2 is (sent said.0 is said.1)
+
+-- the receipt that was read in a lane
+pub receipt_at : (asked : List (Option Receipt)) (lane : ℕ) (read receipt : Option Receipt) → read ≡ get_or asked lane read
+    → slice_get asked lane ≡ Some receipt → receipt ≡ read
+receipt_at asked lane read receipt is at = the_read asked lane read receipt is at
+
+-- an answer that was read in a lane can be sealed
+pub sealable_in : (batch : CheckedBatch) (asked : List (Option Receipt)) (lane : ℕ) (read : Option Receipt) → IsCheckedBatch batch → lane < 8
+    → AreAskedOf batch asked → read ≡ get_or asked lane read → IfSome read (λ receipt. IsSealable receipt.entry.answer)
+sealable_in batch asked lane read checked within are is = by read (are.1 lane said.0 read said.1 at)
+  where
+    said : (verdict : Verdict) × (slice_get batch.verdicts lane ≡ Some verdict) × IsVerdict batch.clients batch.arrivals (batch.number * 8 + lane) verdict
+    said = some_verdict batch lane checked within
+
+    at : slice_get asked lane ≡ Some read
+    at = slice_get-get_or asked lane read (omega (arith, within, are.0)) ∙ ap Some (sym is)
+
+    by : (receipt : Option Receipt) → IfSome receipt (IsAskedOf batch.arrivals (batch.number * 8 + lane) said.0)
+        → IfSome receipt (λ r. IsSealable r.entry.answer)
+    by None asked_of = tt
+    by (Some r) asked_of = asked_of.sealable

@@ -1,0 +1,197 @@
+//! What the workers of a round share: the lock, what lies under it, and what lies beside it.
+ghost use Rattle.std.specs.Prelude.{◌≡◌, ◌≤◌, ◌+◌, ◌++◌, [], ◌∷◌, length, replicate, IfSome, None};
+ghost use Rattle.rad_log.specs.Logs.{taking};
+ghost use Rattle.rad_server.specs.Runs.{IsHistory};
+ghost use Rattle.rad_round.specs.Rounds.{AreMoments, arrivals_max};
+ghost use Rattle.rad_round.specs.Works.{AreAskedOf, AreOctets, HasOctets, IsAskedOf, IsLogged, IsVerdict, batch_count, entries_in, entry_of, somes, taken};
+
+use crate::batch::{BATCH, Batch, Verdict};
+use crate::timed::Timed;
+use rad_auth::Clients;
+use rad_claim::Claims;
+use rad_desk::{Locked, Opened, Receipt};
+use rad_log::{Keeper, Log, Logged, Ticket};
+use rad_packet::Octets;
+use rad_server::{Entry, Server};
+use std::alloc::Global;
+use std::marker::{Model, PhantomData};
+use std::sync::ledger::{Book, Share};
+use std::sync::{Mutex, Wait};
+
+/// What lies under the lock of a round: what lies under a desk's, and the keeper of the log of takings.
+#[derive(Drop)]
+pub(crate) struct Shared<'c, L: Opened + Logged> {
+    locked: Locked<'c, L>,
+    keeper: Keeper<Entry, L>,
+}
+
+impl<'c, L: Opened + Logged> Model for Shared<'c, L> {
+    ghost use Rattle.rad_round.specs.Works.{IsLogged, Shared};
+
+    ghost Value = { Shared };
+
+    ghost view = { λ shared. record { history = shared.locked.history; log = shared.keeper } };
+
+    ghost invariant = { λ shared. IsLogged shared.locked.history shared.keeper };
+}
+
+impl<'c, L: Opened + Logged> Shared<'c, L> {
+    /// What nobody has taken yet.
+    pub fn new(locked: Locked<'c, L>, keeper: Keeper<Entry, L>) -> Shared<'c, L>
+        requires { (locked.history ≡ []) × (keeper ≡ []) }
+    {
+        Shared { locked, keeper }
+    }
+
+    /// Asks the requests of a batch, one after another, and publishes their entries. The share counts them.
+    ///
+    /// The receipts are put into the lanes, in which there is none yet. Where memory is refused, a request isn't asked.
+    pub fn take(
+        &mut self,
+        log: &Log<Entry>,
+        share: &mut Share<L>,
+        batch: &Batch,
+        octets: [Option<Octets>; BATCH],
+        asked: &mut [Option<Receipt>],
+    ) -> Ticket<Entry, L>
+        requires log { log.now ≡ L.table }
+        requires part { share.old.parts ≡ 1 }
+        requires clients { batch.now.clients ≡ L.opening.configuration.clients }
+        requires octets { AreOctets batch.now.verdicts octets }
+        requires none { asked.old ≡ replicate 8 None }
+        ensures asked { AreAskedOf batch.now asked.new }
+        ensures taking { result ≡ taking batch.now.number (entries_in asked.new) }
+        ensures counted { share.new.amount ≡ share.old.amount + length (entries_in asked.new) }
+        ensures part { share.new.parts ≡ 1 }
+    {
+        ask(&mut self.locked, share, batch, octets, asked);
+        self.keeper
+            .publish(log, batch.number as u64, self.locked.history())
+    }
+
+    /// The parts, once the lock is open: the history, the server, what is left of the ledger, and the keeper.
+    pub fn into_parts(self) -> (Vec<Entry>, Server<'c>, Book<L>, Share<L>, Keeper<Entry, L>)
+        ensures run { IsHistory L.opening result.0.items result.1 }
+        ensures total { result.2.total ≡ length result.0.items }
+        ensures rest { (result.3.parts ≡ 0) × (result.3.amount ≡ 0) }
+        ensures logged { IsLogged result.0.items result.4 }
+    {
+        let Shared { locked, keeper } = self;
+        let (history, server, total, rest) = locked.into_parts();
+        (history, server, total, rest, keeper)
+    }
+}
+
+// Asks the requests of a batch, one after another.
+fn ask<'c, L: Opened>(
+    locked: &mut Locked<'c, L>,
+    share: &mut Share<L>,
+    batch: &Batch,
+    octets: [Option<Octets>; BATCH],
+    asked: &mut [Option<Receipt>],
+)
+    requires part { share.old.parts ≡ 1 }
+    requires clients { batch.now.clients ≡ L.opening.configuration.clients }
+    requires octets { AreOctets batch.now.verdicts octets }
+    requires none { asked.old ≡ replicate 8 None }
+    ensures asked { AreAskedOf batch.now asked.new }
+    ensures history { locked.new.history ≡ locked.old.history ++ entries_in asked.new }
+    ensures counted { share.new.amount ≡ share.old.amount + length (entries_in asked.new) }
+    ensures part { share.new.parts ≡ 1 }
+{
+    let first = batch.number * BATCH;
+    let verdicts = batch.verdicts;
+    let mut octets = octets.into_iter();
+    for lane in 0..BATCH {
+        let Some(octets) = octets.next() else {
+            unreachable!()
+        };
+        asked[lane] = ask_one(
+            locked,
+            share,
+            batch.arrivals,
+            first + lane,
+            &verdicts[lane],
+            octets,
+        );
+    }
+}
+
+// Asks the request of an arrival, if it is one and its octets are there.
+fn ask_one<'c, L: Opened>(
+    locked: &mut Locked<'c, L>,
+    share: &mut Share<L>,
+    arrivals: &[Timed],
+    number: usize,
+    verdict: &Verdict,
+    octets: Option<Octets>,
+) -> Option<Receipt>
+    requires part { share.old.parts ≡ 1 }
+    requires moments { AreMoments arrivals.now }
+    requires verdict { IsVerdict L.opening.configuration.clients arrivals.now number verdict.now }
+    requires octets { IfSome octets (HasOctets verdict.now) }
+    ensures asked { IfSome result (IsAskedOf arrivals.now number verdict.now) }
+    ensures history { locked.new.history ≡ locked.old.history ++ somes (entry_of result ∷ []) }
+    ensures counted { share.new.amount ≡ share.old.amount + length (somes (entry_of result ∷ [])) }
+    ensures part { share.new.parts ≡ 1 }
+{
+    let Some(Ok(request)) = verdict else {
+        return None;
+    };
+    let timed = arrivals.get(number)?;
+    let octets = octets?;
+    let tag = number as u64;
+    locked
+        .exchange(share, tag, request, octets, timed.moment, &timed.draw)
+        .ok()
+}
+
+/// What stays as it is while a round goes on.
+#[derive(Drop)]
+pub(crate) struct Setting<'r, 'a, L: Opened + Logged> {
+    pub log: Log<Entry>,
+    pub claims: Claims,
+    pub clients: &'r Clients,
+    pub arrivals: &'r [Timed<'a>],
+    pub of: PhantomData<L>,
+    pub ghost of_log: { log ≡ L.table },
+    pub ghost of_server: { clients.now ≡ L.opening.configuration.clients },
+    pub ghost batches: { claims.batches ≡ batch_count arrivals.now },
+    pub ghost count: { length arrivals.now ≤ arrivals_max },
+    pub ghost moments: { AreMoments arrivals.now },
+}
+
+/// A round that goes on: what its workers share.
+#[derive(Drop)]
+pub(crate) struct OpenRound<'r, 'a, 'c, L: Opened + Logged> {
+    pub setting: Setting<'r, 'a, L>,
+    pub lock: Mutex<Shared<'c, L>>,
+}
+
+impl<'r, 'a, 'c, L: Opened + Logged> OpenRound<'r, 'a, 'c, L> {
+    /// Asks the requests of a batch with one taking of the lock, if it has any. The share counts the entries.
+    pub fn ask<R: Wait>(
+        &self,
+        rt: &R,
+        alloc: Global,
+        share: &mut Share<L>,
+        batch: &Batch,
+        asked: &mut [Option<Receipt>],
+    ) -> Option<Ticket<Entry, L>>
+        requires part { share.old.parts ≡ 1 }
+        requires clients { batch.now.clients ≡ self.now.setting.clients.now }
+        requires none { asked.old ≡ replicate 8 None }
+        ensures asked { AreAskedOf batch.now asked.new }
+        ensures taken { taken result ≡ entries_in asked.new }
+        ensures numbered { IfSome result (λ taking. taking.number ≡ batch.now.number) }
+        ensures counted { share.new.amount ≡ share.old.amount + length (taken result) }
+        ensures part { share.new.parts ≡ 1 }
+    {
+        if !batch.has_requests() {
+            return None;
+        }
+        let octets = batch.octets(alloc);
+        let mut shared = self.lock.lock(rt);
+        Some(shared.take(&self.setting.log, share, batch, octets, asked))
+    }
+}
