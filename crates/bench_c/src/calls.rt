@@ -2,7 +2,7 @@
 //!
 //! The export fills the tables and takes turns on them. In a turn one call is timed, made so many times; then as many rows go and come
 //! as are missing, so that the tables are as full as before.
-ghost use Rattle.std.specs.Prelude.{◌≡◌, ◌≤◌, ◌<◌, length};
+ghost use Rattle.std.specs.Prelude.{◌≡◌, ◌≤◌, ◌<◌, IfSome, length};
 ghost use Rattle.rad_config.specs.Spans.{moment_max};
 
 use crate::clock;
@@ -178,6 +178,9 @@ impl<'c> Tables<'c> {
             Call::Stop => {
                 self.make(alloc, Call::Grant, count);
             }
+            Call::Peek => {
+                self.make(alloc, Call::Grant, 1);
+            }
             Call::Take => {
                 self.make(alloc, Call::Issue, count);
             }
@@ -192,13 +195,23 @@ impl<'c> Tables<'c> {
         self.size.moment(self.size.rows, self.granted)
     }
 
+    // The user of the next session: each of sixteen in turn.
+    fn next_user(&self) -> Option<u32>
+        ensures { IfSome result (λ user. user < length self.now.config.now.users) }
+    {
+        let user = (self.granted % 16) as u32;
+        if user as usize >= self.config.users().len() {
+            return None;
+        }
+        Some(user)
+    }
+
     // Grants a session. The oldest one goes.
     fn grant(&mut self) -> bool {
         let now = self.now();
-        let user = (self.granted % 16) as u32;
-        if user as usize >= self.config.users().len() {
+        let Some(user) = self.next_user() else {
             return false;
-        }
+        };
         self.granted = self.granted.wrapping_add(1);
         self.sessions
             .grant(self.config, 0, SOURCE, user, now)
@@ -244,11 +257,11 @@ impl<'c> Tables<'c> {
 
     // At the moment of the next grant, so that an address is free.
     fn peek(&mut self) -> bool {
-        if self.config.users().len() == 0 {
-            return false;
-        }
         let now = self.now();
-        self.sessions.peek(self.config, 0, 0, now).is_ok()
+        let Some(user) = self.next_user() else {
+            return false;
+        };
+        self.sessions.peek(self.config, 0, user, now).is_ok()
     }
 
     fn look(&mut self) -> bool {
