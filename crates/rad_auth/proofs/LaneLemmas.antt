@@ -1,5 +1,5 @@
 -- Eight lanes, one by one and as a list.
-use Rattle.std.proofs.Common.{◌≡◌, ℕ, ◌<◌, List, [], ◌∷◌, length, get_or, Option, Some, None, Result, Ok, Err, refl, subst, ◌∙◌, arith}
+use Rattle.std.proofs.Common.{◌≡◌, ℕ, ◌<◌, List, [], ◌∷◌, length, get_or, Option, Some, None, Result, Ok, Err, refl, subst, sym, ◌∙◌, arith}
 use Rattle.std.specs.Prelude.{IfSome}
 use Rattle.rad_md5.proofs.LaneLemmas.{below_eight}
 use Rattle.rad_hmac.specs.Hmac.{hmac, mac_under}
@@ -7,6 +7,8 @@ use Rattle.rad_auth.specs.Clients.{Client, secret_at}
 use Rattle.rad_auth.specs.RequestLanes.{HasKeyOf, HasHmacText, IsMessageAuthenticator, OfCandidate}
 use Rattle.rad_auth.specs.ReplyLanes.{HasReplyHmacText, IsKeyOf, IsReplyHmac}
 use Rattle.rad_auth.specs.Authenticators.{message_authenticator}
+use Rattle.rad_auth.specs.PasswordChecks.{IsTelling}
+use Rattle.rad_auth.specs.declared.password_check.PasswordCheck.{PasswordCheck}
 use Rattle.rad_auth.specs.declared.job.Job.{Job}
 use Rattle.rad_auth.specs.declared.candidate.Candidate.{Candidate}
 use Rattle.rad_auth.specs.declared.discard.Discard.{Discard}
@@ -46,3 +48,7 @@ pub reply_hmac : (key text mac : List ℕ) (lane : Option Job)
     → IfSome lane (IsKeyOf key) → IfSome lane (HasReplyHmacText text) → mac ≡ mac_under key text → IsReplyHmac lane mac
 reply_hmac key text mac None keyed signed e = tt
 reply_hmac key text mac (Some job) keyed signed e = λ has. e ∙ keyed text ∙ signed has
+
+-- the digest that tells of a password
+pub told_lane : (digest made : List ℕ) (lane : Option PasswordCheck) → digest ≡ made → IfSome lane (IsTelling made) → IfSome lane (IsTelling digest)
+told_lane digest made lane is told = subst (λ octets. IfSome lane (IsTelling octets)) (sym is) told

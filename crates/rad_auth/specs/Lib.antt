@@ -5,6 +5,7 @@ pub mod ClientRows
 pub mod Clients
 pub mod Datagrams
 pub mod Discards
+pub mod PasswordChecks
 pub mod PasswordLanes
 pub mod Passwords
 pub mod ReplyLanes

@@ -2,6 +2,7 @@
 use Rattle.std.specs.Prelude.{◌≡◌, ℕ, ◌*◌, ◌<◌, List, [], ◌++◌, length, slice_index_or, take, drop}
 use Rattle.md5.specs.Md5.{md5}
 use Rattle.rad_md5.specs.Lanes.{EachLane}
+use Rattle.rad_auth.specs.Passwords.{IsRevealed}
 
 -- what precedes block j of a value, counted from 0: the Request Authenticator, which has 16 octets, or a block
 abbrev pub block_before : List ℕ → List ℕ → ℕ → List ℕ
@@ -15,3 +16,8 @@ block_digest secret request_authenticator value j = md5 (secret ++ block_before 
 abbrev pub AreBlockDigests : List ℕ → List ℕ → List ℕ → List (List ℕ) → Type 0
 AreBlockDigests secret request_authenticator value digests =
     EachLane (λ j. j * 16 < length value → slice_index_or digests j [] ≡ block_digest secret request_authenticator value j)
+
+-- wherever the lanes' digests hide the blocks of a value, this is the text that is hidden as it
+abbrev pub Reveals : List (List ℕ) → List ℕ → List ℕ → Type 0
+Reveals digests value text = (secret request_authenticator : List ℕ) → length request_authenticator ≡ 16
+    → AreBlockDigests secret request_authenticator value digests → IsRevealed secret request_authenticator value text

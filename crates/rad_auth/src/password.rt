@@ -1,10 +1,10 @@
 //! User-Passwords, hidden under a secret and opened again (RFC 2865, section 5.2).
-ghost use Rattle.std.specs.Prelude.{◌≡◌, ◌+◌, ◌-◌, ◌*◌, ◌/◌, ◌%◌, ◌<◌, ◌≤◌, ◌++◌, length, take, drop, IsTrue};
+ghost use Rattle.std.specs.Prelude.{◌≡◌, ℕ, List, [], ◌+◌, ◌-◌, ◌*◌, ◌/◌, ◌%◌, ◌<◌, ◌≤◌, ◌++◌, length, slice_index_or, take, drop, IsTrue};
 ghost use Rattle.md5.specs.Md5.{md5};
 ghost use Rattle.rad_hmac.specs.Hmac.{xor};
 ghost use Rattle.rad_md5.specs.Pieces.{message};
 ghost use Rattle.rad_auth.specs.Clients.{secret_max};
-ghost use Rattle.rad_auth.specs.PasswordLanes.{AreBlockDigests};
+ghost use Rattle.rad_auth.specs.PasswordLanes.{AreBlockDigests, Reveals};
 ghost use Rattle.rad_auth.specs.Passwords.{IsRevealed, hidden_password, hidden_text, padded_password, password_max, password_right, value_fits, value_length};
 
 use crate::authenticators::nothing;
@@ -119,12 +119,21 @@ pub fn reveal(
     ensures rest { drop result text.new ≡ drop result text.old }
 {
     let digests = block_digests(secret.octets(), request_authenticator, value);
+    open_blocks(&digests, value, text);
+    value.len()
+}
+
+// Opens the blocks of a value by the digests that hide them.
+fn open_blocks(digests: &[[u8; DIGEST_LEN]; LANES], value: &[u8], text: &mut [u8; PASSWORD_MAX])
+    requires { IsTrue (value_fits value.now) }
+    ensures revealed { Reveals digests.now value.now (take (length value.now) text.new) }
+    ensures rest { drop (length value.now) text.new ≡ drop (length value.now) text.old }
+{
     'blocks: for block in 0..value.len() / BLOCK_LEN {
         let at = block * BLOCK_LEN;
         let opened = xor(&value[at..at + BLOCK_LEN], &digests[block]);
         text[at..at + BLOCK_LEN].copy_from_slice(&opened);
     }
-    value.len()
 }
 
 // The digests that hide the blocks of a value. Lanes past its last block have other octets.
@@ -139,9 +148,7 @@ fn block_digests(
 {
     if value.len() == BLOCK_LEN {
         // A digest alone takes less time than a pass of eight.
-        let none = [0; DIGEST_LEN];
-        let digest = block_digest(secret, request_authenticator);
-        return [digest, none, none, none, none, none, none, none];
+        return alone(&block_digest(secret, request_authenticator));
     }
     digest8(&[
         Pieces::of([secret, request_authenticator, &[], &[], &[]]),
@@ -153,6 +160,15 @@ fn block_digests(
         digested_text(secret, value, 6),
         digested_text(secret, value, 7),
     ])
+}
+
+// A digest in the first lane, and nothing in the others.
+fn alone(digest: &[u8; DIGEST_LEN]) -> [[u8; DIGEST_LEN]; LANES]
+    ensures { (wanted : ℕ → List ℕ) (value : List ℕ) → length value ≡ 16 → digest.now ≡ wanted 0
+        → (j : ℕ) → j * 16 < length value → slice_index_or result j [] ≡ wanted j }
+{
+    let none = [0; DIGEST_LEN];
+    [*digest, none, none, none, none, none, none, none]
 }
 
 // The message whose digest hides a block after the first; empty if the value has no such block.
@@ -184,11 +200,33 @@ pub fn password_right(
     requires { IsTrue (value_fits value.now) }
     ensures { result ≡ password_right secret.now request_authenticator.now value.now password.now }
 {
+    let digests = block_digests(secret.octets(), request_authenticator, value);
+    is_opened(&digests, value, password)
+}
+
+/// The same for a value of one block, whose digest is known.
+pub(crate) fn password_right_by(digest: &[u8; DIGEST_LEN], value: &[u8], password: &[u8]) -> bool
+    requires { length value.now ≡ 16 }
+    ensures { (secret request_authenticator : List ℕ) → length request_authenticator ≡ 16
+        → digest.now ≡ md5 (secret ++ request_authenticator)
+        → result ≡ password_right secret request_authenticator value.now password.now }
+{
+    is_opened(&alone(digest), value, password)
+}
+
+// Whether a password, padded with zeros, is what these digests open a value as.
+fn is_opened(digests: &[[u8; DIGEST_LEN]; LANES], value: &[u8], password: &[u8]) -> bool
+    requires { IsTrue (value_fits value.now) }
+    ensures { (secret request_authenticator : List ℕ) → length request_authenticator ≡ 16
+        → AreBlockDigests secret request_authenticator value.now digests.now
+        → result ≡ password_right secret request_authenticator value.now password.now }
+{
     if password.len() > value.len() {
         return false;
     }
     let mut text = [0; PASSWORD_MAX];
-    let len = reveal(secret, request_authenticator, value, &mut text);
+    open_blocks(digests, value, &mut text);
+    let len = value.len();
     let wanted = padded(password);
     same_octets(&wanted[..len], &text[..len])
 }

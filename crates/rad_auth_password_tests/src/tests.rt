@@ -3,6 +3,7 @@
 mod chap;
 mod hidden_passwords;
 mod passwords;
+mod side_by_side;
 
 use std::process::Abort;
 

@@ -102,7 +102,7 @@ fn each_challenge_has_its_response(rt: HostRuntime) {
 }
 
 // Of `shark` and identifier 7, where the Request Authenticator is the challenge.
-const VALUE: &[u8; CHAP_VALUE_LEN] =
+pub(crate) const VALUE: &[u8; CHAP_VALUE_LEN] =
     b"\x07\x1f\x2f\xc0\x46\x61\x05\xc3\x7c\xf1\xa5\xb7\x8e\x62\xd2\x5e\x3c";
 
 // The same response with identifier 8 in front, and the response of identifier 8.
@@ -113,10 +113,10 @@ const OTHER_VALUE: &[u8; CHAP_VALUE_LEN] =
     b"\x08\x05\xdd\xf7\x0c\x92\x51\x6c\x98\x34\x5e\x2e\x8b\x2b\x32\x75\x1a";
 
 // The request of RFC 2865, section 7.2: its CHAP-Password, and the Request Authenticator, which is the challenge.
-const RFC_VALUE: &[u8; CHAP_VALUE_LEN] =
+pub(crate) const RFC_VALUE: &[u8; CHAP_VALUE_LEN] =
     b"\x16\xe9\x75\x57\xc3\x16\x18\x58\x95\xf2\x93\xff\x63\x44\x07\x72\x75";
 
-const RFC_CHALLENGE: &[u8; 16] =
+pub(crate) const RFC_CHALLENGE: &[u8; 16] =
     b"\x2a\xee\x86\xf0\x8d\x0d\x55\x96\x9c\xa5\x97\x8e\x0d\x33\x67\xa2";
 
 // The first 15 octets of the Request Authenticator.

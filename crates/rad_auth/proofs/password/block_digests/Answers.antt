@@ -1,21 +1,19 @@
-use Rattle.std.proofs.Common.{◌∷◌, ◌++◌, List, ℕ, [], get_or, ap, sym, ◌∙◌}
+use Rattle.std.proofs.Common.{◌++◌, List, ℕ, [], get_or, ap, sym, ◌∙◌}
 use Rattle.std.proofs.lemmas.List.{append-nil}
 use Rattle.md5.specs.Md5.{md5}
 use Rattle.rad_md5.specs.Pieces.{message}
 use Rattle.rad_md5.proofs.LaneLemmas.{below_eight}
-use Rattle.rad_auth.specs.Authenticators.{sixteen_zeros}
 use Rattle.rad_auth.specs.PasswordLanes.{block_digest}
-use Rattle.rad_auth.proofs.PasswordLemmas.{before_first, only_block, pad_next}
+use Rattle.rad_auth.proofs.PasswordLemmas.{before_first, pad_next}
 use Rattle.rad_auth.proofs.password.block_digests.Goals as goal
 
 pub returns-then-value-eq-BLOCK_LEN : goal.returns-then-value-eq-BLOCK_LEN
 returns-then-value-eq-BLOCK_LEN c =
     let ra : List ℕ = c.args.request_authenticator.now in
     let secret : List ℕ = c.args.secret.now in
-    let none : List ℕ = sixteen_zeros in
-    let digests : List (List ℕ) = c.block_digest-digest.result ∷ none ∷ none ∷ none ∷ none ∷ none ∷ none ∷ none ∷ [] in
-    λ j lt. only_block digests (block_digest secret ra c.args.value.now) c.args.value.now c.if-value-eq-BLOCK_LEN.true
-    (c.block_digest-digest.ensures ∙ ap (λ (b : List ℕ). md5 (secret ++ b)) (sym (before_first ra c.args.value.now c.told-request_authenticator))) j
+    let value : List ℕ = c.args.value.now in
+    let first = c.block_digest.ensures ∙ ap (λ (b : List ℕ). md5 (secret ++ b)) (sym (before_first ra value c.told-request_authenticator)) in
+    λ j lt. c.alone.ensures (block_digest secret ra value) value c.if-value-eq-BLOCK_LEN.true first j
 
 pub returns : goal.returns
 returns c =

@@ -1,52 +1,10 @@
-use Rattle.std.proofs.Common.{◌≡◌, ◌≤◌, ◌+◌, ◌-◌, ◌*◌, ◌/◌, ◌++◌, List, ℕ, [], length, get_or, take, drop, ap, sym, ◌∙◌, refl, subst, arith}
-use Rattle.std.proofs.lemmas.List.{append-nil}
-use Rattle.std.proofs.lemmas.Slice.{drop-put_mid}
-use borrow.Rule.Slice.PartMut.{mid_len, same_len_mid}
-use Rattle.md5.specs.Md5.{md5}
-use Rattle.rad_auth.specs.PasswordLanes.{block_before}
-use Rattle.rad_auth.specs.Passwords.{IsRevealed}
-use Rattle.rad_auth.proofs.PasswordLemmas.{opened, opened_more, reveals, before_first, before_next, whole_blocks, fits_room}
+use Rattle.std.proofs.Common.{List, ℕ, subst}
+use Rattle.rad_auth.specs.PasswordLanes.{AreBlockDigests}
 use Rattle.rad_auth.proofs.password.reveal.Goals as goal
 
-pub blocks-2-init : goal.blocks-2-init
-blocks-2-init c = record {
-  long = c.told-text;
-  text = ap (λ n. opened c.args.secret.now (block_before c.args.request_authenticator.now c.args.value.now 0) n c.args.value.now) (omega arith)
-      ∙ ap (λ (b : List ℕ). opened c.args.secret.now b (length c.args.value.now / 16) c.args.value.now) (before_first c.args.request_authenticator.now c.args.value.now c.told-request_authenticator);
-  rest = refl;
-}
-
-pub blocks-2-preserved : goal.blocks-2-preserved
-blocks-2-preserved c =
-    let at : ℕ = c.blocks-2.block * 16 in
-    let before : List ℕ = block_before c.args.request_authenticator.now c.args.value.now c.blocks-2.block in
-    let fits : length c.args.value.now ≤ 128 = fits_room c.args.value.now c.requires in
-    let room : at + 16 ≤ length c.blocks-2.text = omega (arith, c.blocks-2-test.true, c.blocks-2.invariant.long, fits) in
-    let mid = mid_len at (at + 16) c.blocks-2.text room in
-    let padded : get_or c.block_digests-digests.result c.blocks-2.block [] ≡ md5 (c.args.secret.now ++ before) =
-    c.block_digests-digests.ensures c.blocks-2.block (omega (arith, c.blocks-2-test.true, fits)) (omega (arith, c.blocks-2-test.true))
-    ∙ ap (λ (secret : List ℕ). md5 (secret ++ before)) c.octets.ensures.value in
-    record {
-      long = same_len_mid _ _ c.blocks-2.text _ c.copy_from_slice.ensures.len ∙ c.blocks-2.invariant.long;
-      text =
-          rw (c.copy_from_slice.ensures.after, before_next c.args.request_authenticator.now c.args.value.now c.blocks-2.block c.told-request_authenticator)
-          (opened_more _ _ _ _ _ _ _ _ _ _ (omega arith) c.blocks-2-test.true (omega arith) (omega (arith, c.blocks-2.invariant.long, fits)) c.xor-opened.ensures padded c.blocks-2.invariant.text);
-      rest =
-          drop-put_mid at (at + 16 - at) c.blocks-2.text _ (length c.args.value.now) (omega (arith, c.blocks-2-test.true)) (omega (arith, room)) (c.copy_from_slice.ensures.len ∙ mid)
-          ∙ c.blocks-2.invariant.rest;
-    }
-
 pub returns-clause-revealed : goal.returns-clause-revealed
-unfolding opened
 returns-clause-revealed c =
-    let n : ℕ = length c.args.value.now / 16 in
-    let whole = whole_blocks c.args.value.now c.requires in
-    let done : n - c.blocks-2.block ≡ 0 = omega (arith, c.blocks-2-test.false) in
-    let end : c.blocks-2.block * 16 ≡ length c.args.value.now = omega (arith, whole, c.blocks-2-test.false, c.blocks-2.auto.block-end) in
-    let before : List ℕ = block_before c.args.request_authenticator.now c.args.value.now c.blocks-2.block in
-    let opened_is : take (length c.args.value.now) c.blocks-2.text ≡ opened c.args.secret.now c.args.request_authenticator.now n c.args.value.now =
-    ap (λ k. take k c.blocks-2.text) (sym end)
-    ∙ sym (append-nil (take (c.blocks-2.block * 16) c.blocks-2.text))
-    ∙ ap (λ k. take (c.blocks-2.block * 16) c.blocks-2.text ++ opened c.args.secret.now before k (drop (c.blocks-2.block * 16) c.args.value.now)) (sym done)
-    ∙ c.blocks-2.invariant.text in
-    subst (IsRevealed c.args.secret.now c.args.request_authenticator.now c.args.value.now) (sym opened_is) (reveals c.args.secret.now c.args.request_authenticator.now n c.args.value.now whole)
+    let value : List ℕ = c.args.value.now in
+    let ra : List ℕ = c.args.request_authenticator.now in
+    c.open_blocks.ensures.revealed c.args.secret.now ra c.told-request_authenticator
+    (subst (λ secret. AreBlockDigests secret ra value c.block_digests-digests.result) c.octets.ensures.value c.block_digests-digests.ensures)
