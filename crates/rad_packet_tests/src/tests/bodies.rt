@@ -168,6 +168,49 @@ fn writes_up_to_4096_octets(rt: HostRuntime) {
     );
 }
 
+// A body of so many attributes of 255 octets.
+fn body_of_longest(alloc: Global, count: usize) -> Result<Body, AllocError> {
+    let mut body = Body::new(alloc, code::ACCESS_CHALLENGE);
+    for _ in 0..count {
+        body.push(79, &[5; attribute::VALUE_MAX])?;
+    }
+    Ok(body)
+}
+
+// A frame with a packet in it refuses so many attributes of 255 octets and one with a Value of so many, and keeps its octets.
+fn is_too_long(
+    alloc: Global,
+    (count, last, size): (usize, usize, usize),
+) -> Result<bool, AllocError> {
+    let last = &[6; attribute::VALUE_MAX][..last.min(attribute::VALUE_MAX)];
+    let over = with(body_of_longest(alloc, count)?, 200, last)?;
+    Ok(over.size() == size && is_refused(alloc, &over) == Ok(true))
+}
+
+fn is_refused(alloc: Global, over: &Body) -> Result<bool, AllocError> {
+    let mut frame = framed(alloc)?;
+    let is_refused = refuses(alloc, 1, &mut frame, over);
+    Ok(is_refused == Ok(true) && frame.octets().len() == 25)
+}
+
+#[test]
+fn refuses_whatever_is_longer(rt: HostRuntime) {
+    // How many attributes of 255 octets there are, how long the Value after them is, and the size of all. With the last two, a
+    // Length of 16 bits would wrap to 19 and to 21.
+    const ROWS: &[(usize, usize, usize)] = &[
+        (15, 250, 4077),
+        (15, 251, 4078),
+        (15, 253, 4080),
+        (16, 0, 4082),
+        (16, 253, 4335),
+        (256, 253, 65_535),
+        (257, 0, 65_537),
+    ];
+    for row in ROWS.iter() {
+        holds(&rt, is_too_long(rt.alloc(), *row), "too long");
+    }
+}
+
 // A refusal with this Reply-Message and then a Proxy-State.
 fn message_and_state(alloc: Global, message: &[u8]) -> Result<Body, AllocError>
     requires { length message.now ≤ value_max }

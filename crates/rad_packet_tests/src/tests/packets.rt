@@ -1,7 +1,7 @@
 //! The request of RFC 2865, section 7.1, and the limits of datagrams.
 
 use super::holds;
-use rad_packet::{Attribute, Packet, ReadFault, attribute, code};
+use rad_packet::{Attribute, HEADER_SIZE, Packet, ReadFault, attribute, code};
 use std::alloc::{AllocError, Global};
 
 const REQUEST: [u8; 56] = *b"\
@@ -98,7 +98,7 @@ type Datagram = (
     Result<usize, ReadFault>,
 );
 
-const DATAGRAMS: [Datagram; 17] = [
+const DATAGRAMS: [Datagram; 18] = [
     ("no octet", 56, b"", 0, Err(ReadFault::Short)),
     ("19 octets", 19, b"", 19, Err(ReadFault::Short)),
     ("Length 19", 19, b"", 5000, Err(ReadFault::BadLength)),
@@ -110,6 +110,13 @@ const DATAGRAMS: [Datagram; 17] = [
         4097,
         b"",
         4096,
+        Err(ReadFault::BadLength),
+    ),
+    (
+        "Length 4097, whole",
+        4097,
+        b"",
+        4097,
         Err(ReadFault::BadLength),
     ),
     ("Length 4096, whole", 4096, b"", 4096, Ok(4096)),
@@ -143,5 +150,44 @@ fn is_read((_, len, more, came, found): Datagram, alloc: Global) -> Result<bool,
 fn reports_the_first_fault(rt: HostRuntime) {
     for row in DATAGRAMS.iter() {
         holds(&rt, is_read(*row, rt.alloc()), row.0);
+    }
+}
+
+// A packet of so many octets, which are the request's header and octets 2: attributes with no Value.
+fn filled(alloc: Global, len: u16) -> Result<Vec<u8>, AllocError> {
+    let mut octets = REQUEST[..HEADER_SIZE].to_vec(alloc)?;
+    octets[2..4].copy_from_slice(&len.to_be_bytes());
+    octets.resize(len as usize, 2)?;
+    Ok(octets)
+}
+
+// How many attributes with no Value a datagram has, if it has no others.
+fn empty_attributes(octets: &[u8]) -> Option<usize> {
+    let packet = Packet::read(octets).ok()?;
+    let mut count: usize = 0;
+    for attribute in packet.attributes() {
+        if !attribute.value.is_empty() {
+            return None;
+        }
+        count = count.saturating_add(1);
+    }
+    Some(count)
+}
+
+fn has_empty_attributes(alloc: Global, len: u16, want: usize) -> Result<bool, AllocError> {
+    let octets = filled(alloc, len)?;
+    Ok(empty_attributes(&octets) == Some(want))
+}
+
+#[test]
+fn reads_as_many_attributes_as_fit(rt: HostRuntime) {
+    const ROWS: &[(u16, usize, &str)] = &[
+        (20, 0, "no attribute"),
+        (22, 1, "one"),
+        (4094, 2037, "one less than fit"),
+        (4096, 2038, "as many as fit"),
+    ];
+    for (len, want, name) in ROWS.iter() {
+        holds(&rt, has_empty_attributes(rt.alloc(), *len, *want), name);
     }
 }
