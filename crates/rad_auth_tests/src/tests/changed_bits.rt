@@ -4,9 +4,12 @@ use super::{
     CLIENT, SIGNED_REQUEST, START, STATUS_SERVER, STRICT_CLIENT, Verdict, holds_at, three_clients,
     verdict_on,
 };
-use rad_auth::Discard::BadMessageAuthenticator;
+use rad_auth::Discard::{
+    BadAttributes, BadAuthenticator, BadLength, BadMessageAuthenticator, NoMessageAuthenticator,
+    Truncated, WrongCode,
+};
 use rad_auth::Door::{Acct, Auth};
-use rad_auth::{Clients, Door};
+use rad_auth::{Clients, Discard, Door};
 use std::process::Abort;
 
 // The most octets of a request that is changed.
@@ -45,6 +48,34 @@ fn no_bit_may_turn(rt: &impl Abort, clients: &Clients, (name, door, octets): Cas
     for bit in 0..octets.len().min(LEN_MAX) * 8 {
         let verdict = verdict_on_turned(clients, STRICT_CLIENT, door, octets, bit);
         holds_at(rt, matches!(verdict, Some(Err(_))), name, bit);
+    }
+}
+
+// How many of the start's bits, each turned alone, have this discard.
+fn bits_with(clients: &Clients, discard: Discard) -> usize {
+    let mut count: usize = 0;
+    for bit in 0..START.len() * 8 {
+        if verdict_on_turned(clients, CLIENT, Acct, START, bit) == Some(Err(discard)) {
+            count = count.saturating_add(1);
+        }
+    }
+    count
+}
+
+// All 208 bits together.
+#[test]
+fn each_bit_of_a_start_has_its_discard(rt: HostRuntime) {
+    const ROWS: &[(Discard, usize)] = &[
+        (BadLength, 6),
+        (Truncated, 9),
+        (BadAttributes, 9),
+        (WrongCode, 7),
+        (BadAuthenticator, 176),
+        (NoMessageAuthenticator, 1),
+    ];
+    let clients = three_clients(&rt, rt.alloc());
+    for (discard, count) in ROWS.iter() {
+        holds_at(&rt, bits_with(&clients, *discard) == *count, "bits", *count);
     }
 }
 

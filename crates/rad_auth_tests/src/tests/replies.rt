@@ -32,7 +32,7 @@ fn an_access_accept_has_the_authenticator_of_the_rfc(rt: HostRuntime) {
     holds(&rt, digest == *want, "the accept");
 }
 
-fn empty_frames(rt: &impl Abort, alloc: Global) -> [Frame; 8] {
+pub(super) fn empty_frames(rt: &impl Abort, alloc: Global) -> [Frame; 8] {
     [
         new_frame(rt, alloc),
         new_frame(rt, alloc),
@@ -52,7 +52,7 @@ fn are_written(rt: &impl Abort, frames: &[Frame; 8], wanted: &[&[u8]; 8]) {
 }
 
 // The lane of a reply that says this body to a request under this secret.
-fn lane<'a>(request: &[u8], body: &'a Body, secret: &'a Secret) -> Option<Job<'a>>
+pub(super) fn lane<'a>(request: &[u8], body: &'a Body, secret: &'a Secret) -> Option<Job<'a>>
     requires { IsReply body.now }
     ensures { IfSome result IsJob }
 {
@@ -65,7 +65,7 @@ fn lane<'a>(request: &[u8], body: &'a Body, secret: &'a Secret) -> Option<Job<'a
     })
 }
 
-const START_REPLY: &[u8; 20] = b"\
+pub(super) const START_REPLY: &[u8; 20] = b"\
     \x05\x07\x00\x14\
     \x17\x1d\xc4\x7b\xc9\x0b\x49\x45\x26\xcf\x68\x25\x3b\xd9\xb4\xa6";
 
