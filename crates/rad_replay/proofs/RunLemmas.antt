@@ -10,8 +10,8 @@ use Rattle.rad_replay.specs.declared.run_fault.RunFault.{RunFault}
 use Rattle.rad_replay.specs.declared.run_fault.RunFault.TheVariants as run
 use Rattle.rad_replay.specs.Configuration.{configuration_of_octets}
 use Rattle.rad_replay.specs.Lines.{Divides, lines_of, onto_first, line_feed, divided, is_divider, is_skipped, datagram_lines, without_return}
-use Rattle.rad_replay.specs.Replays.{EndsLines}
-use Rattle.rad_replay.specs.Transcripts.{IsInput, EndsRun, text_max}
+use Rattle.rad_replay.specs.Replays.{EndsLines, IsReadFault}
+use Rattle.rad_replay.specs.Transcripts.{IsAfterReading, IsAllRead, IsInput, EndsRun, text_max}
 use Rattle.rad_replay.proofs.TranscriptLemmas.{Appends-nil}
 
 -- ---- there are no more lines than octets
@@ -61,6 +61,21 @@ read_all None new text consumed end = tt
 read_all (Some all) None text consumed end = absurd consumed
 read_all (Some all) (Some rest) text consumed end = consumed ∙ ap (λ (more : List ℕ). text ++ more) end ∙ append-nil text
 
+pub is_all_read : (old new : Option (List ℕ)) (text : List ℕ) → Consumes old new text → IsAtEnd new → IsAllRead old new
+is_all_read None new text consumed end = tt
+is_all_read (Some all) None text consumed end = absurd consumed
+is_all_read (Some all) (Some rest) text consumed end = ap Some end
+
+-- what reading reports may come before all was read
+pub before_all_read : (fault : RunFault) → IsReadFault fault → IsAfterReading (Err fault) → ⊥
+before_all_read run.Read is after = after
+before_all_read run.TooLong is after = after
+before_all_read run.NoMemory is after = after
+before_all_read run.NoDivider is after = is
+before_all_read (run.Config reported) is after = is
+before_all_read (run.BadLine number) is after = is
+before_all_read run.Write is after = is
+
 -- ---- the end of a run
 
 pub is_input : (text before after : List ℕ) (configuration : Configuration) → length text ≤ text_max → Divides text before after → configuration_of_octets before ≡ Ok configuration → IsInput text configuration (datagram_lines (lines_of after))
@@ -76,7 +91,7 @@ ends_run text configuration lines old new (Err run.TooLong) input end = absurd e
 ends_run text configuration lines old new (Err run.NoDivider) input end = absurd end
 ends_run text configuration lines old new (Err (run.Config reported)) input end = absurd end
 ends_run text configuration lines old new (Err (run.BadLine number)) input end = (configuration, lines, input, end)
-ends_run text configuration lines old new (Err run.Write) input end = (configuration, lines, input, tt)
+ends_run text configuration lines old new (Err run.Write) input end = (configuration, lines, input, end)
 ends_run text configuration lines old new (Err run.NoMemory) input end = end
 
 -- what holds of the text that was read holds of what the reader had, where that is known

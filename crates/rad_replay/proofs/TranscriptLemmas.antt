@@ -1,12 +1,16 @@
 -- How what is written grows by one line.
-use Rattle.std.proofs.Common.{◌≡◌, ℕ, suc, ◌+◌, ◌≤◌, Bool, true, false, not, ◌||◌, eqb, List, [], ◌∷◌, ◌++◌, length, Option, Some, None, refl, ap, sym, subst, ◌∙◌, arith, inl, inr}
+use Rattle.std.proofs.Common.{◌≡◌, ℕ, suc, ◌+◌, ◌-◌, ◌≤◌, Bool, true, false, not, ◌||◌, eqb, List, [], ◌∷◌, ◌++◌, length, take, drop, Option, Some, None, Err, refl, ap, sym, subst, ◌∙◌, arith, inl, inr}
 use Rattle.std.specs.Io.KnownBytes.{Appends}
 use Rattle.std.proofs.lemmas.Bool.{cases_Bool, eqb-true, eq-eqb, ne_eqb, or_cases}
-use Rattle.std.proofs.lemmas.List.{append_assoc, append-nil, length_push}
+use Rattle.std.proofs.lemmas.List.{append_assoc, append-nil, length_push, take-append-drop, take_rest}
+use Rattle.std.proofs.Math.Seq.{take-append_seam}
 use Rattle.rad_config.specs.Configurations.{Configuration}
 use Rattle.rad_server.specs.States.{State, opening}
+use Rattle.rad_replay.specs.declared.run_fault.RunFault.{RunFault}
+use Rattle.rad_replay.specs.declared.run_fault.RunFault.TheVariants as run
 use Rattle.rad_replay.specs.DatagramLines.{TimedDatagram, datagram_of_line}
-use Rattle.rad_replay.specs.Transcripts.{AnswersLines, datagrams_of, first_malformed, until_malformed, number_if_malformed, is_among, line_of, replay, written}
+use Rattle.rad_replay.specs.Replays.{EndsLines}
+use Rattle.rad_replay.specs.Transcripts.{AnswersLines, BreaksOff, BreaksOffLines, datagrams_of, first_malformed, until_malformed, number_if_malformed, is_among, line_of, replay, written}
 
 -- ---- one more datagram
 
@@ -147,3 +151,34 @@ Appends-then None mid new front back a b = tt
 Appends-then (Some text) None new front back a b = absurd a
 Appends-then (Some text) (Some next) None front back a b = absurd b
 Appends-then (Some text) (Some next) (Some last) front back a b = b ∙ ap (λ (t : List ℕ). t ++ back) a ∙ append_assoc text front back
+
+-- ---- a line in several writes
+
+-- of what was left of a line, the writer took so many octets more
+pub takes_more : (line front left : List ℕ) (count : ℕ) (before mid now : Option (List ℕ)) → line ≡ front ++ left → Appends before mid front → Appends mid now (take count left)
+    → (more : List ℕ) × Appends before now more × (line ≡ more ++ take (length left - count) (drop count left))
+takes_more line front left count before mid now is wrote took =
+    let parts : front ++ left ≡ (front ++ take count left) ++ drop count left =
+    ap (λ (t : List ℕ). front ++ t) (sym (take-append-drop count left)) ∙ sym (append_assoc front (take count left) (drop count left)) in
+    let rest : drop count left ≡ take (length left - count) (drop count left) = sym (take_rest left count) in (
+      front ++ take count left,
+      Appends-then before mid now front (take count left) wrote took,
+      is ∙ parts ∙ ap (λ (t : List ℕ). (front ++ take count left) ++ t) rest,
+    )
+
+-- ---- a writer that fails
+
+-- the line of the last of these datagrams broke off
+pub ends_broken_off : (configuration : Configuration) (lines left : List (List ℕ)) (number : ℕ) (state : State) (text more line : List ℕ) (before mid now : Option (List ℕ)) → Progress configuration lines left number state (text ++ more)
+    → Appends before mid text → line ≡ more → BreaksOff (Appends mid now) line → BreaksOffLines configuration lines (Appends before now)
+ends_broken_off configuration lines left number state text more line before mid now so_far wrote same (front, rest, is, some, last) =
+    let first : take (length so_far.answered) (datagrams_of lines) ≡ so_far.answered =
+    ap (take (length so_far.answered)) so_far.all ∙ take-append_seam so_far.answered (datagrams_of left) in
+    let text_is : written configuration so_far.without (take (length so_far.answered) (datagrams_of lines)) ≡ text ++ more =
+    ap (written configuration so_far.without) first ∙ ap (λ (r : List ℕ × State). r.0) so_far.replayed in
+    let is_front = text_is ∙ ap (λ (t : List ℕ). text ++ t) (sym same ∙ is) ∙ sym (append_assoc text front rest) in
+    (so_far.without, length so_far.answered, (text ++ front, rest, is_front, some, Appends-then before mid now text front wrote last))
+
+pub ends_at_write : (configuration : Configuration) (lines : List (List ℕ)) (before now : Option (List ℕ)) (fault : RunFault) → fault ≡ run.Write → BreaksOffLines configuration lines (Appends before now)
+    → EndsLines configuration lines (Appends before now) (Err fault)
+ends_at_write configuration lines before now fault is broken = subst (λ (f : RunFault). EndsLines configuration lines (Appends before now) (Err f)) (sym is) broken

@@ -8,7 +8,7 @@ use Rattle.rad_replay.specs.declared.run_fault.RunFault.{RunFault}
 use Rattle.rad_replay.specs.declared.run_fault.RunFault.TheVariants as run
 use Rattle.rad_replay.specs.DatagramLines.{TimedDatagram}
 use Rattle.rad_server.specs.States.{State}
-use Rattle.rad_replay.specs.Transcripts.{AnswersLines, answer_line, line_of, line_of_verdict, nomemory_line}
+use Rattle.rad_replay.specs.Transcripts.{AnswersLines, BreaksOffLines, answer_line, line_of, line_of_verdict, nomemory_line}
 use Rattle.rad_server.specs.declared.answer.Answer.{Answer}
 
 -- What a replay keeps from line to line: its configuration, the server's state, and the line of the last datagram.
@@ -43,7 +43,7 @@ datagram_arrived moment arrival = record { moment = moment; datagram = datagram_
 abbrev pub EndsLines : Configuration → List (List ℕ) → (List ℕ → Type 0) → Result Unit RunFault → Type 0
 EndsLines configuration lines Writes (Ok done) = AnswersLines configuration lines Writes None
 EndsLines configuration lines Writes (Err (run.BadLine number)) = AnswersLines configuration lines Writes (Some number)
-EndsLines configuration lines Writes (Err run.Write) = Unit {0}
+EndsLines configuration lines Writes (Err run.Write) = BreaksOffLines configuration lines Writes
 EndsLines configuration lines Writes (Err run.NoMemory) = Writes []
 EndsLines configuration lines Writes (Err run.Read) = ⊥
 EndsLines configuration lines Writes (Err run.TooLong) = ⊥

@@ -1,6 +1,6 @@
 -- What a replay writes for the transcript that it reads: a line for each datagram, in order. A text is a list of octets,
 -- which are numbers below 256, and datagrams are numbered from 1.
-use Rattle.std.specs.Prelude.{◌≡◌, ◌⊎◌, ℕ, ◌+◌, ◌<◌, ◌≤◌, ◌==◌, Bool, true, false, not, List, [], ◌∷◌, ◌++◌, length, replicate, codes, decimal, Option, Some, None, IfSome, Result, Ok, Err}
+use Rattle.std.specs.Prelude.{◌≡◌, ◌⊎◌, ℕ, ◌+◌, ◌<◌, ◌≤◌, ◌==◌, Bool, true, false, not, List, [], ◌∷◌, ◌++◌, length, take, replicate, codes, decimal, Option, Some, None, IfSome, Result, Ok, Err}
 use Rattle.std.specs.List.{list_any}
 use Rattle.std.specs.Int.{w64, to_be_bytes}
 use Rattle.std.specs.Io.KnownBytes.{Consumes}
@@ -118,6 +118,17 @@ text_max = 16777216
 abbrev pub IsAllRead : Option (List ℕ) → Option (List ℕ) → Type 0
 IsAllRead old new = IfSome old (λ text. new ≡ Some [])
 
+-- the ends that are reported only once all was read
+abbrev pub IsAfterReading : Result Unit RunFault → Type 0
+IsAfterReading (Ok done) = Unit {0}
+IsAfterReading (Err run.Read) = ⊥
+IsAfterReading (Err run.TooLong) = ⊥
+IsAfterReading (Err run.NoMemory) = ⊥
+IsAfterReading (Err run.NoDivider) = Unit {0}
+IsAfterReading (Err (run.Config reported)) = Unit {0}
+IsAfterReading (Err (run.BadLine number)) = Unit {0}
+IsAfterReading (Err run.Write) = Unit {0}
+
 -- a reader gave at most so many octets
 abbrev pub GivesAtMost : ℕ → Option (List ℕ) → Option (List ℕ) → Type 0
 GivesAtMost most old new = (octets : List ℕ) × Consumes old new octets × (length octets ≤ most)
@@ -134,12 +145,22 @@ abbrev pub AnswersLines : Configuration → List (List ℕ) → (List ℕ → Ty
 AnswersLines configuration lines Writes malformed =
     (without_memory : List ℕ) × (first_malformed 1 lines ≡ malformed) × Writes (written configuration without_memory (datagrams_of lines))
 
+-- The writing of this text broke off: a front of it was written, and at least one octet wasn't.
+abbrev pub BreaksOff : (List ℕ → Type 0) → List ℕ → Type 0
+BreaksOff Writes text = (front : List ℕ) × (rest : List ℕ) × (text ≡ front ++ rest) × (0 < length rest) × Writes front
+
+-- It broke off in the lines of some first datagrams of those before the first malformed line.
+abbrev pub BreaksOffLines : Configuration → List (List ℕ) → (List ℕ → Type 0) → Type 0
+BreaksOffLines configuration lines Writes =
+    (without_memory : List ℕ) × (count : ℕ) × BreaksOff Writes (written configuration without_memory (take count (datagrams_of lines)))
+
 -- a fact about the configuration and the datagram lines of an input
 abbrev pub OfInput : List ℕ → (Configuration → List (List ℕ) → Type 0) → Type 0
 OfInput text Holds = (configuration : Configuration) × (lines : List (List ℕ)) × IsInput text configuration lines × Holds configuration lines
 
 -- What a run ends with, for an input and what was written. TooLong, NoDivider and Config are reported in this order, and they,
--- Read and NoMemory before any line is answered. Nothing is said of what went out before a Write fault.
+-- Read and NoMemory before any line is answered. Before a Write fault the lines of some first datagrams went out, but for an
+-- end of their text.
 abbrev pub EndsRun : List ℕ → (List ℕ → Type 0) → Result Unit RunFault → Type 0
 EndsRun text Writes (Ok done) = OfInput text (λ configuration lines. AnswersLines configuration lines Writes None)
 EndsRun text Writes (Err run.Read) = Writes []
@@ -149,5 +170,5 @@ EndsRun text Writes (Err (run.Config reported)) =
     (length text ≤ text_max) × (before : List (List ℕ)) × (after : List (List ℕ)) × (divided (lines_of text) ≡ Some (before, after))
     × ((reported ≡ fault.NoMemory) ⊎ (configuration_of_octets (text_of before) ≡ Err reported)) × Writes []
 EndsRun text Writes (Err (run.BadLine number)) = OfInput text (λ configuration lines. AnswersLines configuration lines Writes (Some number))
-EndsRun text Writes (Err run.Write) = OfInput text (λ configuration lines. Unit {0})
+EndsRun text Writes (Err run.Write) = OfInput text (λ configuration lines. BreaksOffLines configuration lines Writes)
 EndsRun text Writes (Err run.NoMemory) = Writes []

@@ -3,7 +3,7 @@ ghost use Rattle.std.specs.Prelude.{◌≡◌, ◌+◌, ◌≤◌, ◌<◌, ◌+
 ghost use Rattle.std.specs.Io.KnownBytes.{Appends, Consumes, IsAtEnd, Keeps};
 ghost use Rattle.rad_replay.specs.Lines.{datagram_lines, lines_of};
 ghost use Rattle.rad_replay.specs.Replays.{EndsLines, IsReadFault};
-ghost use Rattle.rad_replay.specs.Transcripts.{EndsRun, GivesAtMost, IsAllRead, text_max};
+ghost use Rattle.rad_replay.specs.Transcripts.{BreaksOff, EndsRun, GivesAtMost, IsAfterReading, IsAllRead, text_max};
 ghost use Rattle.rad_replay.specs.declared.run_fault.RunFault.TheVariants.{TooLong, NoMemory, Read as ReadFailed, Write as WriteFailed};
 
 use crate::answering::Replay;
@@ -25,9 +25,12 @@ const CHUNK: usize = 8192;
 
 /// Reads a transcript, and writes a line for each datagram.
 ///
-/// `TooLong`, `NoDivider` and `Config` are reported in this order; with these, `Read` and `NoMemory` nothing was written.
-/// With `BadLine` the lines of the datagrams before the malformed line were written. No clause says what was written before
-/// `Write`.
+/// `TooLong`, `NoDivider` and `Config` are reported in this order; with these, `Read` and `NoMemory` nothing was written. With
+/// `BadLine` the lines of the datagrams before the malformed line were written. With `Write` a front of the lines of some first
+/// datagrams was written, which may end inside a line; at least one octet of these lines wasn't.
+///
+/// `Read` and `Write` are reported at the first error of the reader or the writer, even if the call was only interrupted. A
+/// write that takes no octet counts as an error.
 pub fn run_replay<R: Read, W: Write>(
     alloc: Global,
     reader: &mut R,
@@ -35,7 +38,7 @@ pub fn run_replay<R: Read, W: Write>(
 ) -> Result<(), RunFault>
     ensures ends { IfSome (R.remaining reader.old) (λ text.
         EndsRun text (Appends (W.contents writer.old) (W.contents writer.new)) result) }
-    ensures all_read { OnOk result (IsAllRead (R.remaining reader.old) (R.remaining reader.new)) }
+    ensures all_read { IsAfterReading result → IsAllRead (R.remaining reader.old) (R.remaining reader.new) }
     ensures bounded { GivesAtMost (text_max + 1) (R.remaining reader.old) (R.remaining reader.new) }
 {
     let text = read_text(alloc, reader)?;
@@ -134,13 +137,21 @@ fn answer_lines<W: Write>(
     Ok(())
 }
 
+// Writes a line, in as many writes as the writer needs, up to its first error. A write of no octet counts as one.
 fn write_line<W: Write>(writer: &mut W, line: &[u8]) -> Result<(), RunFault>
     ensures written { OnOk result
         (Appends (W.contents writer.old) (W.contents writer.new) line.now) }
     ensures fault { IfErr result (λ fault. fault ≡ WriteFailed) }
+    ensures broken_off { OnErr result
+        (BreaksOff (Appends (W.contents writer.old) (W.contents writer.new)) line.now) }
 {
-    match writer.write_all(line) {
-        Ok(()) => Ok(()),
-        Err(_) => Err(RunFault::Write),
+    let mut rest = line;
+    'writes: while !rest.is_empty() {
+        match writer.write(rest) {
+            Ok(0) => return Err(RunFault::Write),
+            Ok(count) => rest = &rest[count..],
+            Err(_) => return Err(RunFault::Write),
+        }
     }
+    Ok(())
 }

@@ -22,7 +22,7 @@ pub enum RunFault {
     /// The datagram line with this number, counted from 1, is malformed. The lines of the datagrams before it were written.
     #[error("datagram {0} is malformed")]
     BadLine(u64),
-    /// The writer failed.
+    /// The writer failed, or took no octet. A front of the lines of some first datagrams was written.
     #[error("write failed")]
     Write,
     /// Memory was refused. Nothing was written.
