@@ -312,8 +312,8 @@ fn ends_exchange(sent: &Datagram, exchange: &Exchange) -> bool {
         && sent.octets.as_slice() == octets
 }
 
-// Whether a turn ends so, with so many replies. If it isn't all received, no draw is taken and the server is as it was. A second call
-// goes on from that server.
+// Whether a turn ends so, with so many replies. If it isn't all received, no draw is taken and the server is as it was; otherwise it
+// is as after a turn without a fault. A second call goes on from that server.
 fn fails<R: Threads + Wait + Sync>(
     rt: &R,
     alloc: Global,
@@ -325,11 +325,12 @@ fn fails<R: Threads + Wait + Sync>(
     ports.fail_at(row.0);
     let mut random = random();
     let ended = serve(rt, service, &mut ports, &mut random, 1);
-    let made = made(row);
+    let asked = asked(row);
     have_come
         && ends(&ports, ended, row)
-        && keeps(service, made)
-        && is_after(random, made)
+        && keeps(service, asked.len())
+        && is_as_after(rt, alloc, service, asked)
+        && is_after(random, asked.len())
         && goes_on(rt, alloc, service, &mut ports, row)
 }
 
@@ -342,8 +343,8 @@ fn keeps(service: &Service, count: usize) -> bool {
     kept == count
 }
 
-// Whether a second call, in which one more request comes, leads to the server of one call without a fault, of those datagrams that the
-// first call didn't drop.
+// Whether a second call, to which one more request comes, answers what is left, and leads to the server of one call without a fault, of
+// those datagrams that the first call didn't drop. Nothing fails once more.
 fn goes_on<R: Threads + Wait + Sync>(
     rt: &R,
     alloc: Global,
@@ -352,23 +353,30 @@ fn goes_on<R: Threads + Wait + Sync>(
     row: &Failing,
 ) -> bool {
     let has_come = all_come(alloc, ports, &FOUR[3..]);
-    ports.fail_at(0);
+    if row.1.is_ok() {
+        ports.fail_at(0);
+    }
     let ended = serve(rt, service, ports, &mut random(), 1);
-    has_come && ended.is_ok() && is_as_after(rt, alloc, service, dropped(row))
+    let kept = FOUR.get(dropped(row)..).unwrap_or(FOUR);
+    let left = kept.len().saturating_sub(asked(row).len()) as u64;
+    has_come
+        && is_sum(ended, 1, left, left, 0)
+        && has_failed(ports, row)
+        && is_as_after(rt, alloc, service, kept)
 }
 
-// Whether a server is as one that was asked these four, but the first so many.
+// Whether a server is as one that was asked these in one turn without a fault.
 fn is_as_after<R: Threads + Wait + Sync>(
     rt: &R,
     alloc: Global,
     service: &Service,
-    dropped: usize,
+    asked: &[Sent],
 ) -> bool {
     let Ok(mut other) = Service::open(alloc, service.server().config()) else {
         return false;
     };
     let mut ports = MemoryPorts::new(alloc);
-    let have_come = all_come(alloc, &mut ports, FOUR.get(dropped..).unwrap_or(FOUR));
+    let have_come = all_come(alloc, &mut ports, asked);
     let ended = serve(rt, &mut other, &mut ports, &mut random(), 1);
     have_come && ended.is_ok() && other.server().same(service.server())
 }
@@ -381,20 +389,23 @@ fn dropped(row: &Failing) -> usize {
     }
 }
 
-// How many entries a turn has that ends so.
-fn made(row: &Failing) -> usize {
+// What the server of a turn that ends so was asked.
+fn asked(row: &Failing) -> &'static [Sent] {
     match row.1 {
-        Err(ServeFault::Receive) => 0,
-        _ => 3,
+        Err(ServeFault::Receive) => &FOUR[..0],
+        _ => &FOUR[..3],
     }
 }
 
 // Whether turns end as a row says.
 fn ends(ports: &MemoryPorts, ended: Result<Served, ServeFault>, row: &Failing) -> bool {
     let (_, wanted, replies, _) = *row;
-    ended.map(|_served| ()) == wanted
-        && ports.sent().len() == replies
-        && (ports.faults() == 1) == wanted.is_err()
+    ended.map(|_served| ()) == wanted && ports.sent().len() == replies && has_failed(ports, row)
+}
+
+// Whether ports have failed once, or not at all where no call is to fail.
+fn has_failed(ports: &MemoryPorts, row: &Failing) -> bool {
+    ports.faults() == row.1.is_err() as u64
 }
 
 /// Requests of four users. The last one comes to the second call.
