@@ -14,7 +14,8 @@ use crate::opened::Opened;
 use crate::pass::Pass;
 use crate::settling::{Closed, compare};
 use rad_auth::Request;
-use rad_server::Server;
+use rad_packet::Octets;
+use rad_server::{Ask, Prepared, Server};
 use std::alloc::{AllocError, Global};
 use std::sync::ledger::{Blank, Share};
 use std::sync::{Mutex, Wait};
@@ -25,7 +26,7 @@ pub const PASSES_MAX: u64 = 8;
 /// One server that many threads ask, each with a pass.
 #[derive(Drop)]
 pub struct Desk<'c, L: Opened> {
-    // The server as it was when the desk opened; only `close` reads it.
+    // The server as it was when the desk opened.
     opening: Server<'c>,
     lock: Mutex<Locked<'c, L>>,
     ghost opened: { opening ≡ L.opening },
@@ -74,7 +75,10 @@ impl<'c, L: Opened> Desk<'c, L> {
         ensures asked { OnOk result (AddsReceipt tag request.now moment draw.now pass.old pass.new) }
         ensures unchanged { OnErr result (pass.new ≡ pass.old) }
     {
-        pass.ask(rt, &self.lock, tag, request, moment, draw)
+        let octets = Octets::of(pass.alloc(), request.packet.octets())?;
+        let prepared = Prepared::of(self.opening.config(), request);
+        let ask = Ask::new(tag, &prepared, &octets, moment, draw);
+        pass.ask(rt, &self.lock, ask)
     }
 
     /// Closes the desk, and compares its history with the server given and with the receipts of the passes.

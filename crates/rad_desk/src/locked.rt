@@ -1,17 +1,12 @@
 //! What lies under the desk's lock.
-ghost use Rattle.std.specs.Prelude.{◌≡◌, ◌≤◌, ◌+◌, [], length, OnErr, OnOk, IfOk};
-ghost use Rattle.rad_auth.specs.Admission.{IsAdmitted};
-ghost use Rattle.rad_config.specs.Spans.{moment_max};
-ghost use Rattle.rad_packet.specs.Packets.{packet_octets};
+ghost use Rattle.std.specs.Prelude.{◌≡◌, ◌+◌, [], length, OnErr, OnOk, IfOk};
 ghost use Rattle.rad_server.specs.Runs.{IsAsked, IsHistory};
 ghost use Rattle.rad_server.specs.Steps.{IsSealable};
 ghost use Rattle.rad_desk.specs.Desks.{Appends};
 
 use crate::opened::Opened;
 use crate::receipt::Receipt;
-use rad_auth::Request;
-use rad_packet::Octets;
-use rad_server::{Entry, Server, exchange};
+use rad_server::{Ask, Entry, Server, exchange};
 use std::alloc::AllocError;
 use std::marker::Model;
 use std::sync::ledger::{self, Share};
@@ -68,23 +63,13 @@ impl<'c, L: Opened> Locked<'c, L> {
 
     /// One exchange, which the share counts.
     ///
-    /// The octets are those of the request up to Length. If memory is refused, nothing has changed.
-    pub fn exchange(
-        &mut self,
-        share: &mut Share<L>,
-        tag: u64,
-        request: &Request,
-        octets: Octets,
-        moment: u64,
-        draw: &[u8; 16],
-    ) -> Result<Receipt, AllocError>
+    /// If memory is refused, nothing has changed.
+    pub fn exchange(&mut self, share: &mut Share<L>, ask: Ask) -> Result<Receipt, AllocError>
         requires part { share.old.parts ≡ 1 }
-        requires moment { moment ≤ moment_max }
-        requires admitted { IsAdmitted L.opening.configuration.clients request.now }
-        requires octets { octets ≡ packet_octets request.now.packet }
+        requires configuration { ask.prepared.now.configuration ≡ L.opening.configuration }
         ensures appended { IfOk result (Appends self.old.history self.new.history) }
-        ensures asked { IfOk result (λ receipt.
-            IsAsked tag request.now moment draw.now receipt.entry) }
+        ensures asked { IfOk result (λ receipt. IsAsked ask.entry.tag ask.entry.prepared.now.request
+            ask.entry.moment ask.entry.draw.now receipt.entry) }
         ensures sealable { IfOk result (λ receipt. IsSealable receipt.entry.answer) }
         ensures counted { OnOk result (share.new.amount ≡ share.old.amount + 1) }
         ensures parts { share.new.parts ≡ 1 }
@@ -98,7 +83,7 @@ impl<'c, L: Opened> Locked<'c, L> {
             rest: _,
         } = self;
         let place = history.len() as u64;
-        let entry = exchange(server, history, tag, request, octets, moment, draw)?;
+        let entry = exchange(server, history, ask)?;
         total.add(share, 1);
         Ok(Receipt { place, entry })
     }

@@ -1,14 +1,11 @@
 //! Passes.
-ghost use Rattle.std.specs.Prelude.{◌≡◌, ◌≤◌, [], length, OnErr, OnOk};
-ghost use Rattle.rad_auth.specs.Admission.{IsAdmitted};
-ghost use Rattle.rad_config.specs.Spans.{moment_max};
+ghost use Rattle.std.specs.Prelude.{◌≡◌, [], length, OnErr, OnOk};
 ghost use Rattle.rad_desk.specs.Passes.{AddsReceipt};
 
 use crate::locked::Locked;
 use crate::opened::Opened;
 use crate::receipt::Receipt;
-use rad_auth::Request;
-use rad_packet::Octets;
+use rad_server::Ask;
 use std::alloc::{AllocError, Global};
 use std::marker::Model;
 use std::sync::ledger::Share;
@@ -56,6 +53,11 @@ impl<L: Opened> Pass<L> {
         self.receipts.as_slice()
     }
 
+    /// Where its memory comes from.
+    pub(crate) fn alloc(&self) -> Global {
+        self.alloc
+    }
+
     /// The share, which counts the receipts.
     pub(crate) fn into_share(self) -> Share<L>
         ensures one { result.parts ≡ 1 }
@@ -70,25 +72,21 @@ impl<L: Opened> Pass<L> {
         &mut self,
         rt: &R,
         lock: &Mutex<Locked<'c, L>>,
-        tag: u64,
-        request: &Request,
-        moment: u64,
-        draw: &[u8; 16],
+        ask: Ask,
     ) -> Result<(), AllocError>
-        requires moment { moment ≤ moment_max }
-        requires admitted { IsAdmitted L.opening.configuration.clients request.now }
-        ensures asked { OnOk result (AddsReceipt tag request.now moment draw.now self.old self.new) }
+        requires { ask.prepared.now.configuration ≡ L.opening.configuration }
+        ensures asked { OnOk result (AddsReceipt ask.entry.tag ask.entry.prepared.now.request
+            ask.entry.moment ask.entry.draw.now self.old self.new) }
         ensures unchanged { OnErr result (self.new ≡ self.old) }
     {
         let Pass {
-            alloc,
             receipts,
             share,
+            ..
         } = self;
-        let octets = Octets::of(*alloc, request.packet.octets())?;
         receipts.reserve(1)?;
         let mut locked = lock.lock(rt);
-        let receipt = locked.exchange(share, tag, request, octets, moment, draw)?;
+        let receipt = locked.exchange(share, ask)?;
         receipts.push_reserved(receipt);
         Ok(())
     }

@@ -1,6 +1,10 @@
 -- What a batch knows of its lanes.
 use Rattle.std.proofs.Common.{◌≡◌, ◌⊎◌, ◌<◌, ℕ, zero, suc, ◌+◌, ◌*◌, List, [], ◌∷◌, ◌++◌, length, map, replicate, get_or, All, Option, Some, None, IfSome, option_map, slice_get, arith, inl, inr, refl, sym, ap, subst, ◌∙◌, length-append}
-use Rattle.std.proofs.lemmas.Option.{get_or_from_slice_get, none-some, slice_get-get_or, slice_get-map, slice_get_within}
+use Rattle.std.proofs.lemmas.Option.{get_or_from_slice_get, none-some, slice_get-get_or, slice_get-map, slice_get_read, slice_get_within}
+use Rattle.std.proofs.lemmas.List.{length-map}
+use Rattle.rad_packet.specs.Packets.{packet_octets}
+use Rattle.rad_config.specs.Configurations.{Configuration}
+use Rattle.rad_server.specs.Prepared.{Prepared, prepared_in}
 use Rattle.rad_auth.specs.Admission.{HoldsAdmitted, admission, lane_admission}
 use Rattle.rad_auth.specs.Clients.{Client}
 use Rattle.rad_auth.specs.Datagrams.{datagram_of}
@@ -9,7 +13,7 @@ use Rattle.rad_auth.specs.declared.arrival.Arrival.{Arrival}
 use Rattle.rad_auth.specs.declared.job.Job.{Job}
 use Rattle.rad_desk.specs.declared.receipt.Receipt.{Receipt}
 use Rattle.rad_server.specs.declared.entry.Entry.{Entry}
-use Rattle.rad_round.specs.Works.{AreAskedOf, AreSealed, AreVerdicts, CheckedBatch, IsAskedOf, IsChecked, IsJobIn, IsLane, IsVerdict, PutsLanes, Verdict, entry_of, unasked}
+use Rattle.rad_round.specs.Works.{AreAskedOf, AreSealed, AreVerdicts, CheckedBatch, HasOctets, IsAskedOf, IsChecked, IsJobIn, IsLane, IsReady, IsVerdict, PutsLanes, Verdict, entry_of, unasked}
 use Rattle.rad_round.specs.Rounds.{IsSentAs}
 use Rattle.rad_server.specs.Steps.{IsSealable}
 use Rattle.rad_auth.specs.declared.arrival.Request.{Request}
@@ -49,6 +53,12 @@ verdicts_of clients arrivals first lanes verdicts are from admitted lane verdict
         sym (some_is (lane_admission clients arrival) verdict (ap (option_map (lane_admission clients)) (sym is) ∙ mapped))
         ∙ ap (lane_admission clients) (from lane arrival is) ∙ of_arrival (slice_get arrivals (first + lane))
 
+-- the requests among the verdicts of a batch are admitted
+pub all_admitted : (clients : List Client) (arrivals : List Timed) (first : ℕ) (verdicts : List Verdict) → AreVerdicts clients arrivals first verdicts
+    → All (HoldsAdmitted clients) verdicts
+all_admitted clients arrivals first verdicts are lane d within =
+    (are lane (get_or verdicts lane d) (slice_get-get_or verdicts lane d within)).admitted
+
 -- ---- sealing
 
 -- the frames into which the jobs of all lanes are sealed have the replies
@@ -69,7 +79,7 @@ pub record PutBelow (batch : CheckedBatch) (entries : List (Option Entry)) (lane
   pub last : after ≡ before ++ outcomes
   pub count : length outcomes ≡ lane
   pub each : (place : ℕ) (outcome : Option Outcome) (entry : Option Entry) → slice_get outcomes place ≡ Some outcome
-      → slice_get entries place ≡ Some entry → IsLane batch.clients batch.arrivals (batch.number * 8 + place) outcome entry
+      → slice_get entries place ≡ Some entry → IsLane batch.configuration.clients batch.arrivals (batch.number * 8 + place) outcome entry
 
 pub put_none : (batch : CheckedBatch) (entries : List (Option Entry)) (before : List (Option Outcome)) → PutBelow batch entries 0 before before
 put_none batch entries before = record {
@@ -89,7 +99,7 @@ join (x ∷ xs) ys zs = ap (λ l. x ∷ l) (join xs ys zs)
 
 pub put_more : (batch : CheckedBatch) (entries : List (Option Entry)) (lane : ℕ) (before now after : List (Option Outcome)) (outcome : Option Outcome)
     → PutBelow batch entries lane before now → after ≡ now ++ outcome ∷ []
-    → ((entry : Option Entry) → slice_get entries lane ≡ Some entry → IsLane batch.clients batch.arrivals (batch.number * 8 + lane) outcome entry)
+    → ((entry : Option Entry) → slice_get entries lane ≡ Some entry → IsLane batch.configuration.clients batch.arrivals (batch.number * 8 + lane) outcome entry)
     → PutBelow batch entries (lane + 1) before after
 put_more batch entries lane before now after outcome put is own = record {
   outcomes = put.outcomes ++ outcome ∷ [];
@@ -100,16 +110,16 @@ put_more batch entries lane before now after outcome put is own = record {
   where
     pick : (place : ℕ) (each : Option Outcome) (entry : Option Entry) → slice_get entries place ≡ Some entry
         → (slice_get put.outcomes place ≡ Some each) ⊎ ((j : ℕ) × (place ≡ length put.outcomes + j) × (slice_get (outcome ∷ []) j ≡ Some each))
-        → IsLane batch.clients batch.arrivals (batch.number * 8 + place) each entry
+        → IsLane batch.configuration.clients batch.arrivals (batch.number * 8 + place) each entry
     pick place each entry there (inl old) = put.each place each entry old there
     pick place each entry there (inr new) = last new.0 new.1 new.2
       where
         last : (j : ℕ) → place ≡ length put.outcomes + j → slice_get (outcome ∷ []) j ≡ Some each
-            → IsLane batch.clients batch.arrivals (batch.number * 8 + place) each entry
+            → IsLane batch.configuration.clients batch.arrivals (batch.number * 8 + place) each entry
         last zero at one =
             let same : place ≡ lane = omega (arith, at, put.count) in
-            subst (λ n. IsLane batch.clients batch.arrivals (batch.number * 8 + n) each entry) (sym same)
-            (subst (λ o. IsLane batch.clients batch.arrivals (batch.number * 8 + lane) o entry) (some_is outcome each one)
+            subst (λ n. IsLane batch.configuration.clients batch.arrivals (batch.number * 8 + n) each entry) (sym same)
+            (subst (λ o. IsLane batch.configuration.clients batch.arrivals (batch.number * 8 + lane) o entry) (some_is outcome each one)
             (own entry (subst (λ n. slice_get entries n ≡ Some entry) same there)))
         last (suc j) at one = absurd (none-some each one)
 
@@ -192,11 +202,11 @@ verdict_in clients arrivals number verdicts lane verdict checked within is =
 
 -- a batch that contracts see is checked
 abbrev pub IsCheckedBatch : CheckedBatch → Type 0
-IsCheckedBatch batch = IsChecked batch.clients batch.arrivals batch.number batch.verdicts
+IsCheckedBatch batch = IsChecked batch.configuration.clients batch.arrivals batch.number batch.verdicts
 
 -- the verdict in a lane of which nothing was read
 some_verdict : (batch : CheckedBatch) (lane : ℕ) → IsCheckedBatch batch → lane < 8
-    → (verdict : Verdict) × (slice_get batch.verdicts lane ≡ Some verdict) × IsVerdict batch.clients batch.arrivals (batch.number * 8 + lane) verdict
+    → (verdict : Verdict) × (slice_get batch.verdicts lane ≡ Some verdict) × IsVerdict batch.configuration.clients batch.arrivals (batch.number * 8 + lane) verdict
 some_verdict batch lane checked within =
     let verdict = get_or batch.verdicts lane None in
     let at : slice_get batch.verdicts lane ≡ Some verdict = slice_get-get_or batch.verdicts lane None (omega (arith, within, checked.lanes)) in
@@ -206,12 +216,12 @@ some_verdict batch lane checked within =
 pub lane_of : (batch : CheckedBatch) (asked : List (Option Receipt)) (lane : ℕ) (receipt : Receipt) (outcome : Outcome) → IsCheckedBatch batch → lane < 8
     → AreAskedOf batch asked → slice_get asked lane ≡ Some (Some receipt)
     → ((verdict : Verdict) (is : IsAskedOf batch.arrivals (batch.number * 8 + lane) verdict receipt) → slice_get batch.verdicts lane ≡ Some verdict
-    → IsSentAs batch.clients is.request receipt.entry.answer outcome)
-    → IsLane batch.clients batch.arrivals (batch.number * 8 + lane) (Some outcome) (Some receipt.entry)
+    → IsSentAs batch.configuration.clients is.request receipt.entry.answer outcome)
+    → IsLane batch.configuration.clients batch.arrivals (batch.number * 8 + lane) (Some outcome) (Some receipt.entry)
 lane_of batch asked lane receipt outcome checked within are at sent =
     let said = some_verdict batch lane checked within in
     let is = are.1 lane said.0 (Some receipt) said.1 at in
-    asked_lane batch.clients batch.arrivals (batch.number * 8 + lane) said.0 receipt outcome said.2 is (sent said.0 is said.1)
+    asked_lane batch.configuration.clients batch.arrivals (batch.number * 8 + lane) said.0 receipt outcome said.2 is (sent said.0 is said.1)
 
 -- the receipt that was read in a lane
 pub receipt_at : (asked : List (Option Receipt)) (lane : ℕ) (read receipt : Option Receipt) → read ≡ get_or asked lane read
@@ -223,7 +233,7 @@ pub sealable_in : (batch : CheckedBatch) (asked : List (Option Receipt)) (lane :
     → AreAskedOf batch asked → read ≡ get_or asked lane read → IfSome read (λ receipt. IsSealable receipt.entry.answer)
 sealable_in batch asked lane read checked within are is = by read (are.1 lane said.0 read said.1 at)
   where
-    said : (verdict : Verdict) × (slice_get batch.verdicts lane ≡ Some verdict) × IsVerdict batch.clients batch.arrivals (batch.number * 8 + lane) verdict
+    said : (verdict : Verdict) × (slice_get batch.verdicts lane ≡ Some verdict) × IsVerdict batch.configuration.clients batch.arrivals (batch.number * 8 + lane) verdict
     said = some_verdict batch lane checked within
 
     at : slice_get asked lane ≡ Some read
@@ -233,3 +243,55 @@ sealable_in batch asked lane read checked within are is = by read (are.1 lane sa
         → IfSome receipt (λ r. IsSealable r.entry.answer)
     by None asked_of = tt
     by (Some r) asked_of = asked_of.sealable
+
+-- ---- what is asked
+
+-- the request of a verdict
+the_request : (asked request : Request) → (admitted : Verdict) → admitted ≡ Some (Ok asked) → admitted ≡ Some (Ok request) → request ≡ asked
+the_request asked request admitted is same = cc
+
+-- what a lane with a prepared request and with octets says
+pub record IsLaneReady (configuration : Configuration) (verdicts : List Verdict) (lane : ℕ) (prepared : Prepared) (octets : List ℕ) : Type 0 where
+  pub configuration_is : prepared.configuration ≡ configuration
+  pub octets_are : octets ≡ packet_octets prepared.request.packet
+  pub verdict_is : (verdict : Verdict) → slice_get verdicts lane ≡ Some verdict → verdict ≡ Some (Ok prepared.request)
+
+pub lane_ready : (configuration : Configuration) (arrivals : List Timed) (number : ℕ) (verdicts : List Verdict) (prepared : List (Option Prepared))
+    (octets : List (Option (List ℕ))) (lane : ℕ) (read : Option Prepared) (own : Option (List ℕ)) (request : Prepared) (some : List ℕ)
+    → IsReady configuration arrivals number verdicts prepared octets → lane < 8 → read ≡ get_or prepared lane read → own ≡ get_or octets lane own
+    → read ≡ Some request → own ≡ Some some → IsLaneReady configuration verdicts lane request some
+lane_ready configuration arrivals number verdicts prepared octets lane read own request some ready within read_is own_is is has =
+    by verdict at (sym mapped) (ready.octets_are lane verdict (Some some) at there)
+  where
+    verdict : Verdict
+    verdict = get_or verdicts lane None
+
+    at : slice_get verdicts lane ≡ Some verdict
+    at = slice_get-get_or verdicts lane None (omega (arith, within, ready.checked.lanes))
+
+    long : 8 ≡ length prepared
+    long = sym (ap length ready.prepared_are ∙ length-map verdicts (prepared_in configuration) ∙ ready.checked.lanes)
+
+    there : slice_get octets lane ≡ Some (Some some)
+    there = slice_get_read octets 8 lane own (sym ready.octet_lanes) within own_is ∙ ap Some has
+
+    mapped : Some request ≡ prepared_in configuration verdict
+    mapped =
+        some_is (Some request) (prepared_in configuration verdict)
+        (sym (slice_get_read prepared 8 lane read long within read_is ∙ ap Some is)
+        ∙ ap (λ list. slice_get list lane) ready.prepared_are ∙ slice_get-map (prepared_in configuration) verdicts lane ∙ ap (option_map (prepared_in configuration)) at)
+
+    of : (asked : Request) → slice_get verdicts lane ≡ Some (Some (Ok asked)) → request ≡ record { configuration = configuration; request = asked }
+        → HasOctets (Some (Ok asked)) some → IsLaneReady configuration verdicts lane request some
+    of asked at_lane same octets_of = record {
+      configuration_is = ap (λ p. p.configuration) same;
+      octets_are = octets_of.octets_are ∙ ap (λ r. packet_octets r.packet) (the_request asked octets_of.request (Some (Ok asked)) refl octets_of.verdict_is ∙ sym (ap (λ p. p.request) same));
+      verdict_is = λ v there_is. some_is v (Some (Ok asked)) (sym there_is ∙ at_lane) ∙ ap (λ r. Some (Ok r)) (sym (ap (λ p. p.request) same));
+    }
+
+    by : (v : Verdict) → slice_get verdicts lane ≡ Some v → prepared_in configuration v ≡ Some request → IfSome (Some some) (HasOctets v)
+        → IsLaneReady configuration verdicts lane request some
+    by None at_lane none octets_of = absurd cc
+    by (Some (Err discard)) at_lane none octets_of = absurd cc
+    by (Some (Ok asked)) at_lane same octets_of =
+        of asked at_lane (some_is request (record { configuration = configuration; request = asked }) (sym same)) octets_of

@@ -1,13 +1,17 @@
 -- What is asked under the lock.
-use Rattle.std.proofs.Common.{◌≡◌, ◌≢◌, ◌⊎◌, ◌<◌, ℕ, zero, suc, ◌+◌, List, [], ◌∷◌, ◌++◌, length, get_or, set, take, replicate, Option, Some, None, IfSome, slice_get, arith, inl, inr, refl, sym, ap, subst, ◌∙◌, length-append}
+use Rattle.std.proofs.Common.{◌≡◌, ◌≢◌, ◌⊎◌, ◌<◌, ℕ, zero, suc, ◌+◌, ◌*◌, List, [], ◌∷◌, ◌++◌, length, set, take, replicate, Option, Some, None, IfSome, slice_get, arith, inl, inr, refl, sym, ap, subst, ◌∙◌, length-append}
+use Rattle.std.proofs.Common.{Result, Ok, Err, IfOk}
+use Rattle.std.specs.Result.{result_ok}
 use Rattle.std.proofs.lemmas.List.{append_assoc}
 use Rattle.std.proofs.lemmas.Option.{none-some}
 use Rattle.rad_desk.specs.declared.receipt.Receipt.{Receipt}
 use Rattle.rad_server.specs.declared.entry.Entry.{Entry}
-use Rattle.rad_round.specs.Works.{AreAsked, IsAskedOf, Verdict, entries_in, entry_of, somes}
+use Rattle.rad_server.specs.Runs.{IsAsked}
+use Rattle.rad_server.specs.Steps.{IsSealable}
+use Rattle.rad_server.specs.declared.ask.Ask.{Ask}
+use Rattle.rad_round.specs.Works.{AreAsked, CheckedBatch, IsAskIn, IsAskedIn, IsAskedOf, Verdict, entries_in, entry_of, somes}
 use Rattle.rad_round.specs.declared.timed.Timed.{Timed}
 use Rattle.rad_round.proofs.ListLemmas.{get_set, some_is}
-use Rattle.rad_round.proofs.BatchLemmas.{the_read}
 
 -- no lane is asked yet
 pub none_asked : (arrivals : List Timed) (first : ℕ) (verdicts : List Verdict) (asked : List (Option Receipt)) → asked ≡ replicate 8 None
@@ -21,18 +25,40 @@ none_asked arrivals first verdicts asked are lane verdict receipt at there =
     nothing (suc count) (suc k) r is = nothing count k r is
 
 -- one more lane is asked
-pub asked_more : (arrivals : List Timed) (first : ℕ) (verdicts : List Verdict) (asked : List (Option Receipt)) (lane : ℕ) (read : Verdict)
-    (receipt : Option Receipt) → AreAsked arrivals first verdicts asked → read ≡ get_or verdicts lane read
-    → IfSome receipt (IsAskedOf arrivals (first + lane) read) → AreAsked arrivals first verdicts (set asked lane receipt)
-asked_more arrivals first verdicts asked lane read receipt before is own k verdict r at there = pick (get_set asked lane k receipt r there)
+pub asked_more : (batch : CheckedBatch) (asked : List (Option Receipt)) (lane : ℕ) (receipt : Option Receipt)
+    → AreAsked batch.arrivals (batch.number * 8) batch.verdicts asked → IfSome receipt (IsAskedIn batch lane)
+    → AreAsked batch.arrivals (batch.number * 8) batch.verdicts (set asked lane receipt)
+asked_more batch asked lane receipt before own k verdict r at there = pick (get_set asked lane k receipt r there)
   where
-    pick : ((k ≡ lane) × (receipt ≡ r)) ⊎ ((k ≢ lane) × (slice_get asked k ≡ Some r)) → IfSome r (IsAskedOf arrivals (first + k) verdict)
+    in_lane : (o : Option Receipt) → IfSome o (IsAskedIn batch lane) → (v : Verdict) → slice_get batch.verdicts lane ≡ Some v
+        → IfSome o (IsAskedOf batch.arrivals (batch.number * 8 + lane) v)
+    in_lane None is v at = tt
+    in_lane (Some o) is v at = is v at
+
+    pick : ((k ≡ lane) × (receipt ≡ r)) ⊎ ((k ≢ lane) × (slice_get asked k ≡ Some r)) → IfSome r (IsAskedOf batch.arrivals (batch.number * 8 + k) verdict)
     pick (inr old) = before k verdict r at old.1
     pick (inl new) =
-        let same : verdict ≡ read = the_read verdicts lane read verdict is (subst (λ n. slice_get verdicts n ≡ Some verdict) new.0 at) in
-        subst (λ n. IfSome r (IsAskedOf arrivals (first + n) verdict)) (sym new.0)
-        (subst (λ v. IfSome r (IsAskedOf arrivals (first + lane) v)) (sym same)
-        (subst (λ o. IfSome o (IsAskedOf arrivals (first + lane) read)) new.1 own))
+        subst (λ n. IfSome r (IsAskedOf batch.arrivals (batch.number * 8 + n) verdict)) (sym new.0)
+        (subst (λ o. IfSome o (IsAskedOf batch.arrivals (batch.number * 8 + lane) verdict)) new.1
+        (in_lane receipt own verdict (subst (λ n. slice_get batch.verdicts n ≡ Some verdict) new.0 at)))
+
+-- what was asked in a lane is the request of its arrival
+pub asked_in : (batch : CheckedBatch) (lane : ℕ) (ask : Ask) (o : Option Receipt) → IsAskIn batch lane ask
+    → IfSome o (λ receipt. IsAsked ask.tag ask.prepared.now.request ask.moment ask.draw.now receipt.entry)
+    → IfSome o (λ receipt. IsSealable receipt.entry.answer) → IfSome o (IsAskedIn batch lane)
+asked_in batch lane ask None is asked sealable = tt
+asked_in batch lane ask (Some receipt) is asked sealable = λ verdict at.
+    let of = is.of verdict at in
+    record {
+      request = ask.prepared.now.request;
+      verdict_is = of.verdict_is;
+      timed = of.timed;
+      arrival = of.arrival;
+      asked = subst (λ tag. IsAsked tag ask.prepared.now.request of.timed.moment of.timed.draw receipt.entry) of.tag
+          (subst (λ moment. IsAsked ask.tag ask.prepared.now.request moment of.timed.draw receipt.entry) of.moment
+          (subst (λ draw. IsAsked ask.tag ask.prepared.now.request ask.moment draw receipt.entry) of.draw asked));
+      sealable = sealable;
+    }
 
 take_set : {A : Type 0} (xs : List A) (k : ℕ) (x : A) → k < length xs → take (suc k) (set xs k x) ≡ take k xs ++ x ∷ []
 take_set [] k x within = absurd (omega (arith, within))
@@ -81,3 +107,8 @@ all_entries asked lane is = subst (λ n. take n asked ≡ asked) is (whole asked
     whole : (xs : List (Option Receipt)) → take (length xs) xs ≡ xs
     whole [] = refl
     whole (x ∷ xs) = ap (λ l. x ∷ l) (whole xs)
+
+-- what holds of a result that is good holds where it is an option
+pub asked_ok : (P : Receipt → Type 0) {E : Type 0} (r : Result Receipt E) (o : Option Receipt) → o ≡ result_ok r → IfOk r P → IfSome o P
+asked_ok P (Ok receipt) o is holds = subst (λ x. IfSome x P) (sym is) holds
+asked_ok P (Err fault) o is holds = subst (λ x. IfSome x P) (sym is) tt

@@ -37,7 +37,7 @@ answers_push (first ∷ rest) last lanes more is eight =
 -- a batch is answered, and put last
 pub adds_of : (clients : List Client) (arrivals : List Timed) (number : ℕ) (batch : CheckedBatch) (ticket : Option (Taking Entry))
     (claimed longer : List Claimed) (lanes more : List (Option Outcome)) (seat : Option ClaimSeat) (parts parts_then amount amount_then room room_then : ℕ)
-    → batch.clients ≡ clients → batch.arrivals ≡ arrivals → batch.number ≡ number → number * 8 < arrivals_max → length lanes ≡ length claimed * 8
+    → batch.configuration.clients ≡ clients → batch.arrivals ≡ arrivals → batch.number ≡ number → number * 8 < arrivals_max → length lanes ≡ length claimed * 8
     → Answers batch ticket lanes more → longer ≡ claimed ++ record { number = number; ticket = ticket } ∷ [] → parts_then ≡ parts
     → amount_then ≡ amount + length (taken ticket) → room_then ≡ room
     → Adds clients arrivals number

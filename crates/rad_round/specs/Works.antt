@@ -15,9 +15,12 @@ use Rattle.rad_log.specs.Logs.{entries_of}
 use Rattle.rad_log.specs.declared.rule.Taking.{Taking}
 use Rattle.rad_packet.specs.Bodies.{Body}
 use Rattle.rad_packet.specs.Packets.{packet_octets}
+use Rattle.rad_config.specs.Configurations.{Configuration}
+use Rattle.rad_server.specs.Prepared.{Prepared, prepared_in}
 use Rattle.rad_server.specs.Runs.{IsAsked}
 use Rattle.rad_server.specs.Steps.{IsSealable}
 use Rattle.rad_server.specs.declared.answer.Answer.TheVariants.{Send}
+use Rattle.rad_server.specs.declared.ask.Ask.{Ask}
 use Rattle.rad_server.specs.declared.entry.Entry.{Entry}
 use Rattle.rad_round.specs.Rounds.{AreMoments, IsEntryOf, IsOutcome, arrivals_max}
 use Rattle.rad_round.specs.declared.outcome.Outcome.{Outcome}
@@ -44,9 +47,9 @@ abbrev pub AreVerdicts : List Client → List Timed → ℕ → List Verdict →
 AreVerdicts clients arrivals first verdicts = (lane : ℕ) (verdict : Verdict) → slice_get verdicts lane ≡ Some verdict
     → IsVerdict clients arrivals (first + lane) verdict
 
--- a batch: the clients, all arrivals, its number, and the verdict in each of its lanes
+-- a batch: the configuration, all arrivals, its number, and the verdict in each of its lanes
 pub record CheckedBatch : Type 0 where
-  pub clients : List Client
+  pub configuration : Configuration
   pub arrivals : List Timed
   pub number : ℕ
   pub verdicts : List Verdict
@@ -69,6 +72,28 @@ abbrev pub AreOctets : List Verdict → List (Option (List ℕ)) → Type 0
 AreOctets verdicts octets = (lane : ℕ) (verdict : Verdict) (some : Option (List ℕ)) → slice_get verdicts lane ≡ Some verdict
     → slice_get octets lane ≡ Some some → IfSome some (HasOctets verdict)
 
+-- the requests of a batch are prepared, and these are their octets
+pub record IsReady (configuration : Configuration) (arrivals : List Timed) (number : ℕ) (verdicts : List Verdict) (prepared : List (Option Prepared))
+    (octets : List (Option (List ℕ))) : Type 0 where
+  pub checked : IsChecked configuration.clients arrivals number verdicts
+  pub prepared_are : prepared ≡ map (prepared_in configuration) verdicts
+  pub octet_lanes : length octets ≡ 8
+  pub octets_are : AreOctets verdicts octets
+
+-- what is asked is the request of the arrival of this number, which has this verdict
+pub record IsAskOf (arrivals : List Timed) (number : ℕ) (verdict : Verdict) (ask : Ask) : Type 0 where
+  pub verdict_is : verdict ≡ Some (Ok ask.prepared.now.request)
+  pub timed : Timed
+  pub arrival : slice_get arrivals number ≡ Some timed
+  pub tag : ask.tag ≡ number
+  pub moment : ask.moment ≡ timed.moment
+  pub draw : ask.draw.now ≡ timed.draw
+
+-- the same by the lane of a batch
+pub record IsAskIn (batch : CheckedBatch) (lane : ℕ) (ask : Ask) : Type 0 where
+  pub configuration_is : ask.prepared.now.configuration ≡ batch.configuration
+  pub of : (verdict : Verdict) → slice_get batch.verdicts lane ≡ Some verdict → IsAskOf batch.arrivals (batch.number * 8 + lane) verdict ask
+
 -- a receipt is that of the request of the arrival of this number
 pub record IsAskedOf (arrivals : List Timed) (number : ℕ) (verdict : Verdict) (receipt : Receipt) : Type 0 where
   pub request : Request
@@ -77,6 +102,11 @@ pub record IsAskedOf (arrivals : List Timed) (number : ℕ) (verdict : Verdict) 
   pub arrival : slice_get arrivals number ≡ Some timed
   pub asked : IsAsked number request timed.moment timed.draw receipt.entry
   pub sealable : IsSealable receipt.entry.answer
+
+-- the same by the lane of a batch
+abbrev pub IsAskedIn : CheckedBatch → ℕ → Receipt → Type 0
+IsAskedIn batch lane receipt = (verdict : Verdict) → slice_get batch.verdicts lane ≡ Some verdict
+    → IsAskedOf batch.arrivals (batch.number * 8 + lane) verdict receipt
 
 -- the receipt in each lane, where there is one, is that of its arrival, the first of which has this number
 abbrev pub AreAsked : List Timed → ℕ → List Verdict → List (Option Receipt) → Type 0
@@ -176,7 +206,7 @@ pub record AreLanes (clients : List Client) (arrivals : List Timed) (first : ℕ
 pub record PutsLanes (batch : CheckedBatch) (entries : List (Option Entry)) (before after : List (Option Outcome)) : Type 0 where
   pub outcomes : List (Option Outcome)
   pub last : after ≡ before ++ outcomes
-  pub lanes : AreLanes batch.clients batch.arrivals (batch.number * 8) outcomes entries
+  pub lanes : AreLanes batch.configuration.clients batch.arrivals (batch.number * 8) outcomes entries
 
 -- a batch that was answered: its number, the outcomes of its lanes, and what it appended to the history, if anything
 pub record Answered : Type 0 where

@@ -6,15 +6,16 @@ ghost use Rattle.rad_auth.specs.Admission.{HoldsAdmitted};
 ghost use Rattle.rad_auth.specs.Sealing.{IsJob};
 ghost use Rattle.rad_server.specs.Steps.{IsSealable};
 ghost use Rattle.rad_round.specs.Rounds.{arrivals_max};
-ghost use Rattle.rad_round.specs.Works.{AreAskedOf, AreOctets, AreSealed, AreVerdicts, HasOctets, IsChecked, IsJobIn, IsJobOf, IsLaneOf, IsSealedIn, PutsLanes, batch_count, entry_of, unasked};
+ghost use Rattle.rad_round.specs.Works.{AreAskedOf, AreOctets, AreSealed, AreVerdicts, HasOctets, IsAskIn, IsJobIn, IsJobOf, IsLaneOf, IsReady, IsSealedIn, PutsLanes, batch_count, entry_of, unasked};
 
 use crate::leftovers::put_back;
 use crate::outcome::Outcome;
 use crate::timed::Timed;
 use rad_auth::{Arrival, Clients, Discard, Job, Request, admitted_is_answerable, check8, seal8};
+use rad_config::Config;
 use rad_desk::Receipt;
 use rad_packet::{Frame, Octets};
-use rad_server::Answer;
+use rad_server::{Answer, Ask, Prepared};
 use std::alloc::Global;
 use std::marker::Model;
 
@@ -56,82 +57,83 @@ pub(crate) fn check_batch<'a>(
     )
 }
 
-/// The arrivals of a batch, and what admission says of each.
+/// The arrivals of a batch, what admission says of each, and what is made ready of the requests before the lock is taken.
 #[derive(Drop)]
 pub(crate) struct Batch<'r, 'a> {
-    clients: &'r Clients,
-    pub arrivals: &'r [Timed<'a>],
+    config: &'r Config,
+    arrivals: &'r [Timed<'a>],
     /// Batches are counted from 0: batch b begins with arrival 8b.
     pub number: usize,
-    pub verdicts: &'r [Verdict<'a>; BATCH],
+    verdicts: &'r [Verdict<'a>; BATCH],
+    prepared: &'r [Option<Prepared<'r, 'a>>],
+    octets: &'r [Option<Octets>],
 }
 
 impl<'r, 'a> Model for Batch<'r, 'a> {
-    ghost use Rattle.rad_round.specs.Works.{CheckedBatch, IsChecked};
+    ghost use Rattle.rad_round.specs.Works.{CheckedBatch, IsReady};
 
     ghost Value = { CheckedBatch };
 
     ghost view = { λ batch. record {
-      clients = batch.clients.now;
+      configuration = batch.config.now;
       arrivals = batch.arrivals.now;
       number = batch.number;
       verdicts = batch.verdicts.now;
     } };
 
-    ghost invariant = { λ batch.
-        IsChecked batch.clients.now batch.arrivals.now batch.number batch.verdicts.now };
+    ghost invariant = { λ batch. IsReady batch.config.now batch.arrivals.now batch.number
+        batch.verdicts.now batch.prepared.now batch.octets.now };
 }
 
 impl<'r, 'a> Batch<'r, 'a> {
-    /// The batch of this number, with the verdicts on its arrivals.
+    /// The batch of this number, with the verdicts on its arrivals. Its requests are prepared, and there are their octets, but
+    /// where memory was refused.
     pub fn new(
-        clients: &'r Clients,
+        config: &'r Config,
         arrivals: &'r [Timed<'a>],
         number: usize,
         verdicts: &'r [Verdict<'a>; BATCH],
+        prepared: &'r [Option<Prepared<'r, 'a>>],
+        octets: &'r [Option<Octets>],
     ) -> Batch<'r, 'a>
-        requires { IsChecked clients.now arrivals.now number verdicts.now }
-        ensures clients { result.clients ≡ clients.now }
+        requires { IsReady config.now arrivals.now number verdicts.now prepared.now octets.now }
+        ensures configuration { result.configuration ≡ config.now }
         ensures arrivals { result.arrivals ≡ arrivals.now }
         ensures number { result.number ≡ number }
     {
         Batch {
-            clients,
+            config,
             arrivals,
             number,
             verdicts,
+            prepared,
+            octets,
         }
     }
 
     /// Whether there is a request in the batch.
     pub fn has_requests(&self) -> bool {
-        let verdicts = self.verdicts;
-        verdicts
-            .iter()
-            .any(|verdict| matches!(verdict, Some(Ok(_))))
+        self.prepared.iter().any(|request| request.is_some())
     }
 
-    /// The octets of the requests, up to Length. Where memory is refused there are none.
-    pub fn octets(&self, alloc: Global) -> [Option<Octets>; BATCH]
-        ensures { AreOctets self.now.verdicts result }
+    /// What is asked for the request in a lane, if there is one and its octets are there.
+    pub fn ask(&self, lane: usize) -> Option<Ask<'r, 'a>>
+        requires { lane < 8 }
+        ensures { IfSome result (IsAskIn self.now lane) }
     {
-        let verdicts = self.verdicts;
-        [
-            octets_of(alloc, &verdicts[0]),
-            octets_of(alloc, &verdicts[1]),
-            octets_of(alloc, &verdicts[2]),
-            octets_of(alloc, &verdicts[3]),
-            octets_of(alloc, &verdicts[4]),
-            octets_of(alloc, &verdicts[5]),
-            octets_of(alloc, &verdicts[6]),
-            octets_of(alloc, &verdicts[7]),
-        ]
+        let number = self.number * BATCH + lane;
+        let (requests, octets, arrivals) = (self.prepared, self.octets, self.arrivals);
+        let prepared = requests[lane].as_ref()?;
+        let octets = octets[lane].as_ref()?;
+        let timed = arrivals.get(number)?;
+        let Timed { moment, draw, .. } = timed;
+        Some(Ask::new(number as u64, prepared, octets, *moment, draw))
     }
 
     /// Seals the replies of the batch, each into the frame of its lane.
     pub fn seal(&self, asked: &[Option<Receipt>], frames: &mut [Frame; BATCH])
         requires asked { AreAskedOf self.now asked.now }
-        ensures { AreSealed self.now.clients self.now.verdicts asked.now frames.new }
+        ensures { AreSealed self.now.configuration.clients self.now.verdicts asked.now frames.new }
     {
         let jobs = [
             self.job(asked, 0),
@@ -151,10 +153,10 @@ impl<'r, 'a> Batch<'r, 'a> {
         requires lane { lane < 8 }
         requires asked { AreAskedOf self.now asked.now }
         ensures job { IfSome result IsJob }
-        ensures of_lane { IsJobIn self.now.clients self.now.verdicts asked.now lane result }
+        ensures of_lane { IsJobIn self.now.configuration.clients self.now.verdicts asked.now lane result }
     {
         let verdicts = self.verdicts;
-        job_of(self.clients, &verdicts[lane], &asked[lane])
+        job_of(self.config.clients(), &verdicts[lane], &asked[lane])
     }
 
     /// Puts the outcomes of the batch last, once its replies are sealed. Frames that no reply takes are left.
@@ -166,7 +168,7 @@ impl<'r, 'a> Batch<'r, 'a> {
         outcomes: &mut Vec<Option<Outcome>>,
     )
         requires asked { AreAskedOf self.now asked.now }
-        requires sealed { AreSealed self.now.clients self.now.verdicts asked.now frames }
+        requires sealed { AreSealed self.now.configuration.clients self.now.verdicts asked.now frames }
         requires room { length outcomes.old.items + 8 ≤ vec_capacity outcomes.old }
         ensures lanes { PutsLanes self.now (map entry_of asked.now)
             outcomes.old.items outcomes.new.items }
@@ -192,8 +194,8 @@ impl<'r, 'a> Batch<'r, 'a> {
     ) -> (Option<Outcome>, Option<Frame>)
         requires lane { lane < 8 }
         requires asked { AreAskedOf self.now asked.now }
-        requires sealed { IsSealedIn self.now.clients self.now.verdicts asked.now lane frame }
-        ensures { IsLaneOf self.now.clients self.now.arrivals (self.now.number * 8 + lane)
+        requires sealed { IsSealedIn self.now.configuration.clients self.now.verdicts asked.now lane frame }
+        ensures { IsLaneOf self.now.configuration.clients self.now.arrivals (self.now.number * 8 + lane)
             result.0 (slice_get asked.now lane) }
     {
         let verdicts = self.verdicts;
@@ -237,6 +239,23 @@ fn arrival_at<'a>(arrivals: &[Timed<'a>], number: usize) -> Option<Arrival<'a>>
 {
     let timed = arrivals.get(number)?;
     Some(timed.arrival)
+}
+
+/// The octets of the requests, up to Length. Where memory is refused there are none.
+pub(crate) fn octets_in(alloc: Global, verdicts: &[Verdict; BATCH]) -> [Option<Octets>; BATCH]
+    ensures octets { AreOctets verdicts.now result }
+    ensures lanes { length result ≡ 8 }
+{
+    [
+        octets_of(alloc, &verdicts[0]),
+        octets_of(alloc, &verdicts[1]),
+        octets_of(alloc, &verdicts[2]),
+        octets_of(alloc, &verdicts[3]),
+        octets_of(alloc, &verdicts[4]),
+        octets_of(alloc, &verdicts[5]),
+        octets_of(alloc, &verdicts[6]),
+        octets_of(alloc, &verdicts[7]),
+    ]
 }
 
 // The octets of a request, if it is one and there is memory.

@@ -51,7 +51,7 @@ pub(crate) fn gather<'c, L: Opened + Logged>(
 ) -> (Server<'c>, Done)
     requires parts { vec_len workers ≡ L.parts }
     requires count { vec_len workers ≡ round.setting.claims.seats }
-    requires finished { All (HasFinished round.setting.claims round.setting.clients.now
+    requires finished { All (HasFinished round.setting.claims round.setting.config.now.clients
         round.setting.arrivals.now) workers.items }
     requires seats { (seats.items ≡ []) × (vec_len workers ≤ vec_capacity seats) }
     requires outcomes { length outcomes.items ≡ length round.setting.arrivals.now }
@@ -86,13 +86,13 @@ fn hand_in<L: Opened + Logged>(
     handed: &mut HandedIn<L>,
     leftovers: &mut Leftovers,
 )
-    requires finished { All (HasFinished setting.now.claims setting.now.clients.now
+    requires finished { All (HasFinished setting.now.claims setting.now.config.now.clients
         setting.now.arrivals.now) workers.items }
     requires none { (handed.old.seats ≡ []) × (handed.old.parts ≡ 0) × (handed.old.amount ≡ 0) }
     requires room { vec_len workers ≤ handed.old.room }
     requires outcomes { length handed.old.outcomes ≡ length setting.now.arrivals.now }
     ensures unchanged { keeper.new ≡ keeper.old }
-    ensures handed { HaveHandedIn setting.now.claims setting.now.clients.now
+    ensures handed { HaveHandedIn setting.now.claims setting.now.config.now.clients
         setting.now.arrivals.now keeper.old handed.old.outcomes (vec_len workers) handed.new }
 {
     while let Some(worker) = workers.pop() {
@@ -108,12 +108,12 @@ fn take_in<L: Opened + Logged>(
     worker: Worker<L>,
     handed: &mut HandedIn<L>,
 ) -> Vec<Frame>
-    requires finished { HasFinished setting.now.claims setting.now.clients.now
+    requires finished { HasFinished setting.now.claims setting.now.config.now.clients
         setting.now.arrivals.now worker }
     requires room { length handed.old.seats < handed.old.room }
     requires outcomes { length handed.old.outcomes ≡ length setting.now.arrivals.now }
     ensures unchanged { keeper.new ≡ keeper.old }
-    ensures handed { TakesIn setting.now.claims setting.now.clients.now
+    ensures handed { TakesIn setting.now.claims setting.now.config.now.clients
         setting.now.arrivals.now keeper.old handed.old handed.new }
 {
     let Parts {

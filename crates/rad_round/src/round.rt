@@ -86,7 +86,7 @@ fn run_in<'c, L: Opened + Logged + Send + Sync, R: Threads + Wait + Sync, G: Gat
     let setting = Setting {
         log,
         claims,
-        clients: server.config().clients(),
+        config: server.config(),
         arrivals,
         of: PhantomData,
     };
@@ -133,7 +133,7 @@ fn work_all<'c, L: Opened + Logged + Send + Sync, R: Threads + Wait + Sync, G: G
 )
     requires workers { 0 < length workers.old }
     requires idle { All (IsIdle round.now.setting.claims) workers.old }
-    ensures { All (HasFinished round.now.setting.claims round.now.setting.clients.now
+    ensures { All (HasFinished round.now.setting.claims round.now.setting.config.now.clients
         round.now.setting.arrivals.now) workers.new }
 {
     let count = workers.len();
@@ -143,7 +143,7 @@ fn work_all<'c, L: Opened + Logged + Send + Sync, R: Threads + Wait + Sync, G: G
         count,
         &|_number: usize, worker: &mut Worker<L>|
             requires { IsIdle round.now.setting.claims worker.now }
-            ensures { HasFinished round.entry.now.setting.claims round.entry.now.setting.clients.now
+            ensures { HasFinished round.entry.now.setting.claims round.entry.now.setting.config.now.clients
                 round.entry.now.setting.arrivals.now worker.exit.now }
         { worker.work(rt, round, gate) },
     );

@@ -1,19 +1,17 @@
 //! What the workers of a round share: the lock, what lies under it, and what lies beside it.
-ghost use Rattle.std.specs.Prelude.{◌≡◌, ◌≤◌, ◌+◌, ◌++◌, [], ◌∷◌, length, replicate, IfSome, None};
+ghost use Rattle.std.specs.Prelude.{◌≡◌, ◌≤◌, ◌<◌, ◌+◌, ◌++◌, [], ◌∷◌, length, replicate, IfSome, None};
 ghost use Rattle.rad_log.specs.Logs.{taking};
 ghost use Rattle.rad_server.specs.Runs.{IsHistory};
 ghost use Rattle.rad_round.specs.Rounds.{AreMoments, arrivals_max};
-ghost use Rattle.rad_round.specs.Works.{AreAskedOf, AreOctets, HasOctets, IsAskedOf, IsLogged, IsVerdict, batch_count, entries_in, entry_of, somes, taken};
+ghost use Rattle.rad_round.specs.Works.{AreAskedOf, IsAskedIn, IsLogged, batch_count, entries_in, entry_of, somes, taken};
 
-use crate::batch::{BATCH, Batch, Verdict};
+use crate::batch::{BATCH, Batch};
 use crate::timed::Timed;
-use rad_auth::Clients;
 use rad_claim::Claims;
+use rad_config::Config;
 use rad_desk::{Locked, Opened, Receipt};
 use rad_log::{Keeper, Log, Logged, Ticket};
-use rad_packet::Octets;
 use rad_server::{Entry, Server};
-use std::alloc::Global;
 use std::marker::{Model, PhantomData};
 use std::sync::ledger::{Book, Share};
 use std::sync::{Mutex, Wait};
@@ -51,20 +49,18 @@ impl<'c, L: Opened + Logged> Shared<'c, L> {
         log: &Log<Entry>,
         share: &mut Share<L>,
         batch: &Batch,
-        octets: [Option<Octets>; BATCH],
         asked: &mut [Option<Receipt>],
     ) -> Ticket<Entry, L>
         requires log { log.now ≡ L.table }
         requires part { share.old.parts ≡ 1 }
-        requires clients { batch.now.clients ≡ L.opening.configuration.clients }
-        requires octets { AreOctets batch.now.verdicts octets }
+        requires configuration { batch.now.configuration ≡ L.opening.configuration }
         requires none { asked.old ≡ replicate 8 None }
         ensures asked { AreAskedOf batch.now asked.new }
         ensures taking { result ≡ taking batch.now.number (entries_in asked.new) }
         ensures counted { share.new.amount ≡ share.old.amount + length (entries_in asked.new) }
         ensures part { share.new.parts ≡ 1 }
     {
-        ask(&mut self.locked, share, batch, octets, asked);
+        ask(&mut self.locked, share, batch, asked);
         self.keeper
             .publish(log, batch.number as u64, self.locked.history())
     }
@@ -87,63 +83,38 @@ fn ask<'c, L: Opened>(
     locked: &mut Locked<'c, L>,
     share: &mut Share<L>,
     batch: &Batch,
-    octets: [Option<Octets>; BATCH],
     asked: &mut [Option<Receipt>],
 )
     requires part { share.old.parts ≡ 1 }
-    requires clients { batch.now.clients ≡ L.opening.configuration.clients }
-    requires octets { AreOctets batch.now.verdicts octets }
+    requires configuration { batch.now.configuration ≡ L.opening.configuration }
     requires none { asked.old ≡ replicate 8 None }
     ensures asked { AreAskedOf batch.now asked.new }
     ensures history { locked.new.history ≡ locked.old.history ++ entries_in asked.new }
     ensures counted { share.new.amount ≡ share.old.amount + length (entries_in asked.new) }
     ensures part { share.new.parts ≡ 1 }
 {
-    let first = batch.number * BATCH;
-    let verdicts = batch.verdicts;
-    let mut octets = octets.into_iter();
     for lane in 0..BATCH {
-        let Some(octets) = octets.next() else {
-            unreachable!()
-        };
-        asked[lane] = ask_one(
-            locked,
-            share,
-            batch.arrivals,
-            first + lane,
-            &verdicts[lane],
-            octets,
-        );
+        asked[lane] = ask_one(locked, share, batch, lane);
     }
 }
 
-// Asks the request of an arrival, if it is one and its octets are there.
+// Asks the request in a lane, if there is one and its octets are there.
 fn ask_one<'c, L: Opened>(
     locked: &mut Locked<'c, L>,
     share: &mut Share<L>,
-    arrivals: &[Timed],
-    number: usize,
-    verdict: &Verdict,
-    octets: Option<Octets>,
+    batch: &Batch,
+    lane: usize,
 ) -> Option<Receipt>
     requires part { share.old.parts ≡ 1 }
-    requires moments { AreMoments arrivals.now }
-    requires verdict { IsVerdict L.opening.configuration.clients arrivals.now number verdict.now }
-    requires octets { IfSome octets (HasOctets verdict.now) }
-    ensures asked { IfSome result (IsAskedOf arrivals.now number verdict.now) }
+    requires configuration { batch.now.configuration ≡ L.opening.configuration }
+    requires lane { lane < 8 }
+    ensures asked { IfSome result (IsAskedIn batch.now lane) }
     ensures history { locked.new.history ≡ locked.old.history ++ somes (entry_of result ∷ []) }
     ensures counted { share.new.amount ≡ share.old.amount + length (somes (entry_of result ∷ [])) }
     ensures part { share.new.parts ≡ 1 }
 {
-    let Some(Ok(request)) = verdict else {
-        return None;
-    };
-    let timed = arrivals.get(number)?;
-    let octets = octets?;
-    let tag = number as u64;
-    locked
-        .exchange(share, tag, request, octets, timed.moment, &timed.draw)
-        .ok()
+    let ask = batch.ask(lane)?;
+    locked.exchange(share, ask).ok()
 }
 
 /// What stays as it is while a round goes on.
@@ -151,11 +122,11 @@ fn ask_one<'c, L: Opened>(
 pub(crate) struct Setting<'r, 'a, L: Opened + Logged> {
     pub log: Log<Entry>,
     pub claims: Claims,
-    pub clients: &'r Clients,
+    pub config: &'r Config,
     pub arrivals: &'r [Timed<'a>],
     pub of: PhantomData<L>,
     pub ghost of_log: { log ≡ L.table },
-    pub ghost of_server: { clients.now ≡ L.opening.configuration.clients },
+    pub ghost of_server: { config.now ≡ L.opening.configuration },
     pub ghost batches: { claims.batches ≡ batch_count arrivals.now },
     pub ghost count: { length arrivals.now ≤ arrivals_max },
     pub ghost moments: { AreMoments arrivals.now },
@@ -173,13 +144,12 @@ impl<'r, 'a, 'c, L: Opened + Logged> OpenRound<'r, 'a, 'c, L> {
     pub fn ask<R: Wait>(
         &self,
         rt: &R,
-        alloc: Global,
         share: &mut Share<L>,
         batch: &Batch,
         asked: &mut [Option<Receipt>],
     ) -> Option<Ticket<Entry, L>>
         requires part { share.old.parts ≡ 1 }
-        requires clients { batch.now.clients ≡ self.now.setting.clients.now }
+        requires configuration { batch.now.configuration ≡ self.now.setting.config.now }
         requires none { asked.old ≡ replicate 8 None }
         ensures asked { AreAskedOf batch.now asked.new }
         ensures taken { taken result ≡ entries_in asked.new }
@@ -190,8 +160,7 @@ impl<'r, 'a, 'c, L: Opened + Logged> OpenRound<'r, 'a, 'c, L> {
         if !batch.has_requests() {
             return None;
         }
-        let octets = batch.octets(alloc);
         let mut shared = self.lock.lock(rt);
-        Some(shared.take(&self.setting.log, share, batch, octets, asked))
+        Some(shared.take(&self.setting.log, share, batch, asked))
     }
 }

@@ -4,7 +4,7 @@ ghost use Rattle.std.specs.Vec.{vec_capacity};
 ghost use Rattle.rad_round.specs.Rounds.{arrivals_max};
 ghost use Rattle.rad_round.specs.Works.{Adds, Answers, HasFinished, IsIdle, answers_of, taken};
 
-use crate::batch::{BATCH, Batch, check_batch};
+use crate::batch::{BATCH, Batch, check_batch, octets_in};
 use crate::gate::Gate;
 use crate::leftovers::eight_frames;
 use crate::outcome::Outcome;
@@ -13,7 +13,7 @@ use rad_claim::ClaimSeat;
 use rad_desk::Opened;
 use rad_log::{Logged, Ticket};
 use rad_packet::Frame;
-use rad_server::Entry;
+use rad_server::{Entry, prepare8};
 use std::alloc::{AllocError, Global};
 use std::marker::Model;
 use std::sync::Wait;
@@ -130,7 +130,7 @@ impl<L: Opened + Logged> Worker<L> {
     /// Claims and answers one batch after another, until there are no more.
     pub fn work<R: Wait, G: Gate>(&mut self, rt: &R, round: &OpenRound<L>, gate: &G)
         requires { IsIdle round.now.setting.claims self.old }
-        ensures { HasFinished round.now.setting.claims round.now.setting.clients.now
+        ensures { HasFinished round.now.setting.claims round.now.setting.config.now.clients
             round.now.setting.arrivals.now self.new }
     {
         let Some(mut seat) = self.seat.take() else {
@@ -152,7 +152,7 @@ impl<L: Opened + Logged> Worker<L> {
         requires number { number * 8 < arrivals_max }
         requires part { self.old.parts ≡ 1 }
         requires room { length self.old.answered < self.old.room }
-        ensures { Adds round.now.setting.clients.now round.now.setting.arrivals.now
+        ensures { Adds round.now.setting.config.now.clients round.now.setting.arrivals.now
             number self.old self.new }
     {
         let Worker {
@@ -163,8 +163,18 @@ impl<L: Opened + Logged> Worker<L> {
             ..
         } = self;
         let setting = &round.setting;
-        let verdicts = check_batch(setting.clients, setting.arrivals, number);
-        let batch = Batch::new(setting.clients, setting.arrivals, number, &verdicts);
+        let alloc = *outcomes.allocator();
+        let verdicts = check_batch(setting.config.clients(), setting.arrivals, number);
+        let prepared = prepare8(setting.config, &verdicts);
+        let octets = octets_in(alloc, &verdicts);
+        let batch = Batch::new(
+            setting.config,
+            setting.arrivals,
+            number,
+            &verdicts,
+            &prepared,
+            &octets,
+        );
         gate.pass(number as u64);
         let ticket = answer_batch(rt, round, &batch, share, frames, outcomes);
         claimed.push_reserved(Claimed { number, ticket });
@@ -180,7 +190,7 @@ fn answer_batch<L: Opened + Logged, R: Wait>(
     frames: &mut Vec<Frame>,
     outcomes: &mut Vec<Option<Outcome>>,
 ) -> Option<Ticket<Entry, L>>
-    requires clients { batch.now.clients ≡ round.now.setting.clients.now }
+    requires configuration { batch.now.configuration ≡ round.now.setting.config.now }
     requires arrivals { batch.now.arrivals ≡ round.now.setting.arrivals.now }
     requires part { share.old.parts ≡ 1 }
     requires room { length outcomes.old.items + 8 ≤ vec_capacity outcomes.old }
@@ -195,7 +205,7 @@ fn answer_batch<L: Opened + Logged, R: Wait>(
         return None;
     };
     let mut asked = [None, None, None, None, None, None, None, None];
-    let ticket = round.ask(rt, alloc, share, batch, &mut asked);
+    let ticket = round.ask(rt, share, batch, &mut asked);
     batch.seal(&asked, &mut lanes);
     batch.put_outcomes(&asked, lanes, frames, outcomes);
     ticket

@@ -1,4 +1,5 @@
 mod AddressLemmas
+mod DecisionLemmas
 mod LawfulLemmas
 mod OccurrenceLemmas
 mod PlanLemmas

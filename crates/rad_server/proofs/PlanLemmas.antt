@@ -6,15 +6,16 @@ use Rattle.std.proofs.lemmas.List.Elements.{All-head, All-tail}
 use Rattle.rad_packet.specs.Bodies.{Body}
 use Rattle.rad_packet.specs.Codes.{code_status_server}
 use Rattle.rad_auth.specs.declared.arrival.Door.{Door}
-use Rattle.rad_auth.specs.declared.arrival.Door.TheVariants.{Acct}
 use Rattle.rad_auth.specs.declared.arrival.Request.{Request}
 use Rattle.rad_config.specs.Configurations.{Configuration}
 use Rattle.rad_recent.specs.Recent.{is_full, kept_max, same_key, without_key}
 use Rattle.rad_recent.specs.declared.kept.Kept.{Kept}
 use Rattle.rad_server.specs.Plans.{IsAccountingReply, IsNewReply, IsReplyOf}
+use Rattle.rad_server.specs.Prepared.{IsReported, IsRequestTo}
 use Rattle.rad_server.specs.States.{State}
 use Rattle.rad_server.specs.Steps.{answer, answer_with, key_of, reply_by_port, reply_kept, without_reply}
 use Rattle.rad_server.specs.declared.answer.Answer.TheVariants.{Send, Busy}
+use Rattle.rad_server.specs.declared.change.Change.{Change}
 use Rattle.rad_server.specs.declared.plan.NewReply.{NewReply}
 
 -- what holds of each element holds of the one that is found
@@ -80,10 +81,18 @@ no_answer configuration current request draw other found full few = rw (other) (
     at (Some reply) e = absurd cc
     at None e = rw (full) (ap (λ state. (Busy, state)) (nothing_removed current request full few))
 
--- on the accounting port, the rule of the port is that of accounting
-pub accounting_is_new : (configuration : Configuration) (current : State) (request : Request) (draw : List ℕ) {E : Type 0} (r : Result NewReply E) → request.door ≡ Acct
-    → IfOk r (λ reply. (current : State) (draw : List ℕ) → IsAccountingReply configuration current request draw reply)
+-- the rule of the port that a request came to
+pub port_is_new : (configuration : Configuration) (current : State) (request : Request) (draw : List ℕ) (door : Door) {E : Type 0} (r : Result NewReply E) → IsRequestTo door request
+    → IfOk r (λ reply. IsReplyOf (λ state. reply_by_port door configuration state request draw) current request draw reply)
     → IfOk r (IsNewReply configuration current request draw)
-accounting_is_new configuration current request draw (Err fault) door planned = tt
-accounting_is_new configuration current request draw (Ok reply) door planned =
-    subst (λ (d : Door). IsReplyOf (λ state. reply_by_port d configuration state request draw) current request draw reply) (sym door) (planned current draw)
+port_is_new configuration current request draw door r to planned =
+    subst (λ (d : Door). IfOk r (λ reply. IsReplyOf (λ state. reply_by_port d configuration state request draw) current request draw reply)) (sym to.door_is) planned
+
+-- what an Accounting-Request reports, by the rule of accounting
+pub reported_is_new : (configuration : Configuration) (current : State) (request : Request) (draw : List ℕ) (change : Change) {E : Type 0} (r : Result NewReply E)
+    → IsReported configuration request change
+    → IfOk r (λ reply. (configuration : Configuration) → IsReported configuration request change → (current : State) (draw : List ℕ)
+    → IsAccountingReply configuration current request draw reply)
+    → IfOk r (IsAccountingReply configuration current request draw)
+reported_is_new configuration current request draw change (Err fault) reported planned = tt
+reported_is_new configuration current request draw change (Ok reply) reported planned = planned configuration reported current draw

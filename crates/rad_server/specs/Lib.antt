@@ -9,6 +9,7 @@ pub mod Lawful
 pub mod Occurrences
 pub mod Plans
 pub mod Repeats
+pub mod Prepared
 pub mod Replies
 pub mod ReplyBodies
 pub mod Reports

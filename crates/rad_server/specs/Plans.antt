@@ -7,6 +7,7 @@ use Rattle.rad_config.specs.Configurations.{Configuration}
 use Rattle.rad_recent.specs.declared.kept.Kept.{Kept}
 use Rattle.rad_server.specs.Access.{access, without_challenge}
 use Rattle.rad_server.specs.Accounting.{account}
+use Rattle.rad_server.specs.Decisions.{access_known}
 use Rattle.rad_server.specs.States.{State}
 use Rattle.rad_server.specs.Steps.{answer, key_of, reply_by_port, sent_and_kept, without_reply}
 use Rattle.rad_server.specs.declared.answer.Answer.{Answer}
@@ -14,6 +15,7 @@ use Rattle.rad_server.specs.declared.answer.Answer.TheVariants.{Send, Busy}
 use Rattle.rad_server.specs.declared.plan.NewReply.{NewReply}
 use Rattle.rad_server.specs.declared.plan.Plan.{Plan}
 use Rattle.rad_server.specs.declared.plan.Plan.TheVariants as plans
+use Rattle.rad_server.specs.declared.rule.Login.{Login}
 use Rattle.rad_server.specs.declared.tables.Tables.{Tables}
 use Rattle.rad_server.specs.Changes.{CanBeMade, IsReadyFor, after}
 
@@ -28,6 +30,11 @@ pub record IsReplyOf (rule : State → Body × State) (current : State) (request
 abbrev pub IsAccessReply : Configuration → State → Request → List ℕ → NewReply → Type 0
 IsAccessReply configuration current request draw reply =
     IsReplyOf (λ state. access configuration state request draw) current request draw reply
+
+-- by the rule of access, what the configuration tells of the credentials being known
+abbrev pub IsKnownReply : Configuration → State → Request → List ℕ → Login → NewReply → Type 0
+IsKnownReply configuration current request draw login reply =
+    IsReplyOf (λ state. access_known configuration state request draw login) current request draw reply
 
 -- by the rule of accounting
 abbrev pub IsAccountingReply : Configuration → State → Request → List ℕ → NewReply → Type 0

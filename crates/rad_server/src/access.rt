@@ -1,18 +1,18 @@
 //! Who is granted access.
 ghost use Rattle.std.specs.Prelude.{◌≡◌, ◌≤◌, ◌<◌, IfOk, IfSome, Some, length, option_map};
-ghost use Rattle.rad_auth.specs.Admission.{IsAnswerable};
+ghost use Rattle.rad_config.specs.Configurations.{Configuration};
 ghost use Rattle.rad_config.specs.Spans.{moment_max};
+ghost use Rattle.rad_auth.specs.Admission.{IsAnswerable};
 ghost use Rattle.rad_recent.specs.Challenges.{answered, cut_challenges};
-ghost use Rattle.rad_server.specs.Access.{decision_on_answer, decision_on_password, password_matches, user_by_answer, user_by_password, without_challenge};
-ghost use Rattle.rad_server.specs.Decisions.{CanBeGiven, Gives, decision_in, decision_of, user_challenged};
-ghost use Rattle.rad_server.specs.SentCredentials.{IsSent, credentials_of, sent_password_of};
+ghost use Rattle.rad_server.specs.Access.{without_challenge};
+ghost use Rattle.rad_server.specs.Decisions.{CanBeGiven, Gives, decision_of, decision_answering, decision_logged_in, decision_known, is_named, option_state, user_answering, user_challenged, user_logged_in};
 ghost use Rattle.rad_server.specs.TableStates.{AreUsable, live_state, state_for};
 
-use crate::credentials::{Credentials, SentPassword};
 use crate::denial::Denial;
+use crate::rule::Login;
 use crate::tables::Tables;
-use rad_auth::{Request, chap_right, password_right};
-use rad_config::{Config, User};
+use rad_auth::Request;
+use rad_config::Config;
 use rad_pool::Grant;
 
 /// A session that the rule grants.
@@ -37,70 +37,66 @@ pub(crate) fn decide(
     tables: &Tables,
     now: u64,
     request: &Request,
-    credentials: &Credentials,
+    login: &Login,
 ) -> Result<Decision, Denial>
     requires moment { now ≤ moment_max }
     requires answerable { IsAnswerable config.now.clients request.now }
-    requires sent { IsSent (sent_password_of credentials.now.password) }
+    requires within { IfSome login.now.user (λ user. user < length config.now.users) }
     requires usable { AreUsable config.now tables.now }
     ensures decided { Gives decision_of result
-        (decision_in config.now (state_for request.now now tables.now)
-        request.now (credentials_of credentials.now)) }
+        (decision_known config.now (state_for request.now now tables.now) request.now login.now) }
     ensures given { IfOk result (CanBeGiven config.now
-        (without_challenge request.now.client (credentials_of credentials.now).state
-        (live_state now tables.now))) }
+        (without_challenge request.now.client (option_state login.now) (live_state now tables.now))) }
 {
-    match credentials.state {
-        Some(state) => decide_on_answer(config, tables, now, request, state, credentials),
-        None => decide_on_password(config, tables, now, request, credentials),
+    match login.state {
+        Some(state) => decide_on_answer(config, tables, now, request, state, login),
+        None => decide_on_password(config, tables, now, request, login),
     }
 }
 
 // The same for a request with this State.
-#[tactic(auto, unfolding(crate::specs::Access::decision_on_answer))]
+#[tactic(auto, unfolding(crate::specs::Decisions::decision_answering))]
 fn decide_on_answer(
     config: &Config,
     tables: &Tables,
     now: u64,
     request: &Request,
     state: &[u8],
-    credentials: &Credentials,
+    login: &Login,
 ) -> Result<Decision, Denial>
     requires moment { now ≤ moment_max }
     requires answerable { IsAnswerable config.now.clients request.now }
-    requires sent { IsSent (sent_password_of credentials.now.password) }
     requires usable { AreUsable config.now tables.now }
     ensures decided { Gives decision_of result
-        (decision_on_answer config.now
+        (decision_answering config.now
         (without_challenge request.now.client (Some state.now) (state_for request.now now tables.now))
-        request.now (user_challenged request.now (Some state.now) (state_for request.now now tables.now))
-        (credentials_of credentials.now)) }
+        (user_challenged request.now (Some state.now) (state_for request.now now tables.now))
+        login.now) }
     ensures given { IfOk result (CanBeGiven config.now
         (without_challenge request.now.client (Some state.now) (live_state now tables.now))) }
 {
-    let user = user_by_answer(config, tables, now, request, state, credentials)?;
+    let user = user_answering(tables, now, request, state, login)?;
     let grant = tables.sessions.peek(config, request.client, user, now)?;
     Ok(Decision::Session(NewSession { user, grant }))
 }
 
 // The same for a request without a State.
-#[tactic(auto, unfolding(crate::specs::Access::decision_on_password))]
+#[tactic(auto, unfolding(crate::specs::Decisions::decision_logged_in))]
 fn decide_on_password(
     config: &Config,
     tables: &Tables,
     now: u64,
     request: &Request,
-    credentials: &Credentials,
+    login: &Login,
 ) -> Result<Decision, Denial>
     requires moment { now ≤ moment_max }
     requires answerable { IsAnswerable config.now.clients request.now }
-    requires sent { IsSent (sent_password_of credentials.now.password) }
+    requires within { IfSome login.now.user (λ user. user < length config.now.users) }
     ensures decided { Gives decision_of result
-        (decision_on_password config.now (state_for request.now now tables.now)
-        request.now (credentials_of credentials.now)) }
+        (decision_logged_in config.now (state_for request.now now tables.now) login.now) }
     ensures given { IfOk result (CanBeGiven config.now (live_state now tables.now)) }
 {
-    let user = user_by_password(config, request, credentials)?;
+    let user = user_logged_in(login)?;
     if config.user_at(user).challenge.is_some() {
         return match tables.challenges.peek(now) {
             Ok(number) => Ok(Decision::Challenge(user, number)),
@@ -112,99 +108,67 @@ fn decide_on_password(
 }
 
 // The place of the user whose challenge is answered, rightly and under the user's name.
-#[tactic(auto, unfolding(crate::specs::Access::user_by_answer))]
-fn user_by_answer(
-    config: &Config,
+#[tactic(auto, unfolding(crate::specs::Decisions::user_answering))]
+fn user_answering(
     tables: &Tables,
     now: u64,
     request: &Request,
     state: &[u8],
-    credentials: &Credentials,
+    login: &Login,
 ) -> Result<u32, Denial>
     requires moment { now ≤ moment_max }
-    requires answerable { IsAnswerable config.now.clients request.now }
-    requires sent { IsSent (sent_password_of credentials.now.password) }
-    requires usable { AreUsable config.now tables.now }
-    ensures user { result ≡ user_by_answer config.now request.now
+    ensures user { result ≡ user_answering
         (user_challenged request.now (Some state.now) (state_for request.now now tables.now))
-        (credentials_of credentials.now) }
-    ensures place { IfOk result (λ user. user < length config.now.users) }
+        login.now }
+    ensures place { (configuration : Configuration) → AreUsable configuration tables.now
+        → IfOk result (λ user. user < length configuration.users) }
 {
-    let Some(user) = find_challenged(config, tables, now, request.client, state) else {
+    let Some(user) = find_challenged(tables, now, request.client, state) else {
         return Err(Denial::StateUnknown);
     };
-    let User { name, answer, .. } = config.user_at(user);
-    if credentials.name != name.octets() {
+    if !is_named(login, user) {
         return Err(Denial::WrongState);
     }
-    match answer {
-        Some(answer) if password_matches(config, request, &credentials.password, answer.octets()) =>
-            { Ok(user) }
-        _ => Err(Denial::AccessDenied),
-    }
-}
-
-// The place of the user whose challenge a client answers with this State.
-fn find_challenged(
-    config: &Config,
-    tables: &Tables,
-    now: u64,
-    client: u32,
-    state: &[u8],
-) -> Option<u32>
-    requires moment { now ≤ moment_max }
-    requires usable { AreUsable config.now tables.now }
-    ensures user { result ≡ option_map (λ challenge. challenge.user)
-        (answered state.now client (cut_challenges now tables.now.challenges.table)) }
-    ensures place { IfSome result (λ user. user < length config.now.users) }
-{
-    tables.challenges.seek(state, client, now)
-}
-
-// The place of the user whose name and password were sent.
-#[tactic(auto, unfolding(crate::specs::Access::user_by_password))]
-fn user_by_password(
-    config: &Config,
-    request: &Request,
-    credentials: &Credentials,
-) -> Result<u32, Denial>
-    requires answerable { IsAnswerable config.now.clients request.now }
-    requires sent { IsSent (sent_password_of credentials.now.password) }
-    ensures user { result ≡ user_by_password config.now request.now
-        (credentials_of credentials.now) }
-    ensures place { IfOk result (λ user. user < length config.now.users) }
-{
-    let Some(user) = config.user(credentials.name) else {
-        return Err(Denial::AccessDenied);
-    };
-    let password = config.user_at(user).password.octets();
-    if !password_matches(config, request, &credentials.password, password) {
+    if !login.is_right {
         return Err(Denial::AccessDenied);
     }
     Ok(user)
 }
 
-// Whether this password was sent.
-fn password_matches(
-    config: &Config,
-    request: &Request,
-    sent: &SentPassword,
-    password: &[u8],
-) -> bool
-    requires answerable { IsAnswerable config.now.clients request.now }
-    requires sent { IsSent (sent_password_of sent.now) }
-    ensures { result ≡ password_matches config.now request.now
-        (sent_password_of sent.now) password.now }
+// Whether the name that was sent is that of the user at a place.
+fn is_named(login: &Login, place: u32) -> bool
+    ensures { result ≡ is_named login.now.user place }
 {
-    let authenticator = request.packet.authenticator();
-    match *sent {
-        SentPassword::UserPassword(value) => {
-            let secret = config.clients().secret(request.client);
-            password_right(secret, &authenticator, value, password)
-        }
-        SentPassword::ChapPassword(value, challenge) => {
-            let challenge = challenge.unwrap_or(&authenticator);
-            chap_right(value, password, challenge)
-        }
+    match login.user {
+        Some(user) => user == place,
+        None => false,
     }
+}
+
+// The place of the user whose challenge a client answers with this State.
+fn find_challenged(tables: &Tables, now: u64, client: u32, state: &[u8]) -> Option<u32>
+    requires { now ≤ moment_max }
+    ensures user { result ≡ option_map (λ challenge. challenge.user)
+        (answered state.now client (cut_challenges now tables.now.challenges.table)) }
+    ensures place { (configuration : Configuration) → AreUsable configuration tables.now
+        → IfSome result (λ user. user < length configuration.users) }
+{
+    tables.challenges.seek(state, client, now)
+}
+
+// The place of the user whose name and password were sent.
+#[tactic(auto, unfolding(crate::specs::Decisions::user_logged_in))]
+fn user_logged_in(login: &Login) -> Result<u32, Denial>
+    ensures user { result ≡ user_logged_in login.now }
+    ensures place { (configuration : Configuration)
+        → IfSome login.now.user (λ user. user < length configuration.users)
+        → IfOk result (λ user. user < length configuration.users) }
+{
+    let Some(user) = login.user else {
+        return Err(Denial::AccessDenied);
+    };
+    if !login.is_right {
+        return Err(Denial::AccessDenied);
+    }
+    Ok(user)
 }

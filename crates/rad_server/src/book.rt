@@ -6,8 +6,10 @@ ghost use Rattle.rad_server.specs.Repeats.{Repeat};
 ghost use Rattle.rad_server.specs.Runs.{IsAsked, IsHistory, IsLawfulThroughout};
 ghost use Rattle.rad_server.specs.Steps.{IsSealable, step};
 
+use crate::ask::Ask;
 use crate::entry::Entry;
 use crate::history::exchange;
+use crate::prepared::Prepared;
 use crate::runs::{runs_are_lawful, runs_repeat};
 use crate::server::Server;
 use rad_auth::Request;
@@ -87,7 +89,9 @@ impl<'c> Book<'c> {
             ..
         } = self;
         let octets = Octets::of(*alloc, request.packet.octets())?;
-        exchange(server, history, tag, request, octets, moment, draw)
+        let prepared = Prepared::of(server.config(), request);
+        let ask = Ask::new(tag, &prepared, &octets, moment, draw);
+        exchange(server, history, ask)
     }
 
     /// The server as it was when the book was opened.

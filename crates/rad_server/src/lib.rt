@@ -13,6 +13,7 @@
 mod access;
 mod accounting;
 mod answer;
+mod ask;
 mod book;
 mod change;
 mod commit;
@@ -23,16 +24,20 @@ mod history;
 mod lawful;
 mod occurrence;
 mod plan;
+mod prepared;
 mod reply;
+mod rule;
 mod runs;
 mod server;
 mod tables;
 
 pub use answer::Answer;
+pub use ask::Ask;
 pub use book::Book;
 pub use denial::Denial;
 pub use entry::Entry;
 pub use history::exchange;
 pub use lawful::lawful_steps;
+pub use prepared::{Prepared, prepare8};
 pub use runs::{runs_are_lawful, runs_repeat};
 pub use server::Server;

@@ -1,11 +1,14 @@
 //! What a step does is planned before anything changes: planning only reads.
-ghost use Rattle.std.specs.Prelude.{◌≡◌, ◌≤◌, ℕ, IfOk, IfSome, List, option_copied};
+ghost use Rattle.std.specs.Prelude.{◌≡◌, ◌≤◌, ◌<◌, ◌==◌, ℕ, false, length, IfOk, IfSome, List, option_copied};
+ghost use Rattle.rad_packet.specs.Codes.{code_status_server};
 ghost use Rattle.rad_packet.specs.Packets.{packet_octets};
-ghost use Rattle.rad_auth.specs.Admission.{IsAnswerable, proxy_states_max, proxy_states_size};
+ghost use Rattle.rad_auth.specs.Admission.{proxy_states_max, proxy_states_size};
 ghost use Rattle.rad_auth.specs.Sealing.{IsReply};
 ghost use Rattle.rad_config.specs.Spans.{moment_max};
 ghost use Rattle.rad_recent.specs.Recent.{beside, is_full};
-ghost use Rattle.rad_server.specs.Plans.{IsAccessReply, IsAccountingReply, IsNewReply, IsPlanOf, planned_answer};
+ghost use Rattle.rad_server.specs.Plans.{IsAccessReply, IsAccountingReply, IsKnownReply, IsNewReply, IsPlanOf, planned_answer};
+ghost use Rattle.rad_config.specs.Configurations.{Configuration};
+ghost use Rattle.rad_server.specs.Prepared.{IsLogin, IsReported};
 ghost use Rattle.rad_server.specs.TableStates.{AreUsable, live_state};
 ghost use Rattle.rad_server.specs.Replies.{access_reject};
 ghost use Rattle.rad_server.specs.States.{State};
@@ -14,15 +17,15 @@ ghost use Rattle.rad_server.specs.declared.change.Change.TheVariants as Change;
 
 use crate::access::{Decision, decide};
 use crate::answer::Answer;
-use crate::change::{Change, reported_change};
-use crate::credentials::Credentials;
+use crate::change::Change;
 use crate::denial::Denial;
+use crate::prepared::Prepared;
 use crate::reply::{
     access_accept, access_challenge, access_reject, accounting_response, status_reply,
 };
+use crate::rule::{Login, Rule};
 use crate::tables::Tables;
-use rad_auth::{Door, Request};
-use rad_config::Config;
+use rad_auth::{Request, admitted_is_answerable};
 use rad_packet::code::STATUS_SERVER;
 use rad_packet::{Body, Octets, Packet};
 use rad_recent::{Kept, Key, Recent};
@@ -64,7 +67,7 @@ impl Plan<'_> {
 /// A request to be answered.
 #[derive(Drop)]
 pub(crate) struct Asked<'r, 'a> {
-    pub request: &'r Request<'a>,
+    pub prepared: &'r Prepared<'r, 'a>,
     /// The octets of the request up to Length, if what is kept is to share them. Otherwise it gets a copy.
     pub octets: Option<&'r Octets>,
     /// The draw for the State of a challenge.
@@ -74,25 +77,25 @@ pub(crate) struct Asked<'r, 'a> {
 /// The plan for a request at a moment. What is kept shares the body.
 pub(crate) fn plan_step<'a>(
     alloc: Global,
-    config: &Config,
     tables: &Tables,
     now: u64,
     asked: Asked<'_, 'a>,
 ) -> Result<Plan<'a>, AllocError>
     requires moment { now ≤ moment_max }
-    requires answerable { IsAnswerable config.now.clients asked.request.now }
     requires octets { IfSome asked.octets
-        (λ octets. octets.now ≡ packet_octets asked.request.now.packet) }
-    requires usable { AreUsable config.now tables.now }
-    ensures planned { IfOk result (IsPlanOf config.now (live_state now tables.now)
-        asked.entry.request.now asked.entry.draw.now) }
+        (λ octets. octets.now ≡ packet_octets asked.prepared.now.request.packet) }
+    requires usable { AreUsable asked.prepared.now.configuration tables.now }
+    ensures planned { IfOk result (IsPlanOf asked.entry.prepared.now.configuration
+        (live_state now tables.now) asked.entry.prepared.now.request asked.entry.draw.now) }
     ensures sealable { IfOk result (λ plan. IsSealable (planned_answer plan)) }
 {
     let Asked {
-        request,
+        prepared,
         octets,
         draw,
     } = asked;
+    let request = prepared.request();
+    admitted_is_answerable(prepared.config().clients(), request);
     if request.packet.code() == STATUS_SERVER {
         let mut body = status_reply(alloc, request.door, &request.packet)?;
         body.share()?;
@@ -105,7 +108,7 @@ pub(crate) fn plan_step<'a>(
     if is_full(&tables.recent, &key, now) {
         return Ok(Plan::Busy);
     }
-    let mut reply = plan_reply(alloc, config, tables, now, request, draw)?;
+    let mut reply = plan_reply(alloc, tables, now, prepared, draw)?;
     reply.body.share()?;
     let kept = Kept {
         key,
@@ -151,50 +154,75 @@ fn is_full(recent: &Recent, key: &Key, now: u64) -> bool
     recent.peek(key, now).is_err()
 }
 
-// The reply by the rule of the server's port.
+// The reply by the rule of a request that is no Status-Server.
 fn plan_reply<'a>(
     alloc: Global,
-    config: &Config,
     tables: &Tables,
     now: u64,
-    request: &Request<'a>,
+    prepared: &Prepared<'_, 'a>,
     draw: &[u8; 16],
 ) -> Result<NewReply<'a>, AllocError>
     requires moment { now ≤ moment_max }
-    requires answerable { IsAnswerable config.now.clients request.now }
-    requires usable { AreUsable config.now tables.now }
-    ensures rule { IfOk result (IsNewReply config.now (live_state now tables.now)
-        request.now draw.now) }
+    requires code { (prepared.now.request.packet.code == code_status_server) ≡ false }
+    requires usable { AreUsable prepared.now.configuration tables.now }
+    ensures rule { IfOk result (IsNewReply prepared.now.configuration (live_state now tables.now)
+        prepared.now.request draw.now) }
     ensures sealable { IfOk result (λ reply. IsReply reply.body) }
 {
-    match request.door {
-        Door::Auth => plan_access(alloc, config, tables, now, request, draw),
-        Door::Acct => plan_accounting(alloc, config, request),
+    let request = prepared.request();
+    admitted_is_answerable(prepared.config().clients(), request);
+    match prepared.rule() {
+        Rule::Status => unreachable!(),
+        Rule::Access(login) => plan_access(alloc, tables, now, prepared, login, draw),
+        Rule::Accounting(change) => plan_accounting(alloc, request, change),
     }
 }
 
-// The reply to an Access-Request.
+// The reply to an Access-Request with these credentials, or with none that are looked at.
 fn plan_access<'a>(
     alloc: Global,
-    config: &Config,
     tables: &Tables,
     now: u64,
-    request: &Request<'a>,
+    prepared: &Prepared<'_, 'a>,
+    login: Result<Login<'a>, Denial>,
     draw: &[u8; 16],
 ) -> Result<NewReply<'a>, AllocError>
     requires moment { now ≤ moment_max }
-    requires answerable { IsAnswerable config.now.clients request.now }
-    requires usable { AreUsable config.now tables.now }
-    ensures rule { IfOk result (IsAccessReply config.now (live_state now tables.now)
-        request.now draw.now) }
+    requires login { IsLogin prepared.now.configuration prepared.now.request login }
+    requires usable { AreUsable prepared.now.configuration tables.now }
+    ensures rule { IfOk result (IsAccessReply prepared.now.configuration (live_state now tables.now)
+        prepared.now.request draw.now) }
     ensures sealable { IfOk result (λ reply. IsReply reply.body) }
 {
-    let credentials = match Credentials::of(&request.packet) {
-        Ok(credentials) => credentials,
-        Err(denial) => return plan_denial(alloc, request, None, denial),
-    };
-    let answered = credentials.state;
-    match decide(config, tables, now, request, &credentials) {
+    let request = prepared.request();
+    admitted_is_answerable(prepared.config().clients(), request);
+    match login {
+        Ok(login) => plan_login(alloc, tables, now, prepared, login, draw),
+        Err(denial) => plan_denial(alloc, request, None, denial),
+    }
+}
+
+// The same with these credentials.
+fn plan_login<'a>(
+    alloc: Global,
+    tables: &Tables,
+    now: u64,
+    prepared: &Prepared<'_, 'a>,
+    login: Login<'a>,
+    draw: &[u8; 16],
+) -> Result<NewReply<'a>, AllocError>
+    requires moment { now ≤ moment_max }
+    requires within { IfSome login.user
+        (λ user. user < length prepared.now.configuration.users) }
+    requires usable { AreUsable prepared.now.configuration tables.now }
+    ensures rule { IfOk result (IsKnownReply prepared.now.configuration (live_state now tables.now)
+        prepared.now.request draw.now login.entry) }
+    ensures sealable { IfOk result (λ reply. IsReply reply.body) }
+{
+    let (config, request) = (prepared.config(), prepared.request());
+    admitted_is_answerable(config.clients(), request);
+    let answered = login.state;
+    match decide(config, tables, now, request, &login) {
         Err(denial) => plan_denial(alloc, request, answered, denial),
         Ok(Decision::Challenge(user, number)) => {
             let body = access_challenge(
@@ -246,21 +274,22 @@ fn plan_denial<'a>(
     })
 }
 
-// The reply to an Accounting-Request.
+// The reply to an Accounting-Request that reports this.
 fn plan_accounting<'a>(
     alloc: Global,
-    config: &Config,
     request: &Request<'a>,
+    change: Change,
 ) -> Result<NewReply<'a>, AllocError>
-    requires { IsAnswerable config.now.clients request.now }
-    ensures rule { IfOk result (λ reply. (current : State) (draw : List ℕ)
-        → IsAccountingReply config.now current request.now draw reply) }
+    requires { proxy_states_size request.now.packet ≤ proxy_states_max }
+    ensures rule { IfOk result (λ reply. (configuration : Configuration)
+        → IsReported configuration request.now change → (current : State) (draw : List ℕ)
+        → IsAccountingReply configuration current request.now draw reply) }
     ensures sealable { IfOk result (λ reply. IsReply reply.body) }
 {
     let body = accounting_response(alloc, &request.packet)?;
     Ok(NewReply {
         body,
         answered: None,
-        change: reported_change(config, request),
+        change,
     })
 }

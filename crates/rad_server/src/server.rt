@@ -12,6 +12,7 @@ use crate::answer::Answer;
 use crate::commit::{commit, make_room};
 use crate::lawful::lawful_steps;
 use crate::plan::{Asked, plan_step};
+use crate::prepared::Prepared;
 use crate::tables::Tables;
 use rad_auth::{Request, admitted_is_answerable};
 use rad_config::Config;
@@ -137,32 +138,34 @@ impl<'c> Server<'c> {
         ensures configuration { self.new.configuration ≡ self.old.configuration }
         ensures unchanged { OnErr result (self.new ≡ self.old) }
     {
-        let (answer, _copy) = self.step_with_copy(request, None, moment, draw)?;
+        let prepared = Prepared::of(self.config, request);
+        let (answer, _copy) = self.step_with_copy(&prepared, None, moment, draw)?;
         Ok(answer)
     }
 
-    /// The step of a request, and a copy of its answer: the memory for it is there before the state changes.
+    /// The step of a prepared request, and a copy of its answer: the memory for it is there before the state changes.
     ///
     /// What is kept shares the body, and the octets if they are given: those of the request up to Length.
     pub(crate) fn step_with_copy(
         &mut self,
-        request: &Request,
+        prepared: &Prepared,
         octets: Option<&Octets>,
         moment: u64,
         draw: &[u8; 16],
     ) -> Result<(Answer, Answer), AllocError>
         requires moment { moment ≤ moment_max }
-        requires admitted { IsAdmitted self.old.configuration.clients request.now }
+        requires prepared { prepared.now.configuration ≡ self.old.configuration }
         requires octets { IfSome octets
-            (λ octets. octets.now ≡ packet_octets request.now.packet) }
+            (λ octets. octets.now ≡ packet_octets prepared.now.request.packet) }
         ensures answered { IfOk result (λ answers.
-            step self.old.configuration self.old.state request.now moment draw.now
+            step self.old.configuration self.old.state prepared.now.request moment draw.now
             ≡ (answers.0, self.new.state)) }
         ensures copy { IfOk result (λ answers. answers.1 ≡ answers.0) }
         ensures sealable { IfOk result (λ answers. IsSealable answers.0) }
         ensures configuration { self.new.configuration ≡ self.old.configuration }
         ensures unchanged { OnErr result (self.new ≡ self.old) }
     {
+        let request = prepared.request();
         admitted_is_answerable(self.config.clients(), request);
         lawful_steps();
         let Server {
@@ -173,11 +176,11 @@ impl<'c> Server<'c> {
         } = self;
         let now = (*clock).max(moment);
         let asked = Asked {
-            request,
+            prepared,
             octets,
             draw,
         };
-        let plan = plan_step(*alloc, config, tables, now, asked)?;
+        let plan = plan_step(*alloc, tables, now, asked)?;
         let copy = plan.answer()?;
         make_room(tables, &plan)?;
         *clock = now;

@@ -2,6 +2,7 @@ use Rattle.std.proofs.Common.{◌≡◌, All, List, None, length, map, true, ari
 use Rattle.std.proofs.lemmas.List.Elements.{All-weaker}
 use Rattle.std.proofs.lemmas.Option.{none-some}
 use Rattle.std.specs.Vec.{vec_capacity, vec_len}
+use Rattle.rad_config.specs.Configurations.{Configuration}
 use Rattle.rad_auth.specs.Clients.{Client}
 use Rattle.rad_claim.proofs.FinishedLemmas.{no_fault}
 use Rattle.rad_claim.specs.Claims.{ClaimSeat, IsEachOnce, IsFinishedSeatOf, IsSeatOf, close_fault, has_finished}
@@ -45,7 +46,7 @@ returns g c =
     let have : HaveHandedIn setting.claims opening.configuration.clients arrivals log c.args.outcomes.items (vec_len c.args.workers) handed =
     subst (HaveHandedIn setting.claims opening.configuration.clients arrivals log c.args.outcomes.items (vec_len c.args.workers)) (sym view)
     (subst (λ (clients : List Client). HaveHandedIn setting.claims clients arrivals log c.args.outcomes.items (vec_len c.args.workers)
-    c.hand_in.new.handed) setting.of_server c.hand_in.ensures.handed) in
+    c.hand_in.new.handed) (ap (λ (server : Configuration). server.clients) setting.of_server) c.hand_in.ensures.handed) in
     let once : IsEachOnce (batch_count arrivals) (map (λ (seat : ClaimSeat). seat.claimed) handed.seats) =
     subst (λ n. IsEachOnce n (map (λ (seat : ClaimSeat). seat.claimed) handed.seats)) setting.batches
     (subst (IsEachOnce setting.claims.batches) c.in-Ok.ensures.dealt.of_seats c.in-Ok.ensures.dealt.once) in

@@ -16,13 +16,13 @@ loop-worker-init g c = record {
 
 pub take_in-frames-requires-clause-finished : goal.take_in-frames-requires-clause-finished
 take_in-frames-requires-clause-finished g c =
-    (All-pop (HasFinished c.args.setting.now.claims c.args.setting.now.clients.now c.args.setting.now.arrivals.now) c.loop-worker.workers.items
+    (All-pop (HasFinished c.args.setting.now.claims c.args.setting.now.config.now.clients c.args.setting.now.arrivals.now) c.loop-worker.workers.items
     c.pop.new.self.items (Some c.in-Some.worker) c.in-Some.ensures.items c.loop-worker.invariant.finished).1
 
 pub loop-worker-preserved : goal.loop-worker-preserved
 loop-worker-preserved g c =
     let claims = c.args.setting.now.claims in
-    let clients = c.args.setting.now.clients.now in
+    let clients = c.args.setting.now.config.now.clients in
     let arrivals = c.args.setting.now.arrivals.now in
     let takes = subst (λ log. TakesIn claims clients arrivals log c.loop-worker.handed c.take_in-frames.new.handed) c.loop-worker.invariant.unchanged
     c.take_in-frames.ensures.handed in

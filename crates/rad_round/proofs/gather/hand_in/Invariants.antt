@@ -6,10 +6,10 @@ abbrev pub invariant-loop-worker : goal.invariant-loop-worker
 invariant-loop-worker g l = record {
   unchanged : l.keeper ≡ l.initial.keeper;
   room : l.handed.room ≡ l.initial.handed.room;
-  finished : All (HasFinished l.setting.claims l.setting.clients.now l.setting.arrivals.now) l.workers.items;
+  finished : All (HasFinished l.setting.claims l.setting.config.now.clients l.setting.arrivals.now) l.workers.items;
   count : ℕ;
   counted : count + vec_len l.workers ≡ vec_len l.initial.workers;
-  handed : HaveHandedIn l.setting.claims l.setting.clients.now l.setting.arrivals.now l.initial.keeper l.initial.handed.outcomes count l.handed;
+  handed : HaveHandedIn l.setting.claims l.setting.config.now.clients l.setting.arrivals.now l.initial.keeper l.initial.handed.outcomes count l.handed;
 }
 
 abbrev pub decreases-loop-worker : goal.decreases-loop-worker

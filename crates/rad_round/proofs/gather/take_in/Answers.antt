@@ -14,7 +14,7 @@ put_all-requires-clause-fit g c =
     let count_is : count ≡ length c.args.setting.now.arrivals.now =
     ap length c.as_mut_slice-places.ensures.value ∙ ap (λ (h : HandedIn). length h.outcomes) c.handed.view_is ∙ c.requires.outcomes in
     subst (All (FitsAmong count)) (sym c.into_parts-seat.ensures.answered)
-    (All-weaker (IsAnswered c.args.setting.now.clients.now c.args.setting.now.arrivals.now) (FitsAmong count)
+    (All-weaker (IsAnswered c.args.setting.now.config.now.clients c.args.setting.now.arrivals.now) (FitsAmong count)
     (λ answered right. fits_among count answered count_is right) c.args.worker.answered c.requires.finished.answered.right)
 
 pub returns-clause-handed : goal.returns-clause-handed

@@ -8,5 +8,5 @@ gather-requires-clause-finished g c =
     let workers = c.in-Ok.workers in
     let after = c.work_all.new.workers in
     let same : length workers.items ≡ length after = search rules in
-    subst (All (HasFinished c.args.room.claims c.clients.result.now c.args.arrivals.now))
+    subst (All (HasFinished c.args.room.claims c.config.result.now.clients c.args.arrivals.now))
     (sym (written_back workers.len after workers.items same (omega (arith, same, workers.ok.0)))) c.work_all.ensures

@@ -1,5 +1,4 @@
-use Rattle.std.proofs.Common.{◌≡◌, ◌+◌, ◌*◌, ◌++◌, drop, length, take}
-use Rattle.std.specs.Array.Iter.{array_into_iter_items}
+use Rattle.std.proofs.Common.{◌≡◌, ◌+◌, ◌*◌, ◌++◌, length, take}
 use Rattle.rad_round.specs.Works.{AreAsked, entries_in}
 use Rattle.rad_round.proofs.shared.ask.Given as goal
 
@@ -10,5 +9,4 @@ invariant-loop-lane g l = record {
   asked : AreAsked l.batch.arrivals (l.batch.number * 8) l.batch.verdicts l.asked;
   history : l.locked.history ≡ l.initial.locked.history ++ entries_in (take l.lane l.asked);
   counted : l.share.amount ≡ l.initial.share.amount + length (entries_in (take l.lane l.asked));
-  octets : array_into_iter_items l.octets ≡ drop l.lane l.fn.octets;
 }

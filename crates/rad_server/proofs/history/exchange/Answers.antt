@@ -1,5 +1,5 @@
-use Rattle.std.proofs.Common.{◌≡◌, ◌∷◌, ◌++◌, [], length, rules, sym, subst}
-use Rattle.rad_auth.specs.Admission.{own_datagram}
+use Rattle.std.proofs.Common.{◌≡◌, ◌∷◌, ◌++◌, [], rules, sym, subst}
+use Rattle.rad_auth.specs.Admission.{IsAdmitted, own_datagram}
 use Rattle.rad_server.specs.Runs.{IsExchange, Run, datagram_of_entry}
 use Rattle.rad_server.specs.Servers.{Server}
 use Rattle.rad_server.specs.declared.entry.Entry.{Entry}
@@ -11,21 +11,22 @@ returns-clause-goes_on c = λ opening history.
     let before : Server = c.args.server.now in
     let after : Server = c.step_with_copy.new.self in
     let entry : Entry = record {
-      tag = c.args.tag;
-      source = c.args.request.now.source;
-      port = c.args.request.now.port;
-      door = c.args.request.now.door;
-      octets = c.args.octets;
-      moment = c.args.moment;
-      draw = c.args.draw.now;
+      tag = c.args.ask.tag;
+      source = c.args.ask.prepared.now.request.source;
+      port = c.args.ask.prepared.now.request.port;
+      door = c.args.ask.prepared.now.request.door;
+      octets = c.args.ask.octets.now;
+      moment = c.args.ask.moment;
+      draw = c.args.ask.draw.now;
       answer = c.in_ok-answer.answer;
     } in
     let longer : c.push_reserved.new.self.items ≡ c.args.history.now.items ++ entry ∷ [] = search rules in
-    let own : own_datagram c.args.request.now ≡ datagram_of_entry entry = search rules in
-    let drawn : length c.args.draw.now ≡ 16 = search rules in
+    let own : own_datagram c.args.ask.prepared.now.request ≡ datagram_of_entry entry = search rules in
+    let admitted = subst (λ configuration. IsAdmitted configuration.clients c.args.ask.prepared.now.request) c.requires
+    (subst (IsAdmitted c.args.ask.prepared.now.configuration.clients) c.request-request.ensures.value c.request-request.ensures.admitted) in
     let exchange : IsExchange before.configuration before.state entry after.state = record {
-      request = c.args.request.now;
-      asked = record { own = own; admitted = c.requires.admitted; moment = c.requires.moment; draw = drawn };
+      request = c.args.ask.prepared.now.request;
+      asked = record { own = own; admitted = admitted; moment = c.args.ask.at; draw = c.args.ask.drawn };
       answered = c.in_ok-answer.ensures.answered;
     } in
     let goes_on = run_goes_on opening.configuration opening.state c.args.history.now.items before.state entry after.state history.run

@@ -6,7 +6,7 @@ use Rattle.rad_round.proofs.batch.Batch.seal.Goals as goal
 
 pub returns : goal.returns
 returns c =
-    let clients = c.args.self.now.clients in
+    let clients = c.args.self.now.configuration.clients in
     let verdicts = c.args.self.now.verdicts in
     let asked = c.args.asked.now in
     sealed_of clients verdicts asked

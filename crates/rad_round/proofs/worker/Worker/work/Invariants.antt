@@ -6,7 +6,7 @@ use Rattle.rad_round.proofs.worker.Worker.work.Given as goal
 abbrev pub invariant-loop-batch : goal.invariant-loop-batch
 invariant-loop-batch g l = record {
   own : IsSeatOf l.round.setting.claims l.seat;
-  answered : HasAnswered l.round.setting.clients.now l.round.setting.arrivals.now l.seat.claimed l.self;
+  answered : HasAnswered l.round.setting.config.now.clients l.round.setting.arrivals.now l.seat.claimed l.self;
   room : l.round.setting.claims.batches ≤ l.self.room;
 }
 

@@ -12,7 +12,7 @@ pub invariant_of-self-2 : goal.invariant_of-self-2
 invariant_of-self-2 c =
     let configuration : Configuration = c.self.inside.config.now in
     let tables = c.self.inside.tables in
-    let request = c.args.request.now in
+    let request = c.request-request.result.now in
     let draw = c.args.draw.now in
     let now = c.max-now.result in
     let old : State = state_with c.self.inside.clock tables in
