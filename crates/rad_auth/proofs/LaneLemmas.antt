@@ -7,7 +7,7 @@ use Rattle.rad_auth.specs.Clients.{Client, secret_at}
 use Rattle.rad_auth.specs.RequestLanes.{HasKeyOf, HasHmacText, IsMessageAuthenticator, OfCandidate}
 use Rattle.rad_auth.specs.ReplyLanes.{HasReplyHmacText, IsKeyOf, IsReplyHmac}
 use Rattle.rad_auth.specs.Authenticators.{message_authenticator}
-use Rattle.rad_auth.specs.PasswordChecks.{IsTelling}
+use Rattle.rad_auth.specs.PasswordChecks.{IsLaneDigest}
 use Rattle.rad_auth.specs.declared.password_check.PasswordCheck.{PasswordCheck}
 use Rattle.rad_auth.specs.declared.job.Job.{Job}
 use Rattle.rad_auth.specs.declared.candidate.Candidate.{Candidate}
@@ -49,6 +49,6 @@ pub reply_hmac : (key text mac : List ℕ) (lane : Option Job)
 reply_hmac key text mac None keyed signed e = tt
 reply_hmac key text mac (Some job) keyed signed e = λ has. e ∙ keyed text ∙ signed has
 
--- the digest that tells of a password
-pub told_lane : (digest made : List ℕ) (lane : Option PasswordCheck) → digest ≡ made → IfSome lane (IsTelling made) → IfSome lane (IsTelling digest)
-told_lane digest made lane is told = subst (λ octets. IfSome lane (IsTelling octets)) (sym is) told
+-- the digest of a lane
+pub lane_digest : (digest made : List ℕ) (lane : Option PasswordCheck) → digest ≡ made → IfSome lane (IsLaneDigest made) → IfSome lane (IsLaneDigest digest)
+lane_digest digest made lane is told = subst (λ octets. IfSome lane (IsLaneDigest octets)) (sym is) told

@@ -14,7 +14,7 @@ use borrow.Rule.Slice.PartMut.{put_mid}
 use Rattle.md5.specs.Md5.{md5}
 use Rattle.md5.proofs.StandardFacts.{length-md5}
 use Rattle.rad_hmac.specs.Hmac.{xor}
-use Rattle.rad_auth.specs.PasswordLanes.{block_before}
+use Rattle.rad_auth.specs.PasswordBlocks.{block_before}
 use Rattle.rad_auth.specs.Passwords.{IsRevealed, block_count, first_blocks, hidden_blocks, hidden_text, padded_password, value_fits}
 
 -- the first n blocks of a text, hidden

@@ -5,8 +5,8 @@ pub mod ClientRows
 pub mod Clients
 pub mod Datagrams
 pub mod Discards
+pub mod PasswordBlocks
 pub mod PasswordChecks
-pub mod PasswordLanes
 pub mod Passwords
 pub mod ReplyLanes
 pub mod RequestLanes

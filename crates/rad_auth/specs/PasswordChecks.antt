@@ -22,26 +22,25 @@ abbrev pub is_right_in : Option PasswordCheck → Bool
 is_right_in None = false
 is_right_in (Some check) = is_right check
 
--- whether one digest tells, of a message that a lane takes: a value of one block, or the response of a password and a challenge as an
--- attribute has them
-abbrev pub is_of_one_digest : PasswordCheck → Bool
-is_of_one_digest (UserPassword hidden) = length hidden.value.now == 16
-is_of_one_digest (ChapPassword response) =
+-- whether one digest in a lane is enough: for a value of one block, or for a response to a challenge as an attribute has it
+abbrev pub fits_lane : PasswordCheck → Bool
+fits_lane (UserPassword hidden) = length hidden.value.now == 16
+fits_lane (ChapPassword response) =
     nat_le (length response.password.now) password_max && nat_le (length (challenge_of response)) value_max
 
-abbrev pub has_one_digest : Option PasswordCheck → Bool
-has_one_digest None = false
-has_one_digest (Some check) = is_of_one_digest check
+abbrev pub uses_lane : Option PasswordCheck → Bool
+uses_lane None = false
+uses_lane (Some check) = fits_lane check
 
--- the message of that digest: what hides the block, or what the response is made of
+-- what the lane digests: what hides the block, or what the response is made of
 abbrev pub digested : PasswordCheck → List ℕ
 digested (UserPassword hidden) = hidden.secret.now ++ hidden.request_authenticator
 digested (ChapPassword response) = take 1 response.value.now ++ (response.password.now ++ challenge_of response)
 
--- the digest that tells, if one does
-abbrev pub IsTelling : List ℕ → PasswordCheck → Type 0
-IsTelling digest check = IsTrue (is_of_one_digest check) → digest ≡ md5 (digested check)
+-- the digest of a lane, if one is enough
+abbrev pub IsLaneDigest : List ℕ → PasswordCheck → Type 0
+IsLaneDigest digest check = IsTrue (fits_lane check) → digest ≡ md5 (digested check)
 
-abbrev pub AreTelling : List (Option PasswordCheck) → List (List ℕ) → Type 0
-AreTelling checks digests = EachLane (λ j. (other : Option PasswordCheck)
-    → IfSome (slice_index_or checks j other) (IsTelling (slice_index_or digests j [])))
+abbrev pub AreLaneDigests : List (Option PasswordCheck) → List (List ℕ) → Type 0
+AreLaneDigests checks digests = EachLane (λ j. (other : Option PasswordCheck)
+    → IfSome (slice_index_or checks j other) (IsLaneDigest (slice_index_or digests j [])))

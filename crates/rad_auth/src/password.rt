@@ -1,10 +1,10 @@
 //! User-Passwords, hidden under a secret and opened again (RFC 2865, section 5.2).
-ghost use Rattle.std.specs.Prelude.{◌≡◌, ℕ, List, [], ◌+◌, ◌-◌, ◌*◌, ◌/◌, ◌%◌, ◌<◌, ◌≤◌, ◌++◌, length, slice_index_or, take, drop, IsTrue};
+ghost use Rattle.std.specs.Prelude.{◌≡◌, [], ◌-◌, ◌*◌, ◌%◌, ◌<◌, ◌≤◌, ◌++◌, length, slice_index_or, take, drop, IsTrue};
 ghost use Rattle.md5.specs.Md5.{md5};
 ghost use Rattle.rad_hmac.specs.Hmac.{xor};
 ghost use Rattle.rad_md5.specs.Pieces.{message};
 ghost use Rattle.rad_auth.specs.Clients.{secret_max};
-ghost use Rattle.rad_auth.specs.PasswordLanes.{AreBlockDigests, Reveals};
+ghost use Rattle.rad_auth.specs.PasswordBlocks.{AreBlockDigests, Judges, JudgesBlock, Reveals};
 ghost use Rattle.rad_auth.specs.Passwords.{IsRevealed, hidden_password, hidden_text, padded_password, password_max, password_right, value_fits, value_length};
 
 use crate::authenticators::nothing;
@@ -164,8 +164,7 @@ fn block_digests(
 
 // A digest in the first lane, and nothing in the others.
 fn alone(digest: &[u8; DIGEST_LEN]) -> [[u8; DIGEST_LEN]; LANES]
-    ensures { (wanted : ℕ → List ℕ) (value : List ℕ) → length value ≡ 16 → digest.now ≡ wanted 0
-        → (j : ℕ) → j * 16 < length value → slice_index_or result j [] ≡ wanted j }
+    ensures { slice_index_or result 0 [] ≡ digest.now }
 {
     let none = [0; DIGEST_LEN];
     [*digest, none, none, none, none, none, none, none]
@@ -204,22 +203,18 @@ pub fn password_right(
     is_opened(&digests, value, password)
 }
 
-/// The same for a value of one block, whose digest is known.
+/// The same for a value of one block, given the digest that hides it.
 pub(crate) fn password_right_by(digest: &[u8; DIGEST_LEN], value: &[u8], password: &[u8]) -> bool
     requires { length value.now ≡ 16 }
-    ensures { (secret request_authenticator : List ℕ) → length request_authenticator ≡ 16
-        → digest.now ≡ md5 (secret ++ request_authenticator)
-        → result ≡ password_right secret request_authenticator value.now password.now }
+    ensures { JudgesBlock digest.now value.now password.now result }
 {
     is_opened(&alone(digest), value, password)
 }
 
-// Whether a password, padded with zeros, is what these digests open a value as.
+// Whether these digests open a value as a password, padded with zeros.
 fn is_opened(digests: &[[u8; DIGEST_LEN]; LANES], value: &[u8], password: &[u8]) -> bool
     requires { IsTrue (value_fits value.now) }
-    ensures { (secret request_authenticator : List ℕ) → length request_authenticator ≡ 16
-        → AreBlockDigests secret request_authenticator value.now digests.now
-        → result ≡ password_right secret request_authenticator value.now password.now }
+    ensures { Judges digests.now value.now password.now result }
 {
     if password.len() > value.len() {
         return false;

@@ -71,7 +71,7 @@ impl ChapResponse<'_> {
 }
 
 impl PasswordCheck<'_> {
-    ghost use Rattle.rad_auth.specs.PasswordChecks.{IsTelling, is_of_one_digest, is_right};
+    ghost use Rattle.rad_auth.specs.PasswordChecks.{IsLaneDigest, fits_lane, is_right};
 
     /// Whether the password is the one that was sent.
     ///
@@ -87,9 +87,9 @@ impl PasswordCheck<'_> {
         }
     }
 
-    /// Whether one digest tells, of a message that a lane takes.
-    pub(crate) fn is_of_one_digest(&self) -> bool
-        ensures { result ≡ is_of_one_digest self.now }
+    /// Whether one digest in a lane is enough.
+    pub(crate) fn fits_lane(&self) -> bool
+        ensures { result ≡ fits_lane self.now }
     {
         match self {
             PasswordCheck::UserPassword(hidden) => hidden.value.len() == DIGEST_LEN,
@@ -99,12 +99,12 @@ impl PasswordCheck<'_> {
         }
     }
 
-    /// Whether the password is right, given the digest that tells, if one does.
+    /// Whether the password is right, given the lane's digest, if one is enough.
     pub(crate) fn is_right_by(&self, digest: &[u8; DIGEST_LEN]) -> bool
-        requires { IsTelling digest.now self.now }
+        requires { IsLaneDigest digest.now self.now }
         ensures { result ≡ is_right self.now }
     {
-        if !self.is_of_one_digest() {
+        if !self.fits_lane() {
             return self.is_right();
         }
         match self {
@@ -118,11 +118,11 @@ impl PasswordCheck<'_> {
 
 impl<'x> PasswordCheck<'x> {
     ghost use Rattle.rad_md5.specs.Pieces.{message};
-    ghost use Rattle.rad_auth.specs.PasswordChecks.{digested, is_of_one_digest};
+    ghost use Rattle.rad_auth.specs.PasswordChecks.{digested, fits_lane};
 
-    /// The message of that digest.
+    /// What the lane digests.
     pub(crate) fn digested(&'x self) -> Pieces<'x>
-        requires { IsTrue (is_of_one_digest self.now) }
+        requires { IsTrue (fits_lane self.now) }
         ensures { message result ≡ digested self.now }
     {
         match self {

@@ -2,22 +2,22 @@
 ghost use Rattle.std.specs.Prelude.{◌≡◌, map, IfSome};
 ghost use Rattle.md5.specs.Md5.{md5};
 ghost use Rattle.rad_md5.specs.Pieces.{message};
-ghost use Rattle.rad_auth.specs.PasswordChecks.{AreTelling, IsTelling, has_one_digest, is_right_in};
+ghost use Rattle.rad_auth.specs.PasswordChecks.{AreLaneDigests, IsLaneDigest, uses_lane, is_right_in};
 
 use crate::authenticators::nothing;
 use crate::password_check::PasswordCheck;
 use rad_md5::{DIGEST_LEN, LANES, Pieces, digest8};
 
-// From so many passwords on, a pass of eight digests takes less time than one digest for each.
+// The fewest passwords for which a pass of eight digests takes less time than one digest for each.
 const PASS_PAYS_FROM: usize = 3;
 
 /// Whether each password is the one that was sent. A lane without one is wrong.
 ///
-/// One pass tells of responses and of values of one block, unless there are few. Source: RFC 2865, sections 2.2, 5.2 and 5.3.
+/// One pass of digests serves responses and values of one block, unless there are few. A longer value takes a pass of its own. Source: RFC 2865, sections 2.2, 5.2 and 5.3.
 pub fn passwords_right8(checks: &[Option<PasswordCheck>; 8]) -> [bool; 8]
     ensures { result ≡ map is_right_in checks.now }
 {
-    if checks.iter().filter(|check| has_one_digest(check)).count() < PASS_PAYS_FROM {
+    if checks.iter().filter(|check| uses_lane(check)).count() < PASS_PAYS_FROM {
         one_by_one(checks)
     } else {
         side_by_side(checks)
@@ -66,9 +66,9 @@ fn side_by_side(checks: &[Option<PasswordCheck>; LANES]) -> [bool; LANES]
     ]
 }
 
-// The digests that tell, in one pass.
+// The digests of the lanes, in one pass.
 fn digests(checks: &[Option<PasswordCheck>; LANES]) -> [[u8; DIGEST_LEN]; LANES]
-    ensures { AreTelling checks.now result }
+    ensures { AreLaneDigests checks.now result }
 {
     let [a, b, c, d, e, f, g, h] = checks;
     digest8(&[
@@ -83,28 +83,28 @@ fn digests(checks: &[Option<PasswordCheck>; LANES]) -> [[u8; DIGEST_LEN]; LANES]
     ])
 }
 
-fn has_one_digest(check: &Option<PasswordCheck>) -> bool
-    ensures { result ≡ has_one_digest check.now }
+fn uses_lane(check: &Option<PasswordCheck>) -> bool
+    ensures { result ≡ uses_lane check.now }
 {
     match check {
         None => false,
-        Some(check) => check.is_of_one_digest(),
+        Some(check) => check.fits_lane(),
     }
 }
 
 // The message of a lane's digest.
 fn lane_text<'x>(check: &'x Option<PasswordCheck<'x>>) -> Pieces<'x>
-    ensures { IfSome check.now (IsTelling (md5 (message result))) }
+    ensures { IfSome check.now (IsLaneDigest (md5 (message result))) }
 {
     match check {
-        Some(check) if check.is_of_one_digest() => check.digested(),
+        Some(check) if check.fits_lane() => check.digested(),
         _ => nothing(),
     }
 }
 
 // Whether a lane's password is right, given the lane's digest.
 fn is_right_by(check: &Option<PasswordCheck>, digest: &[u8; DIGEST_LEN]) -> bool
-    requires { IfSome check.now (IsTelling digest.now) }
+    requires { IfSome check.now (IsLaneDigest digest.now) }
     ensures { result ≡ is_right_in check.now }
 {
     match check {

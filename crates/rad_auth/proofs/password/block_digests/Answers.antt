@@ -3,8 +3,8 @@ use Rattle.std.proofs.lemmas.List.{append-nil}
 use Rattle.md5.specs.Md5.{md5}
 use Rattle.rad_md5.specs.Pieces.{message}
 use Rattle.rad_md5.proofs.LaneLemmas.{below_eight}
-use Rattle.rad_auth.specs.PasswordLanes.{block_digest}
-use Rattle.rad_auth.proofs.PasswordLemmas.{before_first, pad_next}
+use Rattle.rad_auth.specs.PasswordBlocks.{block_digest}
+use Rattle.rad_auth.proofs.PasswordLemmas.{before_first, only_block, pad_next}
 use Rattle.rad_auth.proofs.password.block_digests.Goals as goal
 
 pub returns-then-value-eq-BLOCK_LEN : goal.returns-then-value-eq-BLOCK_LEN
@@ -13,7 +13,7 @@ returns-then-value-eq-BLOCK_LEN c =
     let secret : List ℕ = c.args.secret.now in
     let value : List ℕ = c.args.value.now in
     let first = c.block_digest.ensures ∙ ap (λ (b : List ℕ). md5 (secret ++ b)) (sym (before_first ra value c.told-request_authenticator)) in
-    λ j lt. c.alone.ensures (block_digest secret ra value) value c.if-value-eq-BLOCK_LEN.true first j
+    λ j lt. only_block c.alone.result (block_digest secret ra value) value c.if-value-eq-BLOCK_LEN.true (c.alone.ensures ∙ first) j
 
 pub returns : goal.returns
 returns c =

@@ -3,7 +3,7 @@ use Rattle.std.proofs.lemmas.List.{append-nil}
 use Rattle.std.proofs.lemmas.Slice.{drop-put_mid}
 use borrow.Rule.Slice.PartMut.{mid_len, same_len_mid}
 use Rattle.md5.specs.Md5.{md5}
-use Rattle.rad_auth.specs.PasswordLanes.{block_before}
+use Rattle.rad_auth.specs.PasswordBlocks.{block_before}
 use Rattle.rad_auth.specs.Passwords.{IsRevealed}
 use Rattle.rad_auth.proofs.PasswordLemmas.{opened, opened_more, reveals, before_first, before_next, whole_blocks, fits_room}
 use Rattle.rad_auth.proofs.password.open_blocks.Goals as goal

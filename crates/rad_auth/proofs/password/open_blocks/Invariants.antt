@@ -1,5 +1,5 @@
 use Rattle.std.proofs.Common.{◌≡◌, ◌-◌, ◌*◌, ◌/◌, ◌++◌, List, ℕ, length, take, drop}
-use Rattle.rad_auth.specs.PasswordLanes.{AreBlockDigests, block_before}
+use Rattle.rad_auth.specs.PasswordBlocks.{AreBlockDigests, block_before}
 use Rattle.rad_auth.proofs.PasswordLemmas.{opened}
 use Rattle.rad_auth.proofs.password.open_blocks.Given as goal
 

@@ -1,5 +1,5 @@
 use Rattle.std.proofs.Common.{List, ℕ, subst}
-use Rattle.rad_auth.specs.PasswordLanes.{AreBlockDigests}
+use Rattle.rad_auth.specs.PasswordBlocks.{AreBlockDigests}
 use Rattle.rad_auth.proofs.password.password_right.Goals as goal
 
 pub returns : goal.returns

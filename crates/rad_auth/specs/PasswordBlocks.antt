@@ -1,8 +1,8 @@
 -- Eight lanes that open the blocks of a User-Password's value side by side (RFC 2865, section 5.2).
-use Rattle.std.specs.Prelude.{◌≡◌, ℕ, ◌*◌, ◌<◌, List, [], ◌++◌, length, slice_index_or, take, drop}
+use Rattle.std.specs.Prelude.{◌≡◌, ℕ, Bool, ◌*◌, ◌<◌, List, [], ◌++◌, length, slice_index_or, take, drop}
 use Rattle.md5.specs.Md5.{md5}
 use Rattle.rad_md5.specs.Lanes.{EachLane}
-use Rattle.rad_auth.specs.Passwords.{IsRevealed}
+use Rattle.rad_auth.specs.Passwords.{IsRevealed, password_right}
 
 -- what precedes block j of a value, counted from 0: the Request Authenticator, which has 16 octets, or a block
 abbrev pub block_before : List ℕ → List ℕ → ℕ → List ℕ
@@ -21,3 +21,13 @@ AreBlockDigests secret request_authenticator value digests =
 abbrev pub Reveals : List (List ℕ) → List ℕ → List ℕ → Type 0
 Reveals digests value text = (secret request_authenticator : List ℕ) → length request_authenticator ≡ 16
     → AreBlockDigests secret request_authenticator value digests → IsRevealed secret request_authenticator value text
+
+-- wherever they do, this is whether a password is right
+abbrev pub Judges : List (List ℕ) → List ℕ → List ℕ → Bool → Type 0
+Judges digests value password is_right = (secret request_authenticator : List ℕ) → length request_authenticator ≡ 16
+    → AreBlockDigests secret request_authenticator value digests → is_right ≡ password_right secret request_authenticator value password
+
+-- the same of a value of one block, and the digest that hides it
+abbrev pub JudgesBlock : List ℕ → List ℕ → List ℕ → Bool → Type 0
+JudgesBlock digest value password is_right = (secret request_authenticator : List ℕ) → length request_authenticator ≡ 16
+    → digest ≡ md5 (secret ++ request_authenticator) → is_right ≡ password_right secret request_authenticator value password
