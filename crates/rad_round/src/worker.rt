@@ -165,7 +165,7 @@ impl<L: Opened + Logged> Worker<L> {
         let setting = &round.setting;
         let alloc = *outcomes.allocator();
         let verdicts = check_batch(setting.config.clients(), setting.arrivals, number);
-        let prepared = prepare8(setting.config, &verdicts);
+        let prepared = prepare8(alloc, setting.config, &verdicts);
         let octets = octets_in(alloc, &verdicts);
         let batch = Batch::new(
             setting.config,
@@ -181,7 +181,7 @@ impl<L: Opened + Logged> Worker<L> {
     }
 }
 
-// Asks and seals a batch that is checked, and puts the outcomes of its lanes last. Without memory for its frames nothing of it is asked.
+// Asks and seals a batch that is checked, and appends the outcomes of its lanes. Without memory for its frames nothing of it is asked.
 fn answer_batch<L: Opened + Logged, R: Wait>(
     rt: &R,
     round: &OpenRound<L>,

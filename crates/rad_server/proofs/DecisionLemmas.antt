@@ -1,30 +1,38 @@
 -- What the configuration tells of credentials being known, what is decided is what is defined.
-use Rattle.std.proofs.Common.{◌≡◌, ℕ, ◌<◌, ◌==◌, Bool, true, false, not, if◌then◌else◌, List, length, get_or, Option, Some, None, IfSome, is_some, ok_or, slice_get, Result, Ok, Err, refl, sym, ap, ◌∙◌, arith}
-use Rattle.std.specs.Prelude.{IfOk, unwrap_or}
+use Rattle.std.proofs.Common.{◌≡◌, ℕ, ◌<◌, ◌==◌, Bool, true, false, not, if◌then◌else◌, List, length, get_or, Option, Some, None, IfSome, is_some, ok_or, slice_get, Result, Ok, Err, refl, sym, ap, subst, ◌∙◌, arith}
+use Rattle.std.specs.Prelude.{unwrap_or}
 use Rattle.std.specs.Str.{bytes_eq}
 use Rattle.std.proofs.lemmas.Bool.Decides.{nat_tests}
 use Rattle.std.proofs.lemmas.List.Elements.{All-filter}
 use Rattle.std.proofs.lemmas.List.Quantifiers.{position-Some}
 use Rattle.std.proofs.lemmas.Option.{get_or_from_slice_get, slice_get-get_or}
 use Rattle.std.proofs.lemmas.Slice.Eq.{bytes_eq-Decides}
+use Rattle.rad_packet.specs.Bodies.{Body}
 use Rattle.rad_packet.specs.Ladders.{◌>>=◌, refuse_if}
+use Rattle.rad_auth.specs.PasswordChecks.{is_right_in}
+use Rattle.rad_auth.specs.declared.arrival.Door.TheVariants.{Acct, Auth}
 use Rattle.rad_auth.specs.declared.arrival.Request.{Request}
 use Rattle.rad_config.specs.Configurations.{Configuration, user_place}
 use Rattle.rad_config.specs.Ranges.{IsConfiguration}
 use Rattle.rad_config.specs.declared.user.User.{User}
 use Rattle.rad_recent.specs.Challenges.{cut_challenges, has_state, is_challenge_live}
-use Rattle.rad_server.specs.Access.{Decision, access, access_with, answer_matches, challenge_for, decided, decision_on_answer, decision_on_password, is_name_of, password_matches, session_for, user_at, user_by_answer, user_by_password, without_challenge}
+use Rattle.rad_server.specs.Access.{access, access_with, answer_matches, decided, decision_on_answer, decision_on_password, is_name_of, password_matches, session_for, user_at, user_by_answer, user_by_password, user_challenged, user_decision, without_challenge}
+use Rattle.rad_server.specs.Accounting.{account}
+use Rattle.rad_server.specs.Changes.{CanBeMade, changed_by}
 use Rattle.rad_server.specs.Credentials.{Credentials, credentials_in}
-use Rattle.rad_server.specs.Decisions.{access_known, decision_answering, decision_in, decision_known, decision_logged_in, is_named, user_answering, user_challenged, user_logged_in}
-use Rattle.rad_server.specs.Plans.{IsAccessReply, IsKnownReply}
-use Rattle.rad_server.specs.Prepared.{IsLoginOf, wanted_of}
+use Rattle.rad_server.specs.Decisions.{decision_answering, is_named, user_answering}
+use Rattle.rad_server.specs.Prepared.{AreUsers, IsAnswer, IsFixed, IsLogin, IsPasswordOf, wanted_of}
+use Rattle.rad_server.specs.Replies.{accounting_response}
 use Rattle.rad_server.specs.States.{State}
-use Rattle.rad_server.specs.Steps.{without_reply}
-use Rattle.rad_server.specs.TableStates.{AreUsable, live_state, state_for}
+use Rattle.rad_server.specs.Steps.{reply_by_port}
+use Rattle.rad_server.specs.TableStates.{AreUsable, state_for}
+use Rattle.rad_server.specs.declared.change.Change.{Change}
+use Rattle.rad_server.specs.declared.change.Change.TheVariants.{Nothing}
 use Rattle.rad_server.specs.declared.denial.Denial.{Denial}
 use Rattle.rad_server.specs.declared.denial.Denial.TheVariants.{WrongState, AccessDenied}
-use Rattle.rad_server.specs.declared.plan.NewReply.{NewReply}
-use Rattle.rad_server.specs.declared.rule.Login.{Login}
+use Rattle.rad_server.specs.declared.fixed_reply.FixedReply.TheVariants.{Accounting, Denied}
+use Rattle.rad_server.specs.declared.inquiry.Login.{Login}
+use Rattle.rad_server.specs.declared.rule.ChallengeAnswer.{ChallengeAnswer}
 use Rattle.rad_server.specs.declared.tables.Tables.{Tables}
 use Rattle.rad_server.proofs.PlanLemmas.{found_has, image_has}
 
@@ -86,96 +94,135 @@ is_named-true : (o : Option ℕ) (place : ℕ) → is_named o place ≡ true →
 is_named-true None place is = absurd cc
 is_named-true (Some user) place is = ap Some (grind (arith, nat_tests, is))
 
-answering : (configuration : Configuration) (request : Request) (credentials : Credentials) (login : Login) (challenged : Option ℕ)
-    → IsConfiguration configuration → IsLoginOf configuration request credentials login → is_some credentials.state ≡ true
-    → IfSome challenged (λ user. user < length configuration.users)
-    → user_answering challenged login ≡ user_by_answer configuration request challenged credentials
+-- the user whose challenge is answered, whether the answer is right being known
+answering : (configuration : Configuration) (request : Request) (login : Login) (answer : ChallengeAnswer) (challenged : Option ℕ)
+    → IsConfiguration configuration → (known : IsLogin configuration request login) → is_some known.credentials.state ≡ true
+    → answer.user ≡ login.user → answer.is_right ≡ is_right_in login.check → IfSome challenged (λ user. user < length configuration.users)
+    → user_answering challenged answer ≡ user_by_answer configuration request challenged known.credentials
 unfolding user_answering user_by_answer
-answering configuration request credentials login None ranges known has within = refl
-answering configuration request credentials login (Some user) ranges known has within =
-    let own : is_name_of configuration user credentials.name ≡ is_named login.user user =
-    own_name configuration user credentials.name ranges within ∙ ap (λ o. is_named o user) (sym known.user) in
-    sym (two_checks _ _ _ _ user own (λ is.
-    sym (known.right
-    ∙ ap (λ o. answer_matches configuration request credentials.password (wanted_of configuration (is_some credentials.state) o)) (is_named-true login.user user is)
-    ∙ ap (λ b. answer_matches configuration request credentials.password (wanted_of configuration b (Some user))) has)))
+answering configuration request login answer None ranges known has user right within = refl
+answering configuration request login answer (Some place) ranges known has user right within =
+    let credentials : Credentials = known.credentials in
+    let named : answer.user ≡ user_place configuration.users credentials.name = user ∙ known.user in
+    let own : is_name_of configuration place credentials.name ≡ is_named answer.user place =
+    own_name configuration place credentials.name ranges within ∙ ap (λ o. is_named o place) (sym named) in
+    sym (two_checks _ _ _ _ place own (λ is.
+    sym (right ∙ known.check
+    ∙ ap (λ o. answer_matches configuration request credentials.password (wanted_of configuration (is_some credentials.state) o)) (sym user ∙ is_named-true answer.user place is)
+    ∙ ap (λ b. answer_matches configuration request credentials.password (wanted_of configuration b (Some place))) has)))
 
-logged_in : (configuration : Configuration) (request : Request) (credentials : Credentials) (login : Login)
-    → IsLoginOf configuration request credentials login → is_some credentials.state ≡ false
-    → user_logged_in login ≡ user_by_password configuration request credentials
-unfolding user_logged_in user_by_password
-logged_in configuration request credentials login known none =
-    ap (λ o. ok_or o AccessDenied >>= (λ user. refuse_if (not login.is_right) AccessDenied >>= (λ right. Ok user))) known.user
-    ∙ at (user_place configuration.users credentials.name) login.is_right
-    (known.right ∙ ap (λ o. answer_matches configuration request credentials.password (wanted_of configuration (is_some credentials.state) o)) known.user
-    ∙ ap (λ b. answer_matches configuration request credentials.password (wanted_of configuration b (user_place configuration.users credentials.name))) none)
+-- the user whose name and password were sent, whether the password is right being known
+abbrev pub logged_in : Option ℕ → Bool → Result ℕ Denial
+logged_in user right = ok_or user AccessDenied >>= (λ place. refuse_if (not right) AccessDenied >>= (λ r. Ok place))
+
+by_password : (configuration : Configuration) (request : Request) (login : Login) → (known : IsLogin configuration request login)
+    → is_some known.credentials.state ≡ false
+    → user_by_password configuration request known.credentials ≡ logged_in login.user (is_right_in login.check)
+unfolding user_by_password
+by_password configuration request login known none =
+    let credentials : Credentials = known.credentials in
+    sym (ap (λ o. logged_in o (is_right_in login.check)) known.user
+    ∙ at (user_place configuration.users credentials.name) (is_right_in login.check)
+    (known.check ∙ ap (λ o. answer_matches configuration request credentials.password (wanted_of configuration (is_some credentials.state) o)) known.user
+    ∙ ap (λ b. answer_matches configuration request credentials.password (wanted_of configuration b (user_place configuration.users credentials.name))) none))
   where
-    at : (o : Option ℕ) (right : Bool) → right ≡ answer_matches configuration request credentials.password (wanted_of configuration false o)
-        → (ok_or o AccessDenied >>= (λ user. refuse_if (not right) AccessDenied >>= (λ r. Ok user)))
-        ≡ (ok_or o AccessDenied >>= (λ user. refuse_if (not (password_matches configuration request credentials.password (user_at configuration user).password)) AccessDenied >>= (λ r. Ok user)))
+    at : (o : Option ℕ) (right : Bool) → right ≡ answer_matches configuration request known.credentials.password (wanted_of configuration false o)
+        → logged_in o right
+        ≡ (ok_or o AccessDenied >>= (λ user. refuse_if (not (password_matches configuration request known.credentials.password (user_at configuration user).password)) AccessDenied >>= (λ r. Ok user)))
     at None right is = refl
     at (Some user) right is = ap (λ b. refuse_if (not b) AccessDenied >>= (λ r. Ok user)) is
 
--- ---- decisions
+-- ---- rules
 
-known_decision : (configuration : Configuration) (state : State) (request : Request) (credentials : Credentials) (login : Login)
-    → IsConfiguration configuration → IsLoginOf configuration request credentials login
-    → ((value : Option (List ℕ)) → IfSome (user_challenged request value state) (λ user. user < length configuration.users))
-    → decision_known configuration state request login ≡ decision_in configuration state request credentials
-unfolding decision_answering decision_logged_in decision_on_answer decision_on_password
-known_decision configuration state request credentials login ranges known within =
-    ap (λ value. decision_with value) known.state ∙ at credentials.state refl
-  where
-    decision_with : Option (List ℕ) → Result Decision Denial
-    decision_with value =
-        if is_some value
-        then decision_answering configuration (without_challenge request.client value state) (user_challenged request value state) login
-        else decision_logged_in configuration (without_challenge request.client value state) login
+-- the rule of the authentication port
+by_access : (configuration : Configuration) (request : Request) → request.door ≡ Auth → (state : State) (draw : List ℕ)
+    → reply_by_port request.door configuration state request draw ≡ access configuration state request draw
+by_access configuration request door state draw = ap (λ port. reply_by_port port configuration state request draw) door
 
-    at : (value : Option (List ℕ)) → credentials.state ≡ value
-        → decision_with value
-        ≡ (if is_some value
-        then decision_on_answer configuration (without_challenge request.client value state) request (user_challenged request value state) credentials
-        else decision_on_password configuration (without_challenge request.client value state) request credentials)
-    at None is =
-        ap (λ user. user >>= (λ place. if is_some (user_at configuration place).challenge then challenge_for state place else session_for configuration state place))
-        (logged_in configuration request credentials login known (ap is_some is))
-    at (Some value) is =
-        ap (λ user. user >>= (λ place. session_for configuration (without_challenge request.client (Some value) state) place))
-        (answering configuration request credentials login (user_challenged request (Some value) state) ranges known (ap is_some is) (within (Some value)))
+-- access is denied without a look at the credentials
+pub denied_unread : (configuration : Configuration) (request : Request) (denial : Denial)
+    → request.door ≡ Auth → credentials_in request.packet.attributes ≡ Err denial → IsFixed configuration request (Denied denial) Nothing
+denied_unread configuration request denial door read = record {
+  says = λ state draw. by_access configuration request door state draw ∙ ap (access_with configuration state request draw) read;
+  possible = λ state. tt;
+}
 
-known_access : (configuration : Configuration) (state : State) (request : Request) (draw : List ℕ) (credentials : Credentials) (login : Login)
-    → IsConfiguration configuration → IsLoginOf configuration request credentials login → credentials_in request.packet.attributes ≡ Ok credentials
-    → ((value : Option (List ℕ)) → IfSome (user_challenged request value state) (λ user. user < length configuration.users))
-    → access_known configuration state request draw login ≡ access configuration state request draw
-known_access configuration state request draw credentials login ranges known read within =
-    ap (λ value. decided configuration (without_challenge request.client value state) request draw (decision_known configuration state request login)) known.state
-    ∙ ap (decided configuration (without_challenge request.client credentials.state state) request draw)
-    (known_decision configuration state request credentials login ranges known within)
-    ∙ ap (access_with configuration state request draw) (sym read)
+-- what an Accounting-Request reports
+pub reported_is : (configuration : Configuration) (request : Request) (change : Change) → request.door ≡ Acct
+    → ((state : State) (draw : List ℕ) → (account configuration state request).1 ≡ changed_by request draw change state)
+    → ((state : State) → CanBeMade state change) → IsFixed configuration request Accounting change
+reported_is configuration request change door reported possible = record {
+  says = λ state draw.
+      ap (λ port. reply_by_port port configuration state request draw) door ∙ (λ i. (accounting_response request.packet, reported state draw i));
+  possible = possible;
+}
+
+-- the reply to credentials with this State, or without one
+abbrev with_state : Configuration → Request → Credentials → State → List ℕ → Option (List ℕ) → Body × State
+with_state configuration request credentials state draw value =
+    let left = without_challenge request.client value state in
+    decided configuration left request draw
+    (if is_some value then decision_on_answer configuration left request (user_challenged request value state) credentials
+    else decision_on_password configuration left request credentials)
+
+reads : (configuration : Configuration) (request : Request) (login : Login) (value : Option (List ℕ)) (known : IsLogin configuration request login)
+    → known.credentials.state ≡ value → (state : State) (draw : List ℕ)
+    → access configuration state request draw ≡ with_state configuration request known.credentials state draw value
+reads configuration request login value known sent state draw =
+    ap (access_with configuration state request draw) known.read ∙ ap (with_state configuration request known.credentials state draw) sent
+
+-- a challenge is answered
+pub answer_is : (configuration : Configuration) (request : Request) (login : Login) (answer : ChallengeAnswer)
+    → IsConfiguration configuration → request.door ≡ Auth → (known : IsLogin configuration request login) → known.credentials.state ≡ Some answer.state.now
+    → answer.user ≡ login.user → answer.is_right ≡ is_right_in login.check → IsAnswer configuration request answer
+unfolding decision_answering decision_on_answer
+answer_is configuration request login answer ranges door known sent user right = λ state draw users.
+    let value : Option (List ℕ) = Some answer.state.now in
+    let left : State = without_challenge request.client value state in
+    by_access configuration request door state draw ∙ reads configuration request login value known sent state draw
+    ∙ ap (λ found. decided configuration left request draw (found >>= (λ place. session_for configuration left place)))
+    (sym (answering configuration request login answer (user_challenged request value state) ranges known (ap is_some sent) user right (users value)))
+
+-- a password was sent
+after_password : (configuration : Configuration) (request : Request) (login : Login) (known : IsLogin configuration request login)
+    → known.credentials.state ≡ None → (state : State) (draw : List ℕ)
+    → access configuration state request draw
+    ≡ decided configuration state request draw (logged_in login.user (is_right_in login.check) >>= (λ user. user_decision configuration state user))
+unfolding decision_on_password
+after_password configuration request login known none state draw =
+    reads configuration request login None known none state draw
+    ∙ ap (λ found. decided configuration state request draw (found >>= (λ user. user_decision configuration state user)))
+    (by_password configuration request login known (ap is_some none))
+
+-- it is right
+pub password_is : (configuration : Configuration) (request : Request) (login : Login) (user : ℕ) → request.door ≡ Auth → (known : IsLogin configuration request login)
+    → known.credentials.state ≡ None → login.user ≡ Some user → is_right_in login.check ≡ true → IsPasswordOf configuration request user
+password_is configuration request login user door known none found right = record {
+  within = subst (λ o. IfSome o (λ place. place < length configuration.users)) found known.within;
+  says = λ state draw.
+      by_access configuration request door state draw ∙ after_password configuration request login known none state draw
+      ∙ ap (λ o. decided configuration state request draw (o >>= (λ place. user_decision configuration state place)))
+      (ap (λ o. logged_in o (is_right_in login.check)) found ∙ ap (logged_in (Some user)) right);
+}
+
+-- it is wrong, or no user has the name
+pub denied_is : (configuration : Configuration) (request : Request) (login : Login) → request.door ≡ Auth → (known : IsLogin configuration request login)
+    → known.credentials.state ≡ None → logged_in login.user (is_right_in login.check) ≡ Err AccessDenied
+    → IsFixed configuration request (Denied AccessDenied) Nothing
+denied_is configuration request login door known none refused = record {
+  says = λ state draw.
+      by_access configuration request door state draw ∙ after_password configuration request login known none state draw
+      ∙ ap (λ o. decided configuration state request draw (o >>= (λ place. user_decision configuration state place))) refused;
+  possible = λ state. tt;
+}
 
 -- the users who are challenged are those of the configuration
-challenged_within : (configuration : Configuration) (request : Request) (now : ℕ) (tables : Tables) (value : Option (List ℕ)) → AreUsable configuration tables
-    → IfSome (user_challenged request value (state_for request now tables)) (λ user. user < length configuration.users)
-challenged_within configuration request now tables None usable = tt
-challenged_within configuration request now tables (Some value) usable =
+pub challenged_within : (configuration : Configuration) (request : Request) (now : ℕ) (tables : Tables) → AreUsable configuration tables
+    → AreUsers configuration request (state_for request now tables)
+challenged_within configuration request now tables usable None = tt
+challenged_within configuration request now tables usable (Some value) =
     let waiting = tables.challenges.table in
     let within : ℕ → Type 0 = λ user. user < length configuration.users in
     image_has within (λ challenge. challenge.user) _
     (found_has (λ challenge. within challenge.user) (has_state value request.client) (cut_challenges now waiting).challenges
     (All-filter (is_challenge_live waiting.hold now) (λ challenge. within challenge.user) waiting.challenges usable.users))
-
--- a reply with what is known of the credentials is one by the rule of access
-pub known_is_access : (configuration : Configuration) (now : ℕ) (tables : Tables) (request : Request) (draw : List ℕ) (credentials : Credentials) (login : Login)
-    {E : Type 0} (r : Result NewReply E) → IsConfiguration configuration → AreUsable configuration tables
-    → credentials_in request.packet.attributes ≡ Ok credentials → IsLoginOf configuration request credentials login
-    → IfOk r (IsKnownReply configuration (live_state now tables) request draw login)
-    → IfOk r (IsAccessReply configuration (live_state now tables) request draw)
-known_is_access configuration now tables request draw credentials login (Err fault) ranges usable read known planned = tt
-known_is_access configuration now tables request draw credentials login (Ok reply) ranges usable read known planned = record {
-  planned =
-      sym (known_access configuration (without_reply request (live_state now tables)) request draw credentials login ranges known read
-      (λ value. challenged_within configuration request now tables value usable))
-      ∙ planned.planned;
-  possible = planned.possible;
-}

@@ -1,22 +1,29 @@
--- What a plan answers: a kept reply again, nothing at all, or what a rule says.
-use Rattle.std.proofs.Common.{◌≡◌, ℕ, ◌≤◌, Bool, true, false, not, cond, List, [], ◌∷◌, length, filter, find, All, Option, Some, None, IfSome, option_map, Result, Ok, Err, arith, refl, sym, ap, subst}
-use Rattle.std.specs.Prelude.{◌==◌, IfOk}
+-- What a plan answers: a kept reply again, nothing at all, or a new reply.
+use Rattle.std.proofs.Common.{◌≡◌, ℕ, ◌≤◌, Bool, true, false, not, cond, List, [], ◌∷◌, length, filter, find, All, Option, Some, None, IfSome, option_map, Result, Ok, Err, Bor, arith, refl, sym, ap, ◌∙◌}
+use Rattle.std.specs.Prelude.{◌==◌, IfOk, option_copied, unwrap_or}
 use Rattle.std.proofs.lemmas.Bool.{leb-true}
 use Rattle.std.proofs.lemmas.List.Elements.{All-head, All-tail}
 use Rattle.rad_packet.specs.Bodies.{Body}
 use Rattle.rad_packet.specs.Codes.{code_status_server}
-use Rattle.rad_auth.specs.declared.arrival.Door.{Door}
 use Rattle.rad_auth.specs.declared.arrival.Request.{Request}
 use Rattle.rad_config.specs.Configurations.{Configuration}
 use Rattle.rad_recent.specs.Recent.{is_full, kept_max, same_key, without_key}
 use Rattle.rad_recent.specs.declared.kept.Kept.{Kept}
-use Rattle.rad_server.specs.Plans.{IsAccountingReply, IsNewReply, IsReplyOf}
-use Rattle.rad_server.specs.Prepared.{IsReported, IsRequestTo}
+use Rattle.rad_server.specs.Access.{Decision, decided, without_challenge}
+use Rattle.rad_server.specs.Decisions.{CanBeGiven, Gives, decision_of}
+use Rattle.rad_server.specs.FixedReplies.{fixed_body}
+use Rattle.rad_server.specs.Plans.{IsDecidedReply, IsNewReply}
+use Rattle.rad_server.specs.Prepared.{IsBodyOf, IsFixed, fixed_reply}
 use Rattle.rad_server.specs.States.{State}
 use Rattle.rad_server.specs.Steps.{answer, answer_with, key_of, reply_by_port, reply_kept, without_reply}
+use Rattle.rad_server.specs.declared.access.Decision.{Decision as DecisionOfCode}
+use Rattle.rad_server.specs.declared.access.Decision.TheVariants as decisions
 use Rattle.rad_server.specs.declared.answer.Answer.TheVariants.{Send, Busy}
 use Rattle.rad_server.specs.declared.change.Change.{Change}
+use Rattle.rad_server.specs.declared.denial.Denial.{Denial}
+use Rattle.rad_server.specs.declared.fixed_reply.FixedReply.{FixedReply}
 use Rattle.rad_server.specs.declared.plan.NewReply.{NewReply}
+use Rattle.rad_server.specs.declared.rule.Rule.{Rule}
 
 -- what holds of each element holds of the one that is found
 pub found_has : {X : Type 0} (P : X → Type 0) (p : X → Bool) (xs : List X) → All P xs → IfSome (find p xs) P
@@ -81,18 +88,52 @@ no_answer configuration current request draw other found full few = rw (other) (
     at (Some reply) e = absurd cc
     at None e = rw (full) (ap (λ state. (Busy, state)) (nothing_removed current request full few))
 
--- the rule of the port that a request came to
-pub port_is_new : (configuration : Configuration) (current : State) (request : Request) (draw : List ℕ) (door : Door) {E : Type 0} (r : Result NewReply E) → IsRequestTo door request
-    → IfOk r (λ reply. IsReplyOf (λ state. reply_by_port door configuration state request draw) current request draw reply)
-    → IfOk r (IsNewReply configuration current request draw)
-port_is_new configuration current request draw door r to planned =
-    subst (λ (d : Door). IfOk r (λ reply. IsReplyOf (λ state. reply_by_port d configuration state request draw) current request draw reply)) (sym to.door_is) planned
+-- ---- new replies
 
--- what an Accounting-Request reports, by the rule of accounting
-pub reported_is_new : (configuration : Configuration) (current : State) (request : Request) (draw : List ℕ) (change : Change) {E : Type 0} (r : Result NewReply E)
-    → IsReported configuration request change
-    → IfOk r (λ reply. (configuration : Configuration) → IsReported configuration request change → (current : State) (draw : List ℕ)
-    → IsAccountingReply configuration current request draw reply)
-    → IfOk r (IsAccountingReply configuration current request draw)
-reported_is_new configuration current request draw change (Err fault) reported planned = tt
-reported_is_new configuration current request draw change (Ok reply) reported planned = planned configuration reported current draw
+-- a fixed reply, and what changes with it
+pub fixed_is_new : (configuration : Configuration) (current : State) (request : Request) (draw : List ℕ) (fixed : FixedReply) (change : Change) {E : Type 0} (r : Result NewReply E)
+    → IsFixed configuration request fixed change
+    → IfOk r (λ reply. reply.body ≡ fixed_body request.packet fixed) → IfOk r (λ reply. option_copied reply.answered ≡ None) → IfOk r (λ reply. reply.change ≡ change)
+    → IfOk r (IsNewReply configuration current request draw)
+fixed_is_new configuration current request draw fixed change (Err fault) rule body none changes = tt
+fixed_is_new configuration current request draw fixed change (Ok reply) rule body none changes = record {
+  planned = rw (body, none, changes) (rule.says (without_reply request current) draw);
+  possible = rw (none, changes) (rule.possible current);
+}
+
+-- what can be given in the current state can be given in that without a reply
+given_without : (current : State) (request : Request) (value : Option (List ℕ)) (decision : Result DecisionOfCode Denial)
+    → IfOk decision (CanBeGiven (without_challenge request.client value current))
+    → IfOk decision (CanBeGiven (without_challenge request.client value (without_reply request current)))
+given_without current request value (Err denial) given = tt
+given_without current request None (Ok (decisions.Challenge user number)) given = given
+given_without current request None (Ok (decisions.Session session)) given = given
+given_without current request (Some state) (Ok (decisions.Challenge user number)) given = given
+given_without current request (Some state) (Ok (decisions.Session session)) given = given
+
+-- a reply to a request on which was decided, after the challenge of this State if one is answered
+pub decided_is_new : (configuration : Configuration) (current : State) (request : Request) (draw : List ℕ) (value : Option (List ℕ))
+    (decision : Result DecisionOfCode Denial) (defined : Result Decision Denial) {E : Type 0} (r : Result NewReply E)
+    → reply_by_port request.door configuration (without_reply request current) request draw
+    ≡ decided configuration (without_challenge request.client value (without_reply request current)) request draw defined
+    → Gives decision_of decision defined → IfOk decision (CanBeGiven (without_challenge request.client value current))
+    → IfOk r (IsDecidedReply configuration request draw decision) → IfOk r (λ reply. option_copied reply.answered ≡ value)
+    → IfOk r (IsNewReply configuration current request draw)
+decided_is_new configuration current request draw value decision defined (Err fault) by gives given says answered = tt
+decided_is_new configuration current request draw value decision defined (Ok reply) by gives given says answered = record {
+  planned = rw (answered)
+      (by ∙ says.says (without_challenge request.client value (without_reply request current)) defined gives (given_without current request value decision given));
+  possible = rw (answered) (says.possible (without_challenge request.client value current) given);
+}
+
+-- a body that was made in advance is that of the fixed reply
+pub is_body : (request : Request) (rule : Option Rule) (fixed : FixedReply) (o : Option (Bor Body)) → fixed_reply request.door rule ≡ Some fixed
+    → IfSome o (λ body. IsBodyOf request rule body.now) → IfSome o (λ body. body.now ≡ fixed_body request.packet fixed)
+is_body request rule fixed None is made = tt
+is_body request rule fixed (Some body) is made =
+    ap (λ o. unwrap_or o body.now) (sym made ∙ ap (option_map (fixed_body request.packet)) is)
+
+-- what holds of a value behind a reference
+pub borrowed_has : {X : Type 0} (P : X → Type 0) (o : Option (Bor X)) → IfSome (option_copied o) P → IfSome o (λ x. P x.now)
+borrowed_has P None holds = tt
+borrowed_has P (Some x) holds = holds

@@ -11,13 +11,17 @@ use Rattle.rad_packet.specs.Packets.{Packet}
 use Rattle.rad_auth.specs.Admission.{proxy_states_max, proxy_states_size}
 use Rattle.rad_auth.specs.Authenticators.{sixteen_zeros}
 use Rattle.rad_auth.specs.Sealing.{IsReply}
+use Rattle.rad_auth.specs.declared.arrival.Door.TheVariants.{Acct, Auth}
 use Rattle.rad_config.specs.declared.user.User.{User}
 use Rattle.rad_pool.specs.declared.grant.Grant.{Grant}
 use Rattle.rad_recent.specs.Challenges.{state_value}
 use Rattle.rad_server.specs.Denials.{denial_text}
+use Rattle.rad_server.specs.FixedReplies.{fixed_body}
 use Rattle.rad_server.specs.Replies.{accept_attributes, access_accept, access_challenge, access_reject, access_reply, accounting_response, attribute, attribute_if_any, class_value, four_octets}
 use Rattle.rad_server.specs.declared.denial.Denial.{Denial}
 use Rattle.rad_server.specs.declared.denial.Denial.TheVariants.{EapNotSupported, MalformedRequest, StateUnknown, WrongState, AccessDenied, SessionLimit, NoAddressLeft, ServerFull}
+use Rattle.rad_server.specs.declared.fixed_reply.FixedReply.{FixedReply}
+use Rattle.rad_server.specs.declared.fixed_reply.FixedReply.TheVariants.{Accounting, Denied, Status}
 
 size-append : (front back : List Attribute) → size (front ++ back) ≡ size front + size back
 size-append front back =
@@ -130,3 +134,9 @@ challenge_is_reply user number draw p text drawn le =
 
 pub status_is_reply : (p : Packet) → proxy_states_size p ≤ proxy_states_max → IsReply (access_reply 2 [] p)
 status_is_reply p le = access_is_reply 2 [] p (inl refl) (record { size = omega arith; none = refl }) le
+
+pub fixed_is_reply : (fixed : FixedReply) (p : Packet) → proxy_states_size p ≤ proxy_states_max → IsReply (fixed_body p fixed)
+fixed_is_reply (Status Auth) p le = status_is_reply p le
+fixed_is_reply (Status Acct) p le = accounting_is_reply p le
+fixed_is_reply (Denied denial) p le = reject_is_reply denial p le
+fixed_is_reply Accounting p le = accounting_is_reply p le

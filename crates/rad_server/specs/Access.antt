@@ -72,7 +72,11 @@ abbrev pub answered_challenge : ℕ → Option (List ℕ) → Waiting → Option
 answered_challenge client None waiting = None
 answered_challenge client (Some value) waiting = answered value client waiting
 
--- the state without it
+-- the user whose challenge a request answers, if it answers one
+abbrev pub user_challenged : Request → Option (List ℕ) → State → Option ℕ
+user_challenged request value state = option_map (λ challenge. challenge.user) (answered_challenge request.client value state.waiting)
+
+-- the state without that challenge
 abbrev pub without_challenge : ℕ → Option (List ℕ) → State → State
 without_challenge client None state = state
 without_challenge client (Some value) state = record state { waiting = without_answered value client state.waiting }
@@ -118,11 +122,16 @@ decision_on_answer configuration state request challenged credentials = do
   user ← user_by_answer configuration request challenged credentials
   session_for configuration state user
 
+-- what a user whose password was sent is given: a challenge, or else a session
+abbrev pub user_decision : Configuration → State → ℕ → Result Decision Denial
+user_decision configuration state user =
+    if is_some (user_at configuration user).challenge then challenge_for state user else session_for configuration state user
+
 -- a request without a State: with the password, the user is challenged or else granted a session
 unfoldable pub decision_on_password : Configuration → State → Request → Credentials → Result Decision Denial
 decision_on_password configuration state request credentials = do
   user ← user_by_password configuration request credentials
-  if is_some (user_at configuration user).challenge then challenge_for state user else session_for configuration state user
+  user_decision configuration state user
 
 -- the decision, given the user whose challenge is answered, if one is
 abbrev pub decision : Configuration → State → Request → Option ℕ → Credentials → Result Decision Denial
@@ -144,9 +153,8 @@ decided configuration state request draw (Ok (Granted user grant)) = (
 abbrev pub access_with : Configuration → State → Request → List ℕ → Result Credentials Denial → Body × State
 access_with configuration state request draw (Err denial) = decided configuration state request draw (Err denial)
 access_with configuration state request draw (Ok credentials) =
-    let challenged = option_map (λ challenge. challenge.user) (answered_challenge request.client credentials.state state.waiting) in
     let left = without_challenge request.client credentials.state state in
-    decided configuration left request draw (decision configuration left request challenged credentials)
+    decided configuration left request draw (decision configuration left request (user_challenged request credentials.state state) credentials)
 
 -- the reply to an Access-Request, and the state after it
 abbrev pub access : Configuration → State → Request → List ℕ → Body × State

@@ -5,6 +5,7 @@ pub mod Changes
 pub mod Credentials
 pub mod Decisions
 pub mod Denials
+pub mod FixedReplies
 pub mod Lawful
 pub mod Occurrences
 pub mod Plans

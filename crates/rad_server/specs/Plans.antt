@@ -1,50 +1,37 @@
 -- What a plan says. No other crate cites these.
-use Rattle.std.specs.Prelude.{◌≡◌, ℕ, List, Some, option_copied}
+use Rattle.std.specs.Prelude.{◌≡◌, ℕ, List, Some, option_copied, Result, IfOk}
 use Rattle.rad_packet.specs.Bodies.{Body}
 use Rattle.rad_packet.specs.Packets.{packet_octets}
 use Rattle.rad_auth.specs.declared.arrival.Request.{Request}
 use Rattle.rad_config.specs.Configurations.{Configuration}
 use Rattle.rad_recent.specs.declared.kept.Kept.{Kept}
-use Rattle.rad_server.specs.Access.{access, without_challenge}
-use Rattle.rad_server.specs.Accounting.{account}
-use Rattle.rad_server.specs.Decisions.{access_known}
+use Rattle.rad_server.specs.Access.{Decision, decided, without_challenge}
+use Rattle.rad_server.specs.Decisions.{CanBeGiven, Gives, decision_of}
 use Rattle.rad_server.specs.States.{State}
 use Rattle.rad_server.specs.Steps.{answer, key_of, reply_by_port, sent_and_kept, without_reply}
+use Rattle.rad_server.specs.declared.access.Decision.{Decision as DecisionOfCode}
+use Rattle.rad_server.specs.declared.denial.Denial.{Denial}
 use Rattle.rad_server.specs.declared.answer.Answer.{Answer}
 use Rattle.rad_server.specs.declared.answer.Answer.TheVariants.{Send, Busy}
 use Rattle.rad_server.specs.declared.plan.NewReply.{NewReply}
 use Rattle.rad_server.specs.declared.plan.Plan.{Plan}
 use Rattle.rad_server.specs.declared.plan.Plan.TheVariants as plans
-use Rattle.rad_server.specs.declared.rule.Login.{Login}
 use Rattle.rad_server.specs.declared.tables.Tables.{Tables}
-use Rattle.rad_server.specs.Changes.{CanBeMade, IsReadyFor, after}
+use Rattle.rad_server.specs.Changes.{CanBeMade, IsReadyFor, after, changed_by}
 
--- A new reply, given the current state: what is said of it, and what changes, is what a rule gives in the state without a reply to a
--- request with the same key.
-pub record IsReplyOf (rule : State → Body × State) (current : State) (request : Request) (draw : List ℕ) (reply : NewReply) : Type 0 where
-  pub planned : rule (without_reply request current)
+-- A reply that carries out a decision: in each state in which what was decided can be given, body and change are as defined, and the
+-- change can be made.
+pub record IsDecidedReply (configuration : Configuration) (request : Request) (draw : List ℕ) (decision : Result DecisionOfCode Denial) (reply : NewReply) : Type 0 where
+  pub says : (state : State) (defined : Result Decision Denial) → Gives decision_of decision defined → IfOk decision (CanBeGiven state)
+      → decided configuration state request draw defined ≡ (reply.body, changed_by request draw reply.change state)
+  pub possible : (state : State) → IfOk decision (CanBeGiven state) → CanBeMade state reply.change
+
+-- A new reply, given the current state: what it says and what changes are what the rule of the port gives in the state without a reply
+-- to a request with the same key.
+pub record IsNewReply (configuration : Configuration) (current : State) (request : Request) (draw : List ℕ) (reply : NewReply) : Type 0 where
+  pub planned : reply_by_port request.door configuration (without_reply request current) request draw
       ≡ (reply.body, after request draw (option_copied reply.answered) reply.change (without_reply request current))
   pub possible : CanBeMade (without_challenge request.client (option_copied reply.answered) current) reply.change
-
--- by the rule of access
-abbrev pub IsAccessReply : Configuration → State → Request → List ℕ → NewReply → Type 0
-IsAccessReply configuration current request draw reply =
-    IsReplyOf (λ state. access configuration state request draw) current request draw reply
-
--- by the rule of access, what the configuration tells of the credentials being known
-abbrev pub IsKnownReply : Configuration → State → Request → List ℕ → Login → NewReply → Type 0
-IsKnownReply configuration current request draw login reply =
-    IsReplyOf (λ state. access_known configuration state request draw login) current request draw reply
-
--- by the rule of accounting
-abbrev pub IsAccountingReply : Configuration → State → Request → List ℕ → NewReply → Type 0
-IsAccountingReply configuration current request draw reply =
-    IsReplyOf (λ state. account configuration state request) current request draw reply
-
--- by the rule of the server's port
-abbrev pub IsNewReply : Configuration → State → Request → List ℕ → NewReply → Type 0
-IsNewReply configuration current request draw reply =
-    IsReplyOf (λ state. reply_by_port request.door configuration state request draw) current request draw reply
 
 -- what is kept of a reply at a moment is what it says, with what its request is recognised by
 pub record IsToBeKept (now : ℕ) (request : Request) (body : Body) (kept : Kept) : Type 0 where

@@ -1,8 +1,9 @@
 //! The server of one thread: from a state, an admitted request, its moment and its draw to the answer and the next state (RFC 2865,
 //! RFC 2866, RFC 5080, RFC 5997).
 //!
-//! `Server::step` plans first: `plan` only reads, decides, and makes the reply's body. Then memory is made ready, and then `commit`,
-//! which neither decides nor fails, changes the state. So if memory is refused, the state is unchanged. Nothing here reads a clock or a socket.
+//! `Server::step` first works out what the configuration alone tells (`Prepared`), and plans: `plan` only reads, decides, and makes the
+//! reply's body if it isn't there yet. Then memory is made ready, and then `commit`, which neither decides nor fails, changes the state.
+//! So if memory is refused, the state is unchanged. Nothing here reads a clock or a socket.
 //!
 //! `exchange` appends a step to a history, and `Book` keeps a server with its history.
 //!
@@ -20,7 +21,9 @@ mod commit;
 mod credentials;
 mod denial;
 mod entry;
+mod fixed_reply;
 mod history;
+mod inquiry;
 mod lawful;
 mod occurrence;
 mod plan;

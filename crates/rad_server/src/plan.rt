@@ -1,32 +1,31 @@
 //! What a step does is planned before anything changes: planning only reads.
-ghost use Rattle.std.specs.Prelude.{◌≡◌, ◌≤◌, ◌<◌, ◌==◌, ℕ, false, length, IfOk, IfSome, List, option_copied};
+ghost use Rattle.std.specs.Prelude.{◌≡◌, ℕ, ◌≤◌, ◌<◌, ◌==◌, true, List, length, IfOk, IfSome, None, option_copied};
 ghost use Rattle.rad_packet.specs.Codes.{code_status_server};
 ghost use Rattle.rad_packet.specs.Packets.{packet_octets};
 ghost use Rattle.rad_auth.specs.Admission.{proxy_states_max, proxy_states_size};
 ghost use Rattle.rad_auth.specs.Sealing.{IsReply};
+ghost use Rattle.rad_config.specs.Configurations.{Configuration};
 ghost use Rattle.rad_config.specs.Spans.{moment_max};
 ghost use Rattle.rad_recent.specs.Recent.{beside, is_full};
-ghost use Rattle.rad_server.specs.Plans.{IsAccessReply, IsAccountingReply, IsKnownReply, IsNewReply, IsPlanOf, planned_answer};
-ghost use Rattle.rad_config.specs.Configurations.{Configuration};
-ghost use Rattle.rad_server.specs.Prepared.{IsLogin, IsReported};
-ghost use Rattle.rad_server.specs.TableStates.{AreUsable, live_state};
-ghost use Rattle.rad_server.specs.Replies.{access_reject};
+ghost use Rattle.rad_server.specs.Decisions.{place_given};
+ghost use Rattle.rad_server.specs.FixedReplies.{fixed_body};
+ghost use Rattle.rad_server.specs.Plans.{IsDecidedReply, IsNewReply, IsPlanOf, planned_answer};
+ghost use Rattle.rad_server.specs.Prepared.{IsRuled};
 ghost use Rattle.rad_server.specs.States.{State};
+ghost use Rattle.rad_server.specs.TableStates.{AreUsable, live_state};
 ghost use Rattle.rad_server.specs.Steps.{IsSealable, key_of};
-ghost use Rattle.rad_server.specs.declared.change.Change.TheVariants as Change;
+ghost use Rattle.rad_server.specs.declared.fixed_reply.FixedReply.TheVariants as FixedReply;
 
-use crate::access::{Decision, decide};
+use crate::access::{Decision, decide_for_user, decide_on_answer};
 use crate::answer::Answer;
 use crate::change::Change;
 use crate::denial::Denial;
-use crate::prepared::Prepared;
-use crate::reply::{
-    access_accept, access_challenge, access_reject, accounting_response, status_reply,
-};
-use crate::rule::{Login, Rule};
+use crate::fixed_reply::FixedReply;
+use crate::prepared::{Prepared, Ruled, Told};
+use crate::reply::{access_accept, access_challenge, access_reject};
+use crate::rule::Rule;
 use crate::tables::Tables;
-use rad_auth::{Request, admitted_is_answerable};
-use rad_packet::code::STATUS_SERVER;
+use rad_auth::Request;
 use rad_packet::{Body, Octets, Packet};
 use rad_recent::{Kept, Key, Recent};
 use std::alloc::{AllocError, Global};
@@ -35,7 +34,7 @@ use std::alloc::{AllocError, Global};
 #[derive(Drop)]
 pub(crate) struct NewReply<'a> {
     pub body: Body,
-    /// The State among the credentials, if there is one.
+    /// The State of the challenge that is answered, if one is.
     pub answered: Option<&'a [u8]>,
     pub change: Change,
 }
@@ -64,43 +63,28 @@ impl Plan<'_> {
     }
 }
 
-/// A request to be answered.
-#[derive(Drop)]
-pub(crate) struct Asked<'r, 'a> {
-    pub prepared: &'r Prepared<'r, 'a>,
-    /// The octets of the request up to Length, if what is kept is to share them. Otherwise it gets a copy.
-    pub octets: Option<&'r Octets>,
-    /// The draw for the State of a challenge.
-    pub draw: &'r [u8; 16],
-}
-
-/// The plan for a request at a moment. What is kept shares the body.
+/// The plan for a request at a moment. What is kept shares the body, and shares the octets of the request up to Length if they are
+/// given; otherwise they are copied. The draw is for the State of a challenge.
 pub(crate) fn plan_step<'a>(
     alloc: Global,
     tables: &Tables,
     now: u64,
-    asked: Asked<'_, 'a>,
+    prepared: &Prepared<'_, 'a>,
+    octets: Option<&Octets>,
+    draw: &[u8; 16],
 ) -> Result<Plan<'a>, AllocError>
     requires moment { now ≤ moment_max }
-    requires octets { IfSome asked.octets
-        (λ octets. octets.now ≡ packet_octets asked.prepared.now.request.packet) }
-    requires usable { AreUsable asked.prepared.now.configuration tables.now }
-    ensures planned { IfOk result (IsPlanOf asked.entry.prepared.now.configuration
-        (live_state now tables.now) asked.entry.prepared.now.request asked.entry.draw.now) }
+    requires octets { IfSome octets (λ octets. octets.now ≡ packet_octets prepared.now.request.packet) }
+    requires usable { AreUsable prepared.now.configuration tables.now }
+    ensures planned { IfOk result (IsPlanOf prepared.now.configuration (live_state now tables.now)
+        prepared.now.request draw.now) }
     ensures sealable { IfOk result (λ plan. IsSealable (planned_answer plan)) }
 {
-    let Asked {
-        prepared,
-        octets,
-        draw,
-    } = asked;
     let request = prepared.request();
-    admitted_is_answerable(prepared.config().clients(), request);
-    if request.packet.code() == STATUS_SERVER {
-        let mut body = status_reply(alloc, request.door, &request.packet)?;
-        body.share()?;
-        return Ok(Plan::Unchanged(body));
-    }
+    let ruled = match prepared.told() {
+        Told::Status(body) => return plan_status(alloc, request, body),
+        Told::Ruled(ruled) => ruled,
+    };
     let key = key_of(request);
     if let Some(kept) = tables.recent.look(&key, request.packet.octets(), now) {
         return Ok(Plan::Unchanged(kept.copy()?));
@@ -108,7 +92,7 @@ pub(crate) fn plan_step<'a>(
     if is_full(&tables.recent, &key, now) {
         return Ok(Plan::Busy);
     }
-    let mut reply = plan_reply(alloc, tables, now, prepared, draw)?;
+    let mut reply = plan_reply(alloc, tables, now, prepared, ruled, draw)?;
     reply.body.share()?;
     let kept = Kept {
         key,
@@ -117,6 +101,25 @@ pub(crate) fn plan_step<'a>(
         made: now,
     };
     Ok(Plan::New(reply, kept))
+}
+
+// The plan for a Status-Server. The body of the reply may have been made in advance.
+fn plan_status<'a>(
+    alloc: Global,
+    request: &Request,
+    body: Option<&Body>,
+) -> Result<Plan<'a>, AllocError>
+    requires proxy_states { proxy_states_size request.now.packet ≤ proxy_states_max }
+    requires code { (request.now.packet.code == code_status_server) ≡ true }
+    requires body { IfSome body
+        (λ body. body.now ≡ fixed_body request.now.packet (FixedReply.Status request.now.door)) }
+    ensures planned { (configuration : Configuration) (current : State) (draw : List ℕ)
+        → IfOk result (IsPlanOf configuration current request.now draw) }
+    ensures sealable { IfOk result (λ plan. IsSealable (planned_answer plan)) }
+{
+    let mut body = FixedReply::Status(request.door).body(alloc, &request.packet, body)?;
+    body.share()?;
+    Ok(Plan::Unchanged(body))
 }
 
 // The octets of a packet: those that are there to share, or else a copy.
@@ -154,142 +157,96 @@ fn is_full(recent: &Recent, key: &Key, now: u64) -> bool
     recent.peek(key, now).is_err()
 }
 
-// The reply by the rule of a request that is no Status-Server.
+// The reply by a rule.
 fn plan_reply<'a>(
     alloc: Global,
     tables: &Tables,
     now: u64,
     prepared: &Prepared<'_, 'a>,
+    ruled: Ruled<'_, 'a>,
     draw: &[u8; 16],
 ) -> Result<NewReply<'a>, AllocError>
     requires moment { now ≤ moment_max }
-    requires code { (prepared.now.request.packet.code == code_status_server) ≡ false }
+    requires ruled { IsRuled prepared.now.configuration prepared.now.request ruled }
     requires usable { AreUsable prepared.now.configuration tables.now }
     ensures rule { IfOk result (IsNewReply prepared.now.configuration (live_state now tables.now)
         prepared.now.request draw.now) }
     ensures sealable { IfOk result (λ reply. IsReply reply.body) }
 {
-    let request = prepared.request();
-    admitted_is_answerable(prepared.config().clients(), request);
-    match prepared.rule() {
-        Rule::Status => unreachable!(),
-        Rule::Access(login) => plan_access(alloc, tables, now, prepared, login, draw),
-        Rule::Accounting(change) => plan_accounting(alloc, request, change),
-    }
-}
-
-// The reply to an Access-Request with these credentials, or with none that are looked at.
-fn plan_access<'a>(
-    alloc: Global,
-    tables: &Tables,
-    now: u64,
-    prepared: &Prepared<'_, 'a>,
-    login: Result<Login<'a>, Denial>,
-    draw: &[u8; 16],
-) -> Result<NewReply<'a>, AllocError>
-    requires moment { now ≤ moment_max }
-    requires login { IsLogin prepared.now.configuration prepared.now.request login }
-    requires usable { AreUsable prepared.now.configuration tables.now }
-    ensures rule { IfOk result (IsAccessReply prepared.now.configuration (live_state now tables.now)
-        prepared.now.request draw.now) }
-    ensures sealable { IfOk result (λ reply. IsReply reply.body) }
-{
-    let request = prepared.request();
-    admitted_is_answerable(prepared.config().clients(), request);
-    match login {
-        Ok(login) => plan_login(alloc, tables, now, prepared, login, draw),
-        Err(denial) => plan_denial(alloc, request, None, denial),
-    }
-}
-
-// The same with these credentials.
-fn plan_login<'a>(
-    alloc: Global,
-    tables: &Tables,
-    now: u64,
-    prepared: &Prepared<'_, 'a>,
-    login: Login<'a>,
-    draw: &[u8; 16],
-) -> Result<NewReply<'a>, AllocError>
-    requires moment { now ≤ moment_max }
-    requires within { IfSome login.user
-        (λ user. user < length prepared.now.configuration.users) }
-    requires usable { AreUsable prepared.now.configuration tables.now }
-    ensures rule { IfOk result (IsKnownReply prepared.now.configuration (live_state now tables.now)
-        prepared.now.request draw.now login.entry) }
-    ensures sealable { IfOk result (λ reply. IsReply reply.body) }
-{
     let (config, request) = (prepared.config(), prepared.request());
-    admitted_is_answerable(config.clients(), request);
-    let answered = login.state;
-    match decide(config, tables, now, request, &login) {
-        Err(denial) => plan_denial(alloc, request, answered, denial),
-        Ok(Decision::Challenge(user, number)) => {
-            let body = access_challenge(
-                alloc,
-                config.user_at(user),
-                number,
-                draw,
-                &request.packet,
-            )?;
-            let change = Change::Challenge(user);
-            Ok(NewReply {
-                body,
-                answered,
-                change,
-            })
+    let Ruled { rule, body } = ruled;
+    match rule {
+        Rule::Fixed(fixed, change) => plan_fixed(alloc, request, fixed, change, body),
+        Rule::Password(user) => {
+            let decision = decide_for_user(config, tables, now, request, user);
+            plan_decided(alloc, prepared, None, decision, draw)
         }
-        Ok(Decision::Session(session)) => {
-            let user = config.user_at(session.user);
-            let body = access_accept(alloc, user, session.grant, &request.packet)?;
-            let change = Change::Grant(session);
-            Ok(NewReply {
-                body,
-                answered,
-                change,
-            })
+        Rule::Answer(answer) => {
+            let decision = decide_on_answer(config, tables, now, request, &answer);
+            plan_decided(alloc, prepared, Some(answer.state), decision, draw)
         }
     }
 }
 
-// The Access-Reject for a denial, to a request with this State among its credentials, if there is one.
-fn plan_denial<'a>(
+// A fixed reply, whose body may have been made in advance, and what changes with it.
+fn plan_fixed<'a>(
     alloc: Global,
     request: &Request,
-    answered: Option<&'a [u8]>,
-    denial: Denial,
-) -> Result<NewReply<'a>, AllocError>
-    requires { proxy_states_size request.now.packet ≤ proxy_states_max }
-    ensures body { IfOk result (λ reply. reply.body ≡ access_reject denial request.now.packet) }
-    ensures answered { IfOk result (λ reply.
-        option_copied reply.answered ≡ option_copied answered.entry) }
-    ensures change { IfOk result (λ reply. reply.change ≡ Change.Nothing) }
-    ensures sealable { IfOk result (λ reply. IsReply reply.body) }
-{
-    let body = access_reject(alloc, denial, &request.packet)?;
-    Ok(NewReply {
-        body,
-        answered,
-        change: Change::Nothing,
-    })
-}
-
-// The reply to an Accounting-Request that reports this.
-fn plan_accounting<'a>(
-    alloc: Global,
-    request: &Request<'a>,
+    fixed: FixedReply,
     change: Change,
+    body: Option<&Body>,
 ) -> Result<NewReply<'a>, AllocError>
-    requires { proxy_states_size request.now.packet ≤ proxy_states_max }
-    ensures rule { IfOk result (λ reply. (configuration : Configuration)
-        → IsReported configuration request.now change → (current : State) (draw : List ℕ)
-        → IsAccountingReply configuration current request.now draw reply) }
+    requires proxy_states { proxy_states_size request.now.packet ≤ proxy_states_max }
+    requires body { IfSome body (λ body. body.now ≡ fixed_body request.now.packet fixed) }
+    ensures body { IfOk result (λ reply. reply.body ≡ fixed_body request.now.packet fixed) }
+    ensures answered { IfOk result (λ reply. option_copied reply.answered ≡ None) }
+    ensures change { IfOk result (λ reply. reply.change ≡ change) }
     ensures sealable { IfOk result (λ reply. IsReply reply.body) }
 {
-    let body = accounting_response(alloc, &request.packet)?;
+    let body = fixed.body(alloc, &request.packet, body)?;
     Ok(NewReply {
         body,
         answered: None,
+        change,
+    })
+}
+
+// The reply that carries out a decision on a request, which answers the challenge of this State, if it answers one.
+fn plan_decided<'a>(
+    alloc: Global,
+    prepared: &Prepared<'_, 'a>,
+    answered: Option<&'a [u8]>,
+    decision: Result<Decision, Denial>,
+    draw: &[u8; 16],
+) -> Result<NewReply<'a>, AllocError>
+    requires within { IfOk decision
+        (λ given. place_given given < length prepared.now.configuration.users) }
+    ensures decided { IfOk result (IsDecidedReply prepared.now.configuration prepared.now.request
+        draw.now decision) }
+    ensures answered { IfOk result
+        (λ reply. option_copied reply.answered ≡ option_copied answered.entry) }
+    ensures sealable { IfOk result (λ reply. IsReply reply.body) }
+{
+    let (config, request) = (prepared.config(), prepared.request());
+    let (body, change) = match decision {
+        Err(denial) => {
+            let body = access_reject(alloc, denial, &request.packet)?;
+            (body, Change::Nothing)
+        }
+        Ok(Decision::Challenge(user, number)) => {
+            let row = config.user_at(user);
+            let body = access_challenge(alloc, row, number, draw, &request.packet)?;
+            (body, Change::Challenge(user))
+        }
+        Ok(Decision::Session(session)) => {
+            let row = config.user_at(session.user);
+            let body = access_accept(alloc, row, session.grant, &request.packet)?;
+            (body, Change::Grant(session))
+        }
+    };
+    Ok(NewReply {
+        body,
+        answered,
         change,
     })
 }

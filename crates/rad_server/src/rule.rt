@@ -1,46 +1,39 @@
-//! By which rule a request is answered, and what the configuration alone tells of it.
+//! The rules by which requests are answered.
+ghost use Rattle.std.specs.Prelude.{◌≡◌};
+ghost use Rattle.rad_server.specs.Prepared.{fixed_reply};
 
 use crate::change::Change;
-use crate::denial::Denial;
+use crate::fixed_reply::FixedReply;
+use rad_auth::Door;
 
-/// The credentials of an Access-Request, as the configuration sees them.
+/// An answer to a challenge.
 #[derive(Clone, Copy)]
-pub(crate) struct Login<'a> {
+pub(crate) struct ChallengeAnswer<'a> {
+    pub state: &'a [u8],
     /// The place of the user whose name was sent, if there is one.
     pub user: Option<u32>,
-    /// Whether the password that was sent is right for that user: as the answer to a challenge if there is a State, else as the
-    /// password.
+    /// Whether the password that was sent is that user's answer.
     pub is_right: bool,
-    /// The State, if there is one.
-    pub state: Option<&'a [u8]>,
 }
 
-/// The rule by which a request is answered.
+/// The rule by which a request that is no Status-Server is answered.
 #[derive(Clone, Copy)]
 pub(crate) enum Rule<'a> {
-    /// That of a Status-Server.
-    Status,
-    /// That of an Access-Request, with its credentials, or why it is denied without a look at them.
-    Access(Result<Login<'a>, Denial>),
-    /// That of an Accounting-Request, with what it reports.
-    Accounting(Change),
+    /// The reply is this one, and this changes, whatever the server remembers.
+    Fixed(FixedReply, Change),
+    /// The user at this place sent their password.
+    Password(u32),
+    /// A challenge is answered.
+    Answer(ChallengeAnswer<'a>),
 }
 
-impl<'a> Rule<'a> {
-    ghost use Rattle.std.specs.Prelude.{◌≡◌};
-    ghost use Rattle.rad_server.specs.Prepared.{with_verdict};
-
-    /// The rule, once the password has been compared.
-    pub fn with_verdict(self, is_right: bool) -> Rule<'a>
-        ensures { result ≡ with_verdict is_right self.entry }
-    {
-        match self {
-            Rule::Access(Ok(Login { user, state, .. })) => Rule::Access(Ok(Login {
-                user,
-                is_right,
-                state,
-            })),
-            rule => rule,
-        }
+/// The reply to a request that came to this port, if it is fixed. A Status-Server has no rule.
+pub(crate) fn fixed_reply(door: Door, rule: Option<Rule>) -> Option<FixedReply>
+    ensures { result ≡ fixed_reply door rule.entry }
+{
+    match rule {
+        None => Some(FixedReply::Status(door)),
+        Some(Rule::Fixed(fixed, _)) => Some(fixed),
+        Some(Rule::Password(_) | Rule::Answer(_)) => None,
     }
 }

@@ -11,10 +11,10 @@ ghost use Rattle.rad_server.specs.Steps.{IsSealable, step};
 use crate::answer::Answer;
 use crate::commit::{commit, make_room};
 use crate::lawful::lawful_steps;
-use crate::plan::{Asked, plan_step};
+use crate::plan::plan_step;
 use crate::prepared::Prepared;
 use crate::tables::Tables;
-use rad_auth::{Request, admitted_is_answerable};
+use rad_auth::Request;
 use rad_config::Config;
 use rad_packet::Octets;
 use rad_pool::Sessions;
@@ -166,7 +166,7 @@ impl<'c> Server<'c> {
         ensures unchanged { OnErr result (self.new ≡ self.old) }
     {
         let request = prepared.request();
-        admitted_is_answerable(self.config.clients(), request);
+        self.state_is_lawful();
         lawful_steps();
         let Server {
             alloc,
@@ -175,12 +175,7 @@ impl<'c> Server<'c> {
             tables,
         } = self;
         let now = (*clock).max(moment);
-        let asked = Asked {
-            prepared,
-            octets,
-            draw,
-        };
-        let plan = plan_step(*alloc, tables, now, asked)?;
+        let plan = plan_step(*alloc, tables, now, prepared, octets, draw)?;
         let copy = plan.answer()?;
         make_room(tables, &plan)?;
         *clock = now;

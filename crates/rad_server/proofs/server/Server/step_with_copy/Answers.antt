@@ -1,6 +1,7 @@
 use Rattle.std.proofs.Common.{◌≡◌, length, rules, ap, subst, sym, ◌∙◌}
 use Rattle.rad_auth.specs.Admission.{IsAnswerable}
 use Rattle.rad_config.specs.Configurations.{Configuration}
+use Rattle.rad_config.specs.Ranges.{IsConfiguration}
 use Rattle.rad_server.specs.Lawful.{IsLawful}
 use Rattle.rad_server.specs.TableStates.{live_state}
 use Rattle.rad_server.specs.Servers.{state_with}
@@ -16,9 +17,10 @@ invariant_of-self-2 c =
     let draw = c.args.draw.now in
     let now = c.max-now.result in
     let old : State = state_with c.self.inside.clock tables in
-    let answerable = subst (λ clients. IsAnswerable clients request) c.clients.ensures.value c.admitted_is_answerable.ensures in
+    let answerable : IsAnswerable configuration.clients request = rw (c.requires.prepared, ← c.self.view_is) at c.request-request.ensures.answerable in
+    let ranges : IsConfiguration configuration = rw (← c.self.view_is) at c.state_is_lawful.ensures.configuration in
     let drawn : length draw ≡ 16 = search rules in
-    let stepped = c.lawful_steps.ensures.step configuration old request c.args.moment draw c.clients.ensures.configuration answerable c.requires.moment drawn c.self.invariant in
+    let stepped = c.lawful_steps.ensures.step configuration old request c.args.moment draw ranges answerable c.requires.moment drawn c.self.invariant in
     let is : (step configuration old request c.args.moment draw).1 ≡ state_with now c.commit-answer.new.tables =
     ap (λ n. (answer configuration (live_state n tables) request draw).1) (sym c.max-now.ensures)
     ∙ ap (λ (s : State). (answer configuration (without_expired (record s { clock = now })) request draw).1) (sym c.in_ok-make_room.ensures.unchanged)
