@@ -54,10 +54,11 @@ with_claim_of view other = record { keeps = view.keeps; log = view.log; claims =
 
 -- ---- private: the rule
 
--- only one seat knows the log, and what is claimed stands in it
+-- what a seat may know: the whole log if it is the keeper's, and a taking that stands in the log if it claims one
 abbrev pub Fits : {T : Type 0} → ℕ → List (Taking T) → ℕ → View T → Type 0
 Fits keeper log seat view = (view.keeps ≡ true → (seat ≡ keeper) × (view.log ≡ log)) × (view.claims ≡ true → Has log view.taking)
 
+-- only one seat knows the log, and each taking that is claimed stands in it
 abbrev pub IsKept : {T : Type 0} → List (View T) → Type 0
 IsKept {T = T} views =
     (keeper : ℕ) × (log : List (Taking T)) × ((seat : ℕ) (view : View T) → get_elem? views seat ≡ some view → Fits keeper log seat view)

@@ -5,8 +5,8 @@
 //! its taking stands in the log; until then it may go to any thread. So nothing of a history needs to be compared to know that it has
 //! what its threads appended.
 //!
-//! The log itself is a proof's: no value of it is made. What runs is one word, which says nothing, and an atomic step on it for each
-//! call.
+//! The log itself is a proof's: no value of it is made. What runs is one word, which never changes: `publish` makes one exchange on it,
+//! and `find` one load.
 //!
 //! Other crates rest on this: `Keeper::publish` puts what is new in the history last in the log, and the taking of a ticket is in the
 //! log that `Keeper::find` is given (`specs/Logs.antt`).

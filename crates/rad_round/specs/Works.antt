@@ -12,6 +12,7 @@ use Rattle.rad_auth.specs.declared.job.Job.{Job}
 use Rattle.rad_claim.specs.Claims.{Claims, ClaimSeat, IsFinishedSeatOf, IsNewSeatOf}
 use Rattle.rad_desk.specs.declared.receipt.Receipt.{Receipt}
 use Rattle.rad_log.specs.Logs.{entries_of}
+use Rattle.rad_log.specs.Logs.{Has}
 use Rattle.rad_log.specs.declared.rule.Taking.{Taking}
 use Rattle.rad_packet.specs.Bodies.{Body}
 use Rattle.rad_packet.specs.Packets.{packet_octets}
@@ -54,7 +55,7 @@ pub record CheckedBatch : Type 0 where
   pub number : ℕ
   pub verdicts : List Verdict
 
--- the batch of a number is checked
+-- these are the verdicts on the batch of this number
 pub record IsChecked (clients : List Client) (arrivals : List Timed) (number : ℕ) (verdicts : List Verdict) : Type 0 where
   pub within : number * 8 < arrivals_max
   pub moments : AreMoments arrivals
@@ -360,8 +361,7 @@ pub record PutsLast (first : ℕ) (lanes : List (Option Outcome)) (before : List
 
 -- the batches of a list are in the log, as far as they appended something
 abbrev pub AreLogged : List (Taking Entry) → List Answered → Type 0
-AreLogged log list = (answered : Answered) (taking : Taking Entry) → IsIn list answered → answered.ticket ≡ Some taking
-    → (place : ℕ) × (slice_get log place ≡ Some taking)
+AreLogged log list = (answered : Answered) (taking : Taking Entry) → IsIn list answered → answered.ticket ≡ Some taking → Has log taking
 
 -- what workers hand in: their seats, the shares of all in one, and the outcomes of the round; and how many seats there is room for
 pub record HandedIn : Type 0 where

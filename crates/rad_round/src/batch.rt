@@ -86,7 +86,7 @@ impl<'r, 'a> Model for Batch<'r, 'a> {
 }
 
 impl<'r, 'a> Batch<'r, 'a> {
-    /// The batch of this number, with the verdicts on its arrivals. Its requests are prepared, and there are their octets, but
+    /// The batch of this number, with the verdicts on its arrivals. Its requests are prepared, and their octets are copied except
     /// where memory was refused.
     pub fn new(
         config: &'r Config,
@@ -159,7 +159,7 @@ impl<'r, 'a> Batch<'r, 'a> {
         job_of(self.config.clients(), &verdicts[lane], &asked[lane])
     }
 
-    /// Puts the outcomes of the batch last, once its replies are sealed. Frames that no reply takes are left.
+    /// Appends the outcomes of the batch, once its replies are sealed. Frames that no reply takes are left.
     pub fn put_outcomes(
         &self,
         asked: &[Option<Receipt>],

@@ -1,4 +1,4 @@
-//! The end of a round: what the workers made, put together. Nothing here takes memory or fails.
+//! The end of a round: what the workers made, put together. Nothing here can fail.
 ghost use Rattle.std.specs.Prelude.{◌≡◌, ◌≤◌, ◌<◌, ◌*◌, [], length, vec_len, All};
 ghost use Rattle.std.specs.Vec.{vec_capacity};
 ghost use Rattle.rad_round.specs.Rounds.{Round, arrivals_max};

@@ -34,7 +34,7 @@ impl<'c, L: Opened + Logged> Model for Shared<'c, L> {
 }
 
 impl<'c, L: Opened + Logged> Shared<'c, L> {
-    /// What nobody has taken yet.
+    /// Before the first taking.
     pub fn new(locked: Locked<'c, L>, keeper: Keeper<Entry, L>) -> Shared<'c, L>
         requires { (locked.history ≡ []) × (keeper ≡ []) }
     {
