@@ -1,4 +1,4 @@
-// Nanoseconds a password check: rad_auth's password_right and chap_right beside the toolchain's md5 and OpenSSL.
+// Nanoseconds a password check: rad_auth's password_right, passwords_right8 and chap_right beside the toolchain's md5 and OpenSSL.
 #define OPENSSL_SUPPRESS_DEPRECATED
 #include "bench.h"
 #include <openssl/md5.h>
@@ -27,7 +27,7 @@ struct lot {
 typedef size_t work(const struct lot *lot, uint32_t rounds);
 
 // Of crates/bench_c.
-work radpool_password, kit_password, radpool_chap;
+work radpool_password, radpool_passwords8, kit_password, radpool_chap;
 
 static struct lot lot = {.secret = "xyzzy5461", .secret_len = 9};
 
@@ -149,6 +149,8 @@ int main(void) {
         {"password_right", 32, 25, false, {radpool_password, kit_password, openssl_password}, {0}},
         {"password_right", 64, 60, false, {radpool_password, kit_password, openssl_password}, {0}},
         {"password_right", 128, 128, false, {radpool_password, kit_password, openssl_password}, {0}},
+        {"passwords_right8", 16, 10, false, {radpool_passwords8, kit_password, openssl_password}, {0}},
+        {"passwords_right8", 32, 25, false, {radpool_passwords8, kit_password, openssl_password}, {0}},
         {"chap_right", 17, 10, true, {radpool_chap, NULL, openssl_chap}, {0}}};
     const size_t count = sizeof rows / sizeof *rows;
     // Each row many times, so that one busy moment of the machine is not all that a row sees.

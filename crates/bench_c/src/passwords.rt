@@ -6,7 +6,8 @@ ghost use Rattle.rad_auth.specs.Passwords.{password_max};
 
 use crate::plain;
 use rad_auth::{
-    CHAP_VALUE_LEN, PASSWORD_MAX, SECRET_MAX, Secret, chap_right, password_right, value_fits,
+    CHAP_VALUE_LEN, HiddenPassword, PASSWORD_MAX, PasswordCheck, SECRET_MAX, Secret, chap_right,
+    password_right, passwords_right8, value_fits,
 };
 use std::simd::u8x16;
 
@@ -92,6 +93,45 @@ fn count<C: Check>(lot: &Lot, rounds: u32) -> usize {
     right
 }
 
+// What is compared with the User-Password of a case.
+fn check_of<'x>(secret: &'x Secret, case: &'x Case) -> Option<PasswordCheck<'x>> {
+    let value = case.value();
+    if !value_fits(value) {
+        return None;
+    }
+    Some(PasswordCheck::UserPassword(HiddenPassword {
+        secret,
+        request_authenticator: case.authenticator,
+        value,
+        password: case.password(),
+    }))
+}
+
+fn count_right(right: [bool; 8]) -> usize {
+    right.iter().filter(|is_right| **is_right).count()
+}
+
+// How often a check of all cases at once finds a password right.
+fn count_at_once(lot: &Lot, rounds: u32) -> usize {
+    let secret = Secret::new(&lot.secret[..lot.secret_len.clamp(1, SECRET_MAX)]);
+    let [a, b, c, d, e, f, g, h] = &lot.cases;
+    let mut right: usize = 0;
+    for _ in 0..rounds {
+        let checks = [
+            check_of(&secret, a),
+            check_of(&secret, b),
+            check_of(&secret, c),
+            check_of(&secret, d),
+            check_of(&secret, e),
+            check_of(&secret, f),
+            check_of(&secret, g),
+            check_of(&secret, h),
+        ];
+        right = right.wrapping_add(count_right(passwords_right8(&checks)));
+    }
+    right
+}
+
 // Hides a password block by block, each under the hidden block before it, and compares each with the value's.
 fn is_hidden_as(secret: &[u8], authenticator: &[u8; 16], value: &[u8], password: &[u8]) -> bool
     requires { length password.now ≤ password_max }
@@ -118,6 +158,12 @@ fn is_hidden_as(secret: &[u8], authenticator: &[u8; 16], value: &[u8], password:
 #[unsafe(no_mangle)]
 pub extern "C" fn radpool_password(lot: &Lot, rounds: u32) -> usize {
     count::<InLanes>(lot, rounds)
+}
+
+/// `passwords_right8` for all cases at once.
+#[unsafe(no_mangle)]
+pub extern "C" fn radpool_passwords8(lot: &Lot, rounds: u32) -> usize {
+    count_at_once(lot, rounds)
 }
 
 /// The same check, one digest after the other by the toolchain's `md5`.
