@@ -73,7 +73,8 @@ impl<T, L: Logged> Model for Keeper<T, L> {
     ghost view = { λ keeper. keeper.seat.me.0.log };
 
     ghost invariant = { λ keeper.
-        (keeper.seat.table_id ≡ L.table) × (keeper.seat.me ≡ (keeper_of keeper.seat.me.0.log, [])) };
+        (keeper.seat.table_id ≡ L.table)
+        × (keeper.seat.me ≡ (keeper_of keeper.seat.me.0.log, [])) };
 }
 
 /// That a taking stands in a log. Contracts see it as the taking.
@@ -93,7 +94,8 @@ impl<T, L: Logged> Model for Ticket<T, L> {
     ghost view = { λ ticket. ticket.seat.me.0.taking };
 
     ghost invariant = { λ ticket.
-        (ticket.seat.table_id ≡ L.table) × (ticket.seat.me ≡ (claim_of ticket.seat.me.0.taking, [])) };
+        (ticket.seat.table_id ≡ L.table)
+        × (ticket.seat.me ≡ (claim_of ticket.seat.me.0.taking, [])) };
 }
 
 impl<T> Log<T> {

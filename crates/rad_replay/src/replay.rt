@@ -38,7 +38,8 @@ pub fn run_replay<R: Read, W: Write>(
 ) -> Result<(), RunFault>
     ensures ends { IfSome (R.remaining reader.old) (λ text.
         EndsRun text (Appends (W.contents writer.old) (W.contents writer.new)) result) }
-    ensures all_read { IsAfterReading result → IsAllRead (R.remaining reader.old) (R.remaining reader.new) }
+    ensures all_read { IsAfterReading result
+        → IsAllRead (R.remaining reader.old) (R.remaining reader.new) }
     ensures bounded { GivesAtMost (text_max + 1) (R.remaining reader.old) (R.remaining reader.new) }
 {
     let text = read_text(alloc, reader)?;

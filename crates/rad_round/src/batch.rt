@@ -153,7 +153,8 @@ impl<'r, 'a> Batch<'r, 'a> {
         requires lane { lane < 8 }
         requires asked { AreAskedOf self.now asked.now }
         ensures job { IfSome result IsJob }
-        ensures of_lane { IsJobIn self.now.configuration.clients self.now.verdicts asked.now lane result }
+        ensures of_lane { IsJobIn self.now.configuration.clients self.now.verdicts
+            asked.now lane result }
     {
         let verdicts = self.verdicts;
         job_of(self.config.clients(), &verdicts[lane], &asked[lane])
@@ -168,7 +169,8 @@ impl<'r, 'a> Batch<'r, 'a> {
         outcomes: &mut Vec<Option<Outcome>>,
     )
         requires asked { AreAskedOf self.now asked.now }
-        requires sealed { AreSealed self.now.configuration.clients self.now.verdicts asked.now frames }
+        requires sealed { AreSealed self.now.configuration.clients self.now.verdicts
+            asked.now frames }
         requires room { length outcomes.old.items + 8 ≤ vec_capacity outcomes.old }
         ensures lanes { PutsLanes self.now (map entry_of asked.now)
             outcomes.old.items outcomes.new.items }
@@ -194,9 +196,10 @@ impl<'r, 'a> Batch<'r, 'a> {
     ) -> (Option<Outcome>, Option<Frame>)
         requires lane { lane < 8 }
         requires asked { AreAskedOf self.now asked.now }
-        requires sealed { IsSealedIn self.now.configuration.clients self.now.verdicts asked.now lane frame }
-        ensures { IsLaneOf self.now.configuration.clients self.now.arrivals (self.now.number * 8 + lane)
-            result.0 (slice_get asked.now lane) }
+        requires sealed { IsSealedIn self.now.configuration.clients self.now.verdicts
+            asked.now lane frame }
+        ensures { IsLaneOf self.now.configuration.clients self.now.arrivals
+            (self.now.number * 8 + lane) result.0 (slice_get asked.now lane) }
     {
         let verdicts = self.verdicts;
         let Some(receipt) = &asked[lane] else {

@@ -143,7 +143,8 @@ fn work_all<'c, L: Opened + Logged + Send + Sync, R: Threads + Wait + Sync, G: G
         count,
         &|_number: usize, worker: &mut Worker<L>|
             requires { IsIdle round.now.setting.claims worker.now }
-            ensures { HasFinished round.entry.now.setting.claims round.entry.now.setting.config.now.clients
+            ensures { HasFinished round.entry.now.setting.claims
+                round.entry.now.setting.config.now.clients
                 round.entry.now.setting.arrivals.now worker.exit.now }
         { worker.work(rt, round, gate) },
     );

@@ -74,7 +74,8 @@ pub(crate) fn decide_on_answer(
         (state_for request.now now tables.now))
         answer.now) }
     ensures given { IfOk result (CanBeGiven
-        (without_challenge request.now.client (Some answer.now.state.now) (live_state now tables.now))) }
+        (without_challenge request.now.client (Some answer.now.state.now)
+        (live_state now tables.now))) }
     ensures within { IfOk result (λ given. place_given given < length config.now.users) }
 {
     let user = user_answering(tables, now, request, answer)?;
@@ -92,7 +93,8 @@ fn user_answering(
 ) -> Result<u32, Denial>
     requires moment { now ≤ moment_max }
     ensures user { result ≡ user_answering
-        (user_challenged request.now (Some answer.now.state.now) (state_for request.now now tables.now))
+        (user_challenged request.now (Some answer.now.state.now)
+        (state_for request.now now tables.now))
         answer.now }
     ensures place { (configuration : Configuration) → AreUsable configuration tables.now
         → IfOk result (λ user. user < length configuration.users) }

@@ -57,8 +57,9 @@ impl<'r, 'a> Inquiry<'r, 'a> {
     /// The rule, once it is known whether the password is right.
     pub fn rule(self, is_right: bool) -> Option<Rule<'a>>
         requires { is_right ≡ right_of self }
-        ensures { (configuration : Configuration) (request : Request) → IsConfiguration configuration
-            → IsInquiry configuration request self.entry → IsRuleOf configuration request result }
+        ensures { (configuration : Configuration) (request : Request)
+            → IsConfiguration configuration → IsInquiry configuration request self.entry
+            → IsRuleOf configuration request result }
     {
         match self {
             Inquiry::Known(rule) => rule,
@@ -75,11 +76,12 @@ impl<'a> Login<'_, 'a> {
     ghost use Rattle.rad_config.specs.Ranges.{IsConfiguration};
     ghost use Rattle.rad_server.specs.Prepared.{IsLogin, IsRule};
 
+    // The same.
     fn rule(self, is_right: bool) -> Rule<'a>
         requires { is_right ≡ is_right_in self.check }
-        ensures { (configuration : Configuration) (request : Request) → IsConfiguration configuration
-            → request.door ≡ Door.Auth → IsLogin configuration request self.entry
-            → IsRule configuration request result }
+        ensures { (configuration : Configuration) (request : Request)
+            → IsConfiguration configuration → request.door ≡ Door.Auth
+            → IsLogin configuration request self.entry → IsRule configuration request result }
     {
         let Login { user, state, .. } = self;
         if let Some(state) = state {
@@ -94,6 +96,13 @@ impl<'a> Login<'_, 'a> {
             _ => denied(Denial::AccessDenied),
         }
     }
+}
+
+// The rule by which access is denied, whatever the server remembers.
+fn denied<'a>(denial: Denial) -> Rule<'a>
+    ensures { result ≡ denied denial }
+{
+    Rule::Fixed(FixedReply::Denied(denial), Change::Nothing)
 }
 
 /// What a configuration tells of a request.
@@ -111,13 +120,6 @@ pub(crate) fn inquire<'r, 'a>(config: &'r Config, request: &'r Request<'a>) -> I
             Inquiry::Known(Some(Rule::Fixed(FixedReply::Accounting, change)))
         }
     }
-}
-
-// Access is denied, whatever the server remembers.
-fn denied<'a>(denial: Denial) -> Rule<'a>
-    ensures { result ≡ denied denial }
-{
-    Rule::Fixed(FixedReply::Denied(denial), Change::Nothing)
 }
 
 // The same of an Access-Request.

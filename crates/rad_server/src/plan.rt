@@ -74,7 +74,8 @@ pub(crate) fn plan_step<'a>(
     draw: &[u8; 16],
 ) -> Result<Plan<'a>, AllocError>
     requires moment { now ≤ moment_max }
-    requires octets { IfSome octets (λ octets. octets.now ≡ packet_octets prepared.now.request.packet) }
+    requires octets { IfSome octets
+        (λ octets. octets.now ≡ packet_octets prepared.now.request.packet) }
     requires usable { AreUsable prepared.now.configuration tables.now }
     ensures planned { IfOk result (IsPlanOf prepared.now.configuration (live_state now tables.now)
         prepared.now.request draw.now) }

@@ -56,7 +56,8 @@ impl<'c> Model for Server<'c> {
       state = state_with server.clock server.tables;
     } };
 
-    ghost invariant = { λ server. IsLawful server.config.now (state_with server.clock server.tables) };
+    ghost invariant = { λ server.
+        IsLawful server.config.now (state_with server.clock server.tables) };
 }
 
 impl<'c> Server<'c> {
