@@ -17,11 +17,10 @@ demo:
 commands: demo
 	trials/command/run crates/radpool/out/radpool
 
-# Proves and builds refused_memory and refused_rounds, and runs them and radpool again and again, each time with another allocation
-# refused. It needs cc.
+# Proves and builds refused_memory, and makes its runs and commands of radpool again and again, each time with another allocation
+# refused. It needs Python 3 and cc.
 refused-memory: demo
 	cd crates/refused_memory && rt run > /dev/null
-	cd crates/refused_rounds && rt run > /dev/null
 	trials/refused_memory/run
 
 # Serves over loopback with radpool, and judges what it answers and prints, also where the system refuses calls. It needs Python 3
@@ -31,7 +30,7 @@ udp: demo
 
 # Proves everything from nothing, tries the must-fail edits, and runs the tests and the programs. The run of radpool is the
 # example, and the list in docs/PROVED.md is the one that docs/definitions makes. Then the executables are tried: radpool with many
-# command lines and over UDP, and radpool make, refused_memory and refused_rounds with each of their allocations refused in turn.
+# command lines and over UDP, and refused_memory and commands of radpool with each of their allocations refused in turn.
 test:
 	@cmp examples/requests.txt crates/radpool/stdin
 	@cmp examples/requests.expected crates/radpool/stdout

@@ -1,121 +1,246 @@
-//! What a replay does where memory is refused. For each of two replays a line is printed: `right`, or `wrong` and why.
+//! What calls do where memory is refused. Each run of the table makes a call; a line says `right`, or `wrong` and why.
 //!
-//! Neither the readers and writers nor the printing take memory, so the allocations that can be refused are those of the replays.
-//! Whichever is refused, the lines and the status stay the same. The fifth is one of the reading of a configuration.
+//! Before and after its call a run takes a mark (`trial.rt`), so that only allocations of that call are refused. Whichever is, the
+//! lines stay the same. Without an argument all runs are made, with an argument the one of that name.
 #![tactic(auto)]
 
-use rad_config::{ConfigFault, Key, Part, Spot};
-use rad_replay::{RunFault, run_replay};
-use std::alloc::Global;
-use std::io;
-use std::io::{Read, Write};
+mod clients;
+mod desks;
+mod packets;
+mod replays;
+mod requests;
+mod rounds;
+mod servers;
+mod tables;
+mod texts;
+mod trial;
 
-/// An Accounting-Request that is admitted, and one from an unknown source.
-const TRANSCRIPT: &str = "[[client]]\naddress = \"192.168.1.16\"\nsecret = \"xyzzy5461\"\n---\n\
-    7 acct 192.168.1.16:1813 0407001abf750299ba7111cf8a9def2b872d436c280600000001\n\
-    8 acct 192.168.1.17:1813 -\n";
+use crate::trial::Verdict;
+use std::alloc::AllocGlobal;
+use std::convert::AsStr;
+use std::rt::Env;
+use std::sync::Wait;
+use std::thread::Threads;
+use std::{env, io};
 
-const ANSWERED: &[u8] =
-    b"1 reply 05070014171dc47bc90b494526cf68253bd9b4a6\n2 drop 1 UnknownClient\n";
-
-const UNANSWERED: &[u8] = b"1 nomemory\n2 drop 1 UnknownClient\n";
-
-/// The last entry has no password.
-const FAULTY: &str = "[[client]]\naddress = \"192.168.1.16\"\nsecret = \"xyzzy5461\"\n\
-    [[pool]]\nname = \"a\"\nfirst = \"10.0.0.1\"\nlast = \"10.0.0.9\"\n\
-    [[user]]\nname = \"nemo\"\n---\n\
-    8 acct 192.168.1.17:1813 -\n";
-
-const MISSING: ConfigFault = ConfigFault::Missing(Spot {
-    part: Part::User,
-    index: 1,
-    key: Key::Password,
-});
-
-/// Gives octets, and knows whether it reported their end.
-#[derive(Drop)]
-struct Octets<'a> {
-    rest: &'a [u8],
-    has_ended: bool,
+/// What a run calls.
+#[derive(Clone, Copy)]
+enum Run {
+    /// A call of `rad_packet`.
+    Packet(packets::Call),
+    /// A call on clients or texts, or one that reads a configuration.
+    Client(clients::Call),
+    /// A call on sessions, kept replies or challenges.
+    Table(tables::Call),
+    /// A call on a server or a book.
+    Server(servers::Call),
+    /// A call on claims or a desk.
+    Desk(desks::Call),
+    /// A call on a service or its ports.
+    Round(rounds::Call),
+    /// A call of `rad_replay`.
+    Replay(replays::Call),
 }
 
-impl<'a> Read for Octets<'a> {
-    fn read(&mut self, buf: &mut [u8]) -> io::Result<usize> {
-        let count = self.rest.read(buf)?;
-        self.has_ended = count == 0;
-        Ok(count)
+/// The runs, each with its name: the call, and then what it is made on. A call `without memory` makes no allocation.
+const RUNS: &[(&str, Run)] = &[
+    ("Body::with_room", Run::Packet(packets::Call::WithRoom)),
+    ("Body::push", Run::Packet(packets::Call::Push)),
+    (
+        "Body::push on a shared body",
+        Run::Packet(packets::Call::PushShared),
+    ),
+    (
+        "Body::push into room, without memory",
+        Run::Packet(packets::Call::PushIntoRoom),
+    ),
+    ("Body::share", Run::Packet(packets::Call::Share)),
+    ("Body::copy", Run::Packet(packets::Call::Copy)),
+    (
+        "Body::copy of a shared body, without memory",
+        Run::Packet(packets::Call::CopyShared),
+    ),
+    ("Octets::of", Run::Packet(packets::Call::OctetsOf)),
+    ("Octets::share", Run::Packet(packets::Call::OctetsShare)),
+    ("Octets::copy", Run::Packet(packets::Call::OctetsCopy)),
+    ("Frame::new", Run::Packet(packets::Call::FrameNew)),
+    ("Clients::add", Run::Client(clients::Call::Add)),
+    ("Text::copy_of", Run::Client(clients::Call::TextCopy)),
+    ("Config::read", Run::Client(clients::Call::ConfigRead)),
+    (
+        "read_configuration",
+        Run::Client(clients::Call::ConfigurationRead),
+    ),
+    ("Sessions::open", Run::Table(tables::Call::SessionsOpen)),
+    ("Sessions::room", Run::Table(tables::Call::SessionsRoom)),
+    ("Sessions::grant", Run::Table(tables::Call::Grant)),
+    (
+        "Sessions::grant when a session expires",
+        Run::Table(tables::Call::GrantLater),
+    ),
+    (
+        "Sessions::grant after room, without memory",
+        Run::Table(tables::Call::GrantAfterRoom),
+    ),
+    ("Sessions::copy", Run::Table(tables::Call::SessionsCopy)),
+    (
+        "Recent::open, without memory",
+        Run::Table(tables::Call::RecentOpen),
+    ),
+    ("Recent::room", Run::Table(tables::Call::RecentRoom)),
+    ("Recent::make_ready", Run::Table(tables::Call::MakeReady)),
+    ("Recent::keep", Run::Table(tables::Call::Keep)),
+    (
+        "Recent::keep when a reply expires",
+        Run::Table(tables::Call::KeepLater),
+    ),
+    (
+        "Recent::keep after room, without memory",
+        Run::Table(tables::Call::KeepAfterRoom),
+    ),
+    ("Recent::keep_shared", Run::Table(tables::Call::KeepShared)),
+    ("Recent::copy", Run::Table(tables::Call::RecentCopy)),
+    ("Kept::copy", Run::Table(tables::Call::KeptCopy)),
+    (
+        "Challenges::open, without memory",
+        Run::Table(tables::Call::ChallengesOpen),
+    ),
+    ("Challenges::room", Run::Table(tables::Call::ChallengesRoom)),
+    ("Challenges::issue", Run::Table(tables::Call::Issue)),
+    (
+        "Challenges::issue when a challenge expires",
+        Run::Table(tables::Call::IssueLater),
+    ),
+    (
+        "Challenges::issue after room, without memory",
+        Run::Table(tables::Call::IssueAfterRoom),
+    ),
+    ("Challenges::copy", Run::Table(tables::Call::ChallengesCopy)),
+    ("Server::open", Run::Server(servers::Call::Open)),
+    ("Server::copy", Run::Server(servers::Call::Copy)),
+    (
+        "Server::step to an Access-Accept",
+        Run::Server(servers::Call::Accept),
+    ),
+    (
+        "Server::step to an Access-Accept, when all expires",
+        Run::Server(servers::Call::AcceptLater),
+    ),
+    (
+        "Server::step to an Access-Challenge",
+        Run::Server(servers::Call::Challenge),
+    ),
+    (
+        "Server::step to an Access-Challenge, when all expires",
+        Run::Server(servers::Call::ChallengeLater),
+    ),
+    (
+        "Server::step to an Access-Reject",
+        Run::Server(servers::Call::Reject),
+    ),
+    (
+        "Server::step to an Accounting-Response",
+        Run::Server(servers::Call::Response),
+    ),
+    (
+        "Server::step to an Accounting-Response, when all expires",
+        Run::Server(servers::Call::ResponseLater),
+    ),
+    (
+        "Server::step of a Status-Server",
+        Run::Server(servers::Call::Status),
+    ),
+    (
+        "Server::step of a repeat, without memory",
+        Run::Server(servers::Call::Repeat),
+    ),
+    (
+        "Server::step to Busy, without memory",
+        Run::Server(servers::Call::Busy),
+    ),
+    ("Answer::copy", Run::Server(servers::Call::AnswerCopy)),
+    ("Entry::copy", Run::Server(servers::Call::EntryCopy)),
+    ("Book::open", Run::Server(servers::Call::BookOpen)),
+    ("Book::exchange", Run::Server(servers::Call::Exchange)),
+    (
+        "Book::exchange when all expires",
+        Run::Server(servers::Call::ExchangeLater),
+    ),
+    ("Claims::open", Run::Desk(desks::Call::ClaimsOpen)),
+    ("Desk::open", Run::Desk(desks::Call::DeskOpen)),
+    ("Desk::ask", Run::Desk(desks::Call::Ask)),
+    ("Service::open", Run::Round(rounds::Call::Open)),
+    (
+        "Service::round by one worker",
+        Run::Round(rounds::Call::Round(1)),
+    ),
+    (
+        "Service::round by two workers",
+        Run::Round(rounds::Call::Round(2)),
+    ),
+    (
+        "Service::round by one worker, after a round",
+        Run::Round(rounds::Call::NextRound(1)),
+    ),
+    (
+        "Service::round by two workers, after a round",
+        Run::Round(rounds::Call::NextRound(2)),
+    ),
+    ("Service::reuse", Run::Round(rounds::Call::Reuse)),
+    ("Turns::open", Run::Round(rounds::Call::TurnsOpen)),
+    ("run_rounds in three turns", Run::Round(rounds::Call::Turns)),
+    ("MemoryPorts::arrive", Run::Round(rounds::Call::Arrive)),
+    ("read_text", Run::Replay(replays::Call::ReadText)),
+    ("run_replay", Run::Replay(replays::Call::Replay)),
+    (
+        "run_replay of a faulty configuration",
+        Run::Replay(replays::Call::Fault),
+    ),
+    ("Make::request", Run::Replay(replays::Call::Make)),
+];
+
+fn judge<R: Threads + Wait + Sync + AllocGlobal>(rt: &R, run: Run) -> Verdict {
+    match run {
+        Run::Packet(call) => packets::judge_call(rt.alloc(), call),
+        Run::Client(call) => clients::judge_call(rt.alloc(), call),
+        Run::Table(call) => tables::judge_call(rt.alloc(), call),
+        Run::Server(call) => servers::judge_call(rt.alloc(), call),
+        Run::Desk(call) => desks::judge_call(rt, call),
+        Run::Round(call) => rounds::judge_call(rt, call),
+        Run::Replay(call) => replays::judge_call(rt.alloc(), call),
     }
 }
 
-/// Keeps the first octets that are written.
-#[derive(Drop)]
-struct Page {
-    octets: [u8; 256],
-    len: usize,
+fn print_run<R: Threads + Wait + Sync + AllocGlobal + Print>(
+    rt: &R,
+    name: &str,
+    run: Run,
+) -> io::Result<()> {
+    println!(rt; "{name}: {}", judge(rt, run).text())
 }
 
-impl Page {
-    fn new() -> Page {
-        Page {
-            octets: [0; 256],
-            len: 0,
+fn print_runs<R: Threads + Wait + Sync + AllocGlobal + Print>(
+    rt: &R,
+    wanted: Option<&str>,
+) -> io::Result<()> {
+    for (name, run) in RUNS.iter() {
+        if wanted.is_none() || wanted == Some(*name) {
+            print_run(rt, name, *run)?;
         }
     }
-
-    fn written(&self) -> &[u8] {
-        &self.octets[..self.len.min(256)]
-    }
+    Ok(())
 }
 
-impl Write for Page {
-    fn write(&mut self, buf: &[u8]) -> io::Result<usize> {
-        let start = self.len.min(256);
-        let count = buf.len().min(256 - start);
-        self.octets[start..start + count].copy_from_slice(&buf[..count]);
-        self.len = start + count;
-        Ok(count)
-    }
-
-    fn flush(&mut self) -> io::Result<()> {
-        Ok(())
-    }
-}
-
-/// Either each datagram has its line, and a request may have `nomemory`; or nothing is written, and refused memory is
-/// reported.
-fn judge_answers(alloc: Global) -> &'static str {
-    let mut page = Page::new();
-    let ended = run_replay(alloc, &mut TRANSCRIPT.as_bytes(), &mut page);
-    let written = page.written();
-    match ended {
-        Ok(()) if written == ANSWERED || written == UNANSWERED => "right",
-        Ok(()) => "wrong: lines that are not the datagrams'",
-        Err(_) if !written.is_empty() => "wrong: lines before a fault",
-        Err(RunFault::NoMemory | RunFault::Config(ConfigFault::NoMemory)) => "right",
-        Err(_) => "wrong: a fault that is not the memory's",
-    }
-}
-
-/// The configuration's fault is reported, or that reading it was refused memory; that the replay was refused memory is
-/// reported only while it still reads its input.
-fn judge_fault(alloc: Global) -> &'static str {
-    let mut octets = Octets {
-        rest: FAULTY.as_bytes(),
-        has_ended: false,
-    };
-    let mut page = Page::new();
-    let ended = run_replay(alloc, &mut octets, &mut page);
-    match ended {
-        Ok(()) => "wrong: no fault",
-        Err(_) if !page.written().is_empty() => "wrong: lines before a fault",
-        Err(RunFault::Config(ConfigFault::NoMemory)) => "right",
-        Err(RunFault::Config(fault)) if fault == MISSING => "right",
-        Err(RunFault::NoMemory) if !octets.has_ended => "right",
-        Err(_) => "wrong: another fault",
-    }
+// The first argument.
+fn first_word<R: Env + AllocGlobal>(rt: &R) -> Option<String> {
+    let mut words = env::args(rt).ok()?;
+    words.next();
+    words.next()
 }
 
 fn main(rt: HostRuntime) -> io::Result<()> {
-    println!(rt; "{}", judge_fault(rt.alloc()))?;
-    println!(rt; "{}", judge_answers(rt.alloc()))
+    match first_word(&rt) {
+        Some(name) => print_runs(&rt, Some(name.as_str())),
+        None => print_runs(&rt, None),
+    }
 }
