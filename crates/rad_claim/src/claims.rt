@@ -80,10 +80,10 @@ impl Claims {
         Ok((claims, lent))
     }
 
-    /// Claims the next batch, which is no other seat's. None: there are no more batches.
+    /// Claims the next batch. None: there are no more batches.
     ///
-    /// The seat is one of these claims. Once it was told None, it is told so again, and draws nothing. The call takes no memory and
-    /// doesn't wait.
+    /// The seat is one of these claims. Its batches rise; that no other seat has one of them, `close` says. Once it was told None, it
+    /// is told so again, and draws nothing. The call takes no memory and doesn't wait.
     pub fn claim(&self, mut seat: ClaimSeat) -> (Option<u64>, ClaimSeat)
         requires { IsSeatOf self.now seat }
         ensures seat { IsSeatOf self.now result.1 }

@@ -59,8 +59,8 @@ impl<'c, L: Opened> Desk<'c, L> {
     /// Asks the server once, and keeps the receipt in the pass.
     ///
     /// The request was admitted with the clients of the server's configuration. The moment is in milliseconds, at most
-    /// `MOMENT_MAX`. The call may wait for other threads. If memory is refused, the pass is
-    /// unchanged, and so is the server.
+    /// `MOMENT_MAX`. The call may wait for other threads. If memory is refused, the pass is unchanged, and so is the server, as
+    /// `Locked::exchange` says.
     pub fn ask<R: Wait>(
         &self,
         rt: &R,
@@ -83,8 +83,8 @@ impl<'c, L: Opened> Desk<'c, L> {
 
     /// Closes the desk, and compares its history with the server given and with the receipts of the passes.
     ///
-    /// The first mismatch that applies is returned, and then the desk is dropped. When all its passes are given, that isn't
-    /// `Mismatch::Count`. The call takes no memory and doesn't wait.
+    /// Mismatches are looked for in their order, and at the first the desk is dropped. `Opening` is returned exactly where the server
+    /// given isn't the opening, and `Count` never where all passes are given. The call takes no memory and doesn't wait.
     pub fn close(self, server: &Server, passes: Vec<Pass<L>>) -> Result<Closed<'c>, Mismatch>
         ensures run { IfOk result (λ closed.
             IsHistory server.now closed.history.items closed.server) }

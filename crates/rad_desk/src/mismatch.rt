@@ -4,7 +4,7 @@ ghost use Rattle.rad_desk.specs.Settlements.{mismatch_number};
 
 use thiserror::Error;
 
-/// Why the receipts of passes don't agree with a history. The first that applies is reported.
+/// Why the receipts of passes don't agree with a history. They are looked for in this order.
 #[derive(Clone, Copy, Debug, PartialEq, Eq, Error)]
 pub enum Mismatch {
     /// The history began from another server than the one given.

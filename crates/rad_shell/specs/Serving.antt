@@ -74,7 +74,7 @@ abbrev pub reply_count : List Entry → ℕ
 reply_count history = length (filter (λ entry. is_reply entry.answer) history)
 
 -- The sums of so many turns that made these exchanges: there are as many replies as entries whose answer is one, and as many busy ones
--- as other entries; and if no round was lost, each datagram has an outcome.
+-- as other entries; and if no round was lost, there are as many datagrams as outcomes.
 pub record AreSums (turns : ℕ) (history : List Entry) (served : Served) : Type 0 where
   pub rounds : served.rounds ≡ turns
   pub replies : served.replies ≡ reply_count history

@@ -4,13 +4,13 @@ ghost use Rattle.rad_shell.specs.Serving.{serve_fault_number};
 
 use thiserror::Error;
 
-/// Why turns ended before the last one. The server is as it was after the last closed round.
+/// Why turns ended before the last one. The server is as it was after the last round.
 #[derive(Clone, Copy, Debug, PartialEq, Eq, Error)]
 pub enum ServeFault {
     /// A port failed while datagrams were received. Those of this turn are dropped, before any draw for them.
     #[error("receive failed")]
     Receive,
-    /// A port failed while replies were sent. The round is closed: the replies before this one went out, the rest don't.
+    /// A port failed while replies were sent. The round stands: the replies before this one went out, the rest don't.
     #[error("send failed")]
     Send,
     /// The history of a round doesn't agree with what its workers were answered. This never comes.

@@ -14,7 +14,7 @@ use std::alloc::{AllocError, Global};
 use std::sync::Wait;
 use std::thread::Threads;
 
-/// The most workers of a turn's round. With more of them a round has taken longer.
+/// The most workers of a turn's round. With more of them a round takes longer, or hardly less.
 const WORKERS_THAT_PAY: u64 = 1;
 
 /// What turns have besides a service and its ports: the source of their draws, the gate of their rounds, and room for the datagrams of
