@@ -22,7 +22,7 @@ const SIZES: [Size; 2] = [Size::Small, Size::Full];
 
 const LOADS: [Load; 2] = [Load::Accounting, Load::Access];
 
-const COUNTS: [u16; 4] = [1, 8, 64, 512];
+const COUNTS: [u16; 6] = [1, 8, 64, 128, 256, 512];
 
 const WAYS: [Way; 4] = [
     Way::Alone,

@@ -14,8 +14,8 @@ use std::alloc::{AllocError, Global};
 use std::sync::Wait;
 use std::thread::Threads;
 
-/// The most workers of a turn's round. With more of them a round takes longer, or hardly less.
-const WORKERS_THAT_PAY: u64 = 1;
+/// The fewest datagrams of a turn whose round takes two workers less time than one. More than two workers never pay.
+const TWO_WORKERS_FROM: usize = 512;
 
 /// What turns have besides a service and its ports: the source of their draws, the gate of their rounds, and room for the datagrams of
 /// a turn, which each turn uses again.
@@ -140,6 +140,13 @@ fn answer<R: Threads + Wait + Sync, G: Gate + Sync>(
     ensures lost { IfNone result (service.new ≡ service.old) }
 {
     let arrivals = received.arrivals(service.alloc()).ok()?;
-    let workers = workers.min(WORKERS_THAT_PAY);
+    let workers = workers.min(workers_that_pay(arrivals.len()));
     service.round(rt, &arrivals, workers, gate).ok()
+}
+
+// How many workers take the least time for a round of so many datagrams.
+fn workers_that_pay(datagrams: usize) -> u64
+    ensures { (1 ≤ result) × (result ≤ 2) }
+{
+    if datagrams < TWO_WORKERS_FROM { 1 } else { 2 }
 }
