@@ -7,6 +7,7 @@
 mod clients;
 mod desks;
 mod packets;
+mod prepared;
 mod replays;
 mod requests;
 mod rounds;
@@ -32,6 +33,8 @@ enum Run {
     Client(clients::Call),
     /// A call on sessions, kept replies or challenges.
     Table(tables::Call),
+    /// A call that prepares a request.
+    Prepared(prepared::Call),
     /// A call on a server or a book.
     Server(servers::Call),
     /// A call on claims or a desk.
@@ -116,6 +119,22 @@ const RUNS: &[(&str, Run)] = &[
         Run::Table(tables::Call::IssueAfterRoom),
     ),
     ("Challenges::copy", Run::Table(tables::Call::ChallengesCopy)),
+    (
+        "prepare8 of a log-in, without memory",
+        Run::Prepared(prepared::Call::LogIn),
+    ),
+    (
+        "prepare8 of an Access-Reject",
+        Run::Prepared(prepared::Call::Reject),
+    ),
+    (
+        "prepare8 of an Accounting-Response",
+        Run::Prepared(prepared::Call::Response),
+    ),
+    (
+        "prepare8 of a Status-Server",
+        Run::Prepared(prepared::Call::Status),
+    ),
     ("Server::open", Run::Server(servers::Call::Open)),
     ("Server::copy", Run::Server(servers::Call::Copy)),
     (
@@ -204,6 +223,7 @@ fn judge<R: Threads + Wait + Sync + AllocGlobal>(rt: &R, run: Run) -> Verdict {
         Run::Packet(call) => packets::judge_call(rt.alloc(), call),
         Run::Client(call) => clients::judge_call(rt.alloc(), call),
         Run::Table(call) => tables::judge_call(rt.alloc(), call),
+        Run::Prepared(call) => prepared::judge_call(rt.alloc(), call),
         Run::Server(call) => servers::judge_call(rt.alloc(), call),
         Run::Desk(call) => desks::judge_call(rt, call),
         Run::Round(call) => rounds::judge_call(rt, call),

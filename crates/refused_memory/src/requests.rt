@@ -69,17 +69,30 @@ pub(crate) struct Sent<'a> {
     pub octets: &'a [u8],
 }
 
-/// The request that a datagram is, if it is admitted.
-pub(crate) fn admit<'a>(clients: &Clients, sent: Sent<'a>) -> Option<Request<'a>>
-    ensures { IfSome result (IsAdmitted clients.now) }
-{
-    let arrival = Arrival {
+/// A datagram, as it arrives.
+pub(crate) fn arrival(sent: Sent<'_>) -> Arrival<'_> {
+    Arrival {
         source: SOURCE,
         port: sent.port,
         door: sent.door,
         octets: sent.octets,
-    };
-    let arrivals = [Some(arrival), None, None, None, None, None, None, None];
+    }
+}
+
+/// The request that a datagram is, if it is admitted.
+pub(crate) fn admit<'a>(clients: &Clients, sent: Sent<'a>) -> Option<Request<'a>>
+    ensures { IfSome result (IsAdmitted clients.now) }
+{
+    let arrivals = [
+        Some(arrival(sent)),
+        None,
+        None,
+        None,
+        None,
+        None,
+        None,
+        None,
+    ];
     let mut verdicts = check8(clients, &arrivals).into_iter();
     match verdicts.next() {
         Some(Some(Ok(request))) => Some(request),
