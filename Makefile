@@ -6,11 +6,11 @@ try:
 	@cat examples/requests.expected
 	@echo "The output is that of examples/requests.expected. This was a trial run: nothing was proved."
 
-# Proves and builds radpool, runs it on the shipped transcript, and reads the shipped configuration.
+# Proves and builds radpool, runs it on the shipped transcript, and checks the shipped configuration.
 demo:
 	cd crates/radpool && rt run -- replay < ../../examples/requests.txt
 	crates/radpool/out/radpool replay < examples/requests.txt | diff - examples/requests.expected
-	(cat examples/radpool.toml; echo; echo ---) | crates/radpool/out/radpool replay
+	crates/radpool/out/radpool check examples/radpool.toml
 	@echo "The output is that of examples/requests.expected. The program is crates/radpool/out/radpool."
 
 # Runs radpool with many command lines, and judges what each prints and its status. It needs Python 3.

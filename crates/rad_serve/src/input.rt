@@ -12,7 +12,7 @@ use std::rt::Files;
 const SEED_SIZE: usize = 32;
 
 /// The configuration that a file says. It has as many octets as a transcript may have, at most.
-pub(crate) fn open_configuration<R: Files + AllocGlobal>(
+pub fn open_configuration<R: Files + AllocGlobal>(
     rt: &R,
     path: &str,
 ) -> Result<Config, ServeError> {

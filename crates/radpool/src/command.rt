@@ -1,5 +1,6 @@
 //! The command line: what it may say, and what is then done.
 
+use crate::check_command::{check_command, path_in};
 use crate::options::{Absent, OCTET, TEXT, Valued, WORD, with_options};
 use crate::serve_command::{Serve, serve_command};
 use clap::builder::ValueParser;
@@ -25,6 +26,7 @@ const PROGRAM_EXAMPLES: &str = "\
 Examples:
   radpool make --kind account --secret xyzzy5461 --id 7
   radpool replay < examples/requests.txt
+  radpool check radpool.toml
   radpool serve --config radpool.toml --seed radpool.seed
 
 'radpool COMMAND --help' says more of a command.";
@@ -113,6 +115,7 @@ const MAKE_OPTIONS: &[Valued] = &[
 enum Task<'a> {
     Replay,
     Make(Make<'a>),
+    Check(&'a str),
     Serve(Serve<'a>),
 }
 
@@ -121,6 +124,8 @@ enum Task<'a> {
 pub enum Next {
     /// To end with this status.
     End(ExitCode),
+    /// To check the configuration at this path.
+    Check(String),
     /// To serve.
     Serve(Options),
 }
@@ -158,7 +163,7 @@ impl From<RunFault> for Fault {
     }
 }
 
-/// Does what the words after the program's name ask for, except serving, which is left to the caller.
+/// Does what the words after the program's name ask for, except what takes files, which is left to the caller.
 pub fn run<R: Env + Input + Print + Eprint + AllocGlobal>(rt: &R) -> Next {
     match try_run(rt) {
         Ok(next) => next,
@@ -193,6 +198,7 @@ fn do_task<R: Input + Print + AllocGlobal>(rt: &R, task: Task) -> Result<Next, F
     match task {
         Task::Replay => run_replay(rt.alloc(), &mut rt.reader(), &mut io::writer(rt))?,
         Task::Make(make) => print_request(rt, make)?,
+        Task::Check(path) => return Ok(Next::Check(path.to_string(rt.alloc())?)),
         Task::Serve(serve) => return Ok(Next::Serve(serve.options(rt.alloc())?)),
     }
     Ok(Next::End(ExitCode::SUCCESS))
@@ -268,6 +274,7 @@ fn task_in<'a>(matches: &ArgMatches<'a>) -> Option<Task<'a>> {
     match matches.subcommand()? {
         ("replay", _) => Some(Task::Replay),
         ("make", found) => Some(Task::Make(make_in(found)?)),
+        ("check", found) => Some(Task::Check(path_in(found)?)),
         ("serve", found) => Some(Task::Serve(Serve::given(found)?)),
         _ => None,
     }
@@ -299,6 +306,7 @@ fn program<'a>(alloc: Global) -> Result<Command<'a>, AllocError> {
         .disable_help_subcommand(true)
         .subcommand(replay_command(alloc))?
         .subcommand(make_command(alloc)?)?
+        .subcommand(check_command(alloc)?)?
         .subcommand(serve_command(alloc)?)
 }
 

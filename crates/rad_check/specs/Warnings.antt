@@ -1,0 +1,31 @@
+-- Warnings: what may be wrong with a configuration that has no fault.
+use Rattle.std.specs.Prelude.{ℕ, ◌==◌, ◌&&◌, nat_lt, not, Bool, false, length, Option, Some, None}
+use Rattle.std.specs.List.{list_any}
+use Rattle.rad_config.specs.Configurations.{Configuration}
+use Rattle.rad_config.specs.declared.user.User.{User}
+use Rattle.rad_check.specs.declared.warning.Warning.{Warning}
+use Rattle.rad_check.specs.declared.warning.Warning.TheVariants.{NoClient, NoUser, ShortHold, IdlePool}
+
+-- a `hold` below this, in seconds, is short
+abbrev pub short_hold : ℕ
+short_hold = 120
+
+-- whether there are pools whose addresses are held for less
+abbrev pub is_held_briefly : Configuration → Bool
+is_held_briefly configuration = not (length configuration.pools == 0) && nat_lt configuration.hold short_hold
+
+-- whether there is a place, and it is this one
+abbrev pub is_place : ℕ → Option ℕ → Bool
+is_place place None = false
+is_place place (Some own) = own == place
+
+-- whether a user has the pool at a place
+abbrev pub has_pool : ℕ → User → Bool
+has_pool place user = is_place place user.pool
+
+-- whether a warning applies
+abbrev pub applies : Configuration → Warning → Bool
+applies configuration NoClient = length configuration.clients == 0
+applies configuration NoUser = length configuration.users == 0
+applies configuration ShortHold = is_held_briefly configuration
+applies configuration (IdlePool place) = not (list_any (has_pool place) configuration.users)

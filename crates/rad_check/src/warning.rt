@@ -1,0 +1,59 @@
+//! Warnings.
+ghost use Rattle.std.specs.Prelude.{◌≡◌};
+ghost use Rattle.std.specs.List.{list_any};
+ghost use Rattle.rad_check.specs.Warnings.{applies, has_pool, is_held_briefly};
+
+use rad_config::{Config, User};
+
+/// A `hold` below this, in seconds, is short where there are pools: a session whose Start comes later has lost its address.
+pub const SHORT_HOLD: u32 = 120;
+
+/// What may be wrong with a configuration, though it can be served.
+#[derive(Clone, Copy, Debug, PartialEq, Eq)]
+pub enum Warning {
+    /// There is no client, so each datagram is discarded.
+    NoClient,
+    /// There is no user, so each log-in is rejected.
+    NoUser,
+    /// There are pools, and `hold` is below `SHORT_HOLD`.
+    ShortHold,
+    /// No user has the pool at this place.
+    IdlePool(u32),
+}
+
+impl Warning {
+    /// Whether it applies to a configuration.
+    pub fn applies(self, config: &Config) -> bool
+        ensures { result ≡ applies config.now self }
+    {
+        match self {
+            Warning::NoClient => config.clients().is_empty(),
+            Warning::NoUser => config.users().is_empty(),
+            Warning::ShortHold => is_held_briefly(config),
+            Warning::IdlePool(place) => !has_user(config, place),
+        }
+    }
+}
+
+// Whether there are pools whose addresses are held for less than `SHORT_HOLD`.
+fn is_held_briefly(config: &Config) -> bool
+    ensures { result ≡ is_held_briefly config.now }
+{
+    !config.pools().is_empty() && config.hold() < SHORT_HOLD
+}
+
+// Whether a user has the pool at a place.
+fn has_user(config: &Config, place: u32) -> bool
+    ensures { result ≡ list_any (has_pool place) config.now.users }
+{
+    config.users().iter().any(|user| has_pool(user, place))
+}
+
+fn has_pool(user: &User, place: u32) -> bool
+    ensures { result ≡ has_pool place user.now }
+{
+    match user.pool {
+        Some(own) => own == place,
+        None => false,
+    }
+}
