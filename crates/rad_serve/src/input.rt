@@ -11,7 +11,10 @@ use std::rt::Files;
 /// The octets of a seed.
 const SEED_SIZE: usize = 32;
 
-/// The configuration that a file says. It has as many octets as a transcript may have, at most.
+/// The configuration that a file says.
+///
+/// `ConfigUnreadable`: the file can't be read, or has more than 16,777,216 octets. `Config`: its first fault. `NoMemory`: memory for
+/// its text was refused.
 pub fn open_configuration<R: Files + AllocGlobal>(
     rt: &R,
     path: &str,
