@@ -1,4 +1,7 @@
-.PHONY: commands demo refused-memory test try udp
+.PHONY: commands demo install refused-memory test try udp uninstall
+
+PREFIX ?= /usr/local
+PROGRAM = crates/radpool/out/radpool
 
 # Runs radpool on the shipped transcript without a proof, and prints what it answered.
 try:
@@ -39,3 +42,25 @@ test:
 	@trials/command/run > /dev/null
 	@trials/refused_memory/run > /dev/null
 	@trials/udp/run
+
+# Installs the executable of `make demo`, its man pages, a unit for systemd, room for receive buffers, the example configuration and
+# two documents, below PREFIX, which the installed texts name. Nothing in /etc is touched.
+to = $(DESTDIR)$(PREFIX)
+text = sed 's,/usr/local,$(PREFIX),g' $(1) | install -D -m 644 /dev/stdin "$(to)/$(2)"
+install:
+	@test -x "$(PROGRAM)" || { echo "There is no $(PROGRAM): run 'make demo' first." >&2; exit 1; }
+	install -D -m 755 "$(PROGRAM)" "$(to)/bin/radpool"
+	$(call text,man/radpool.8,share/man/man8/radpool.8)
+	$(call text,man/radpool.toml.5,share/man/man5/radpool.toml.5)
+	$(call text,examples/radpool.service,lib/systemd/system/radpool.service)
+	$(call text,packaging/sysctl.conf,lib/sysctl.d/10-radpool.conf)
+	$(call text,examples/radpool.toml,share/doc/radpool/examples/radpool.toml)
+	$(call text,docs/OPERATING.md,share/doc/radpool/OPERATING.md)
+	$(call text,docs/FORMATS.md,share/doc/radpool/FORMATS.md)
+
+# Removes what `install` installed, and the folder that only radpool uses.
+installed = bin/radpool share/man/man8/radpool.8 share/man/man5/radpool.toml.5 lib/systemd/system/radpool.service \
+	lib/sysctl.d/10-radpool.conf $(addprefix share/doc/radpool/,examples/radpool.toml OPERATING.md FORMATS.md)
+uninstall:
+	rm -f $(foreach file,$(installed),"$(to)/$(file)")
+	@test ! -d "$(to)/share/doc/radpool" || find "$(to)/share/doc/radpool" -type d -empty -delete
