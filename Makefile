@@ -1,4 +1,4 @@
-.PHONY: commands demo install refused-memory test try udp uninstall
+.PHONY: commands deb demo install refused-memory test try udp uninstall
 
 PREFIX ?= /usr/local
 PROGRAM = crates/radpool/out/radpool
@@ -64,3 +64,7 @@ installed = bin/radpool share/man/man8/radpool.8 share/man/man5/radpool.toml.5 l
 uninstall:
 	rm -f $(foreach file,$(installed),"$(to)/$(file)")
 	@test ! -d "$(to)/share/doc/radpool" || find "$(to)/share/doc/radpool" -type d -empty -delete
+
+# Makes a Debian package of what `install` installs, in out/.
+deb:
+	packaging/deb "$(PROGRAM)"
