@@ -1,4 +1,4 @@
-.PHONY: commands deb demo install refused-memory test try udp uninstall
+.PHONY: commands deb demo install install-trial refused-memory test try udp uninstall
 
 PREFIX ?= /usr/local
 PROGRAM = crates/radpool/out/radpool
@@ -68,3 +68,8 @@ uninstall:
 # Makes a Debian package of what `install` installs, in out/.
 deb:
 	packaging/deb "$(PROGRAM)"
+
+# Installs radpool into a folder and, for root where dpkg is, as a Debian package, judges what is there, and removes it again. It needs
+# Python 3.
+install-trial:
+	trials/install/run "$(PROGRAM)"
