@@ -1,1 +1,3 @@
+pub mod Details
+pub mod Names
 pub mod Warnings

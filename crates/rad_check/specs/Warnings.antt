@@ -1,5 +1,5 @@
--- Warnings: what may be wrong with a configuration that has no fault.
-use Rattle.std.specs.Prelude.{ℕ, ◌==◌, ◌&&◌, nat_lt, not, Bool, false, length, Option, Some, None}
+-- Warnings: what may be wrong with a configuration that has no fault, and with its file.
+use Rattle.std.specs.Prelude.{ℕ, ◌==◌, ◌&&◌, bit_and, nat_lt, not, Bool, false, length, Option, Some, None}
 use Rattle.std.specs.List.{list_any}
 use Rattle.rad_config.specs.Configurations.{Configuration}
 use Rattle.rad_config.specs.declared.user.User.{User}
@@ -29,3 +29,7 @@ applies configuration NoClient = length configuration.clients == 0
 applies configuration NoUser = length configuration.users == 0
 applies configuration ShortHold = is_held_briefly configuration
 applies configuration (IdlePool place) = not (list_any (has_pool place) configuration.users)
+
+-- whether a file of this mode can be read by others
+abbrev pub is_open : ℕ → Bool
+is_open mode = not (bit_and mode 4 == 0)

@@ -11,23 +11,28 @@ use std::rt::Files;
 /// The octets of a seed.
 const SEED_SIZE: usize = 32;
 
-/// The configuration that a file says.
+/// The text of the file of a configuration.
 ///
-/// `ConfigUnreadable`: the file can't be read, or has more than 16,777,216 octets. `Config`: its first fault. `NoMemory`: memory for
-/// its text was refused.
-pub fn open_configuration<R: Files + AllocGlobal>(
-    rt: &R,
-    path: &str,
-) -> Result<Config, ServeError> {
+/// `ConfigUnreadable`: the file can't be read, or has more than 16,777,216 octets. `NoMemory`: memory for its text was refused.
+pub fn open_text<R: Files + AllocGlobal>(rt: &R, path: &str) -> Result<Vec<u8>, ServeError> {
     let mut file = match fs::open(rt, path) {
         Ok(file) => file,
         Err(_) => return Err(ServeError::ConfigUnreadable),
     };
     match read_text(rt.alloc(), &mut file) {
-        Ok(text) => Ok(read_configuration(rt.alloc(), &text)?),
+        Ok(text) => Ok(text),
         Err(RunFault::NoMemory) => Err(ServeError::NoMemory),
         Err(_) => Err(ServeError::ConfigUnreadable),
     }
+}
+
+/// The configuration that a file says; otherwise why it has no text, or the first fault of its text.
+pub(crate) fn open_configuration<R: Files + AllocGlobal>(
+    rt: &R,
+    path: &str,
+) -> Result<Config, ServeError> {
+    let text = open_text(rt, path)?;
+    Ok(read_configuration(rt.alloc(), &text)?)
 }
 
 /// The seed that a file has.

@@ -16,7 +16,7 @@ mod serving;
 mod udp_ports;
 
 pub use failure::{Failure, receive_failure, send_failure};
-pub use input::open_configuration;
+pub use input::open_text;
 pub use options::{Options, Workers};
 pub use serve_error::ServeError;
 pub use serving::serve;

@@ -2,13 +2,12 @@
 
 use crate::command::{Fault, report};
 use clap::{Arg, ArgMatches, Command};
-use rad_check::{SHORT_HOLD, Warning};
+use rad_check::{detail_of, warn};
 use rad_config::Config;
-use rad_replay::RunFault;
-use rad_serve::open_configuration;
+use rad_replay::{RunFault, read_configuration};
+use rad_serve::open_text;
 use std::alloc::{AllocError, AllocGlobal, Global};
 use std::fmt;
-use std::net::Ipv4Addr;
 use std::process::ExitCode;
 use std::rt::Files;
 
@@ -25,14 +24,27 @@ pub fn path_in<'a>(found: &ArgMatches<'a>) -> Option<&'a str> {
 
 /// Checks the configuration of a file, and returns the exit status.
 pub fn run_check<R: Files + Print + Eprint + AllocGlobal>(rt: &R, path: &str) -> ExitCode {
-    match open_configuration(rt, path) {
-        Ok(config) => print_good(rt, path, &config),
+    match open_text(rt, path) {
+        Ok(text) => check_text(rt, path, &text),
         Err(error) => report(rt, Fault::Serve(error)),
     }
 }
 
+fn check_text<R: Files + Print + Eprint + AllocGlobal>(
+    rt: &R,
+    path: &str,
+    text: &[u8],
+) -> ExitCode {
+    match read_configuration(rt.alloc(), text) {
+        Ok(config) => {
+            warn(rt, path, text, &config);
+            print_good(rt, path, &config)
+        }
+        Err(fault) => report(rt, Fault::Config(fault, detail_of(rt.alloc(), text, fault))),
+    }
+}
+
 fn print_good<R: Print + Eprint>(rt: &R, path: &str, config: &Config) -> ExitCode {
-    print_warnings(rt, config);
     let (clients, pools, users) = (
         Counted(config.clients().len(), "client"),
         Counted(config.pools().len(), "pool"),
@@ -54,30 +66,6 @@ impl fmt::Display for Counted {
         let ending = if *count == 1 { "" } else { "s" };
         write!(f, "{count} {name}{ending}")
     }
-}
-
-fn print_warnings<R: Eprint>(rt: &R, config: &Config) {
-    if Warning::NoClient.applies(config) {
-        let _ = eprintln!(rt; "radpool: warning: no client, so each datagram is discarded");
-    }
-    if Warning::NoUser.applies(config) {
-        let _ = eprintln!(rt; "radpool: warning: no user, so each log-in is rejected");
-    }
-    if Warning::ShortHold.applies(config) {
-        let _ = eprintln!(rt;
-            "radpool: warning: hold is below {SHORT_HOLD} seconds: a session whose Start comes later has lost its address"
-        );
-    }
-    for (place, pool) in config.pools().iter().enumerate() {
-        if Warning::IdlePool(place as u32).applies(config) {
-            print_idle(rt, pool.first, pool.last);
-        }
-    }
-}
-
-fn print_idle<R: Eprint>(rt: &R, first: u32, last: u32) {
-    let (first, last) = (Ipv4Addr::from_bits(first), Ipv4Addr::from_bits(last));
-    let _ = eprintln!(rt; "radpool: warning: no user has the pool from {first} to {last}");
 }
 
 /// The command, with the file that it checks.

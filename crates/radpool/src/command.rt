@@ -6,6 +6,8 @@ use crate::serve_command::{Serve, serve_command};
 use clap::builder::ValueParser;
 use clap::error::ErrorKind;
 use clap::{Arg, ArgAction, ArgMatches, Command};
+use rad_check::Detail;
+use rad_config::ConfigFault;
 use rad_replay::{KINDS, Kind, Make, MakeFault, RunFault, run_replay};
 use rad_serve::{Options, ServeError};
 use std::alloc::{AllocError, Global};
@@ -139,6 +141,8 @@ pub enum Fault {
     Run(RunFault),
     /// Serving came to its fault.
     Serve(ServeError),
+    /// The configuration to check has a fault.
+    Config(ConfigFault, Detail),
 }
 
 impl From<clap::Error> for Fault {
@@ -184,6 +188,10 @@ pub fn report<R: Eprint>(rt: &R, fault: Fault) -> ExitCode {
         }
         Fault::Serve(fault) => {
             let _ = eprintln!(rt; "radpool: {fault}");
+            ExitCode::from(RUN_FAULT)
+        }
+        Fault::Config(fault, detail) => {
+            let _ = eprintln!(rt; "radpool: {fault}{detail}");
             ExitCode::from(RUN_FAULT)
         }
     }

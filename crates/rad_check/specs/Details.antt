@@ -1,0 +1,19 @@
+-- What more a fault of a configuration says: where a text is no document, and which entries are the same or share addresses.
+use Rattle.std.specs.Prelude.{ℕ, ◌+◌, ◌==◌, ◌&&◌, nat_le, Bool, true, false, count_by, List}
+use Rattle.rad_config_fault.specs.declared.config_fault.Key.{Key}
+use Rattle.rad_config_fault.specs.declared.config_fault.Key.TheVariants as keys
+use Rattle.rad_check.specs.declared.shared.Range.{Range}
+
+-- the line, from 1, of what comes after these octets: 10 is the line feed
+abbrev pub line_after : List ℕ → ℕ
+line_after before = count_by (λ octet. octet == 10) before + 1
+
+-- whether no two entries of a list may have the same value at a key
+abbrev pub is_distinct : Key → Bool
+is_distinct keys.Address = true
+is_distinct keys.Name = true
+is_distinct key = false
+
+-- whether an address is in both ranges
+abbrev pub share : Range → Range → Bool
+share one other = nat_le one.first other.last && nat_le other.first one.last

@@ -1,0 +1,61 @@
+//! What more there is to say of a fault.
+
+use crate::place::{column_after, line_after};
+use crate::shared::{same_as, shared_pools};
+use rad_config_fault::{ConfigFault, Part};
+use std::alloc::Global;
+use std::fmt;
+use toml::de::Error;
+
+/// What more there is to say of a fault. It is printed after the fault, on the same line, and has nothing of a value in it.
+#[derive(Clone, Copy, Debug, PartialEq, Eq)]
+pub enum Detail {
+    /// Nothing.
+    Nothing,
+    /// The line and the column, from 1, at which a text is no document, and why.
+    Syntax(usize, usize, Error),
+    /// The earlier entry of the part, from 1, that has the same name or network.
+    SameAs(Part, usize),
+    /// The two pools, from 1, that share an address.
+    Pools(usize, usize),
+}
+
+impl fmt::Display for Detail {
+    fn fmt<W: fmt::Write>(&self, f: &mut fmt::Formatter<W>) -> fmt::Result {
+        match self {
+            Detail::Nothing => Ok(()),
+            Detail::Syntax(line, column, error) => {
+                write!(f, " at line {line}, column {column}: {}", error.message())
+            }
+            Detail::SameAs(part, index) => write!(f, ": the same as {part} {index}"),
+            Detail::Pools(one, other) => write!(f, ": pools {one} and {other}"),
+        }
+    }
+}
+
+/// What more there is to say of the fault that a text has. Where memory is refused, it is nothing.
+pub fn detail_of(alloc: Global, text: &[u8], fault: ConfigFault) -> Detail {
+    let found = match fault {
+        ConfigFault::Syntax => syntax(alloc, text),
+        _ => in_document(alloc, text, fault),
+    };
+    found.unwrap_or(Detail::Nothing)
+}
+
+fn syntax(alloc: Global, text: &[u8]) -> Option<Detail> {
+    let error = toml::table_from_slice(alloc, text).err()?;
+    let before = text.get(..error.span()?.start)?;
+    Some(Detail::Syntax(line_after(before), column_after(before), error))
+}
+
+fn in_document(alloc: Global, text: &[u8], fault: ConfigFault) -> Option<Detail> {
+    let document = toml::table_from_slice(alloc, text).ok()?;
+    match fault {
+        ConfigFault::BadValue(spot) => Some(Detail::SameAs(spot.part, same_as(&document, spot)?)),
+        ConfigFault::PoolsOverlap => {
+            let (one, other) = shared_pools(&document)?;
+            Some(Detail::Pools(one, other))
+        }
+        _ => None,
+    }
+}
