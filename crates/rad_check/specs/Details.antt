@@ -1,7 +1,11 @@
 -- What more a fault of a configuration says: where a text is no document, and which entries are the same or share addresses.
-use Rattle.std.specs.Prelude.{ℕ, ◌+◌, ◌==◌, ◌&&◌, nat_le, Bool, true, false, count_by, List}
+use Rattle.std.specs.Prelude.{ℕ, ◌+◌, ◌==◌, ◌&&◌, nat_le, nat_lt, Bool, true, false, count_by, List}
 use Rattle.rad_config_fault.specs.declared.config_fault.Key.{Key}
 use Rattle.rad_config_fault.specs.declared.config_fault.Key.TheVariants as keys
+use Rattle.rad_config_fault.specs.declared.config_fault.ConfigFault.{ConfigFault}
+use Rattle.rad_config_fault.specs.declared.config_fault.ConfigFault.TheVariants as faults
+use Rattle.rad_check.specs.declared.detail.Detail.{Detail}
+use Rattle.rad_check.specs.declared.detail.Detail.TheVariants as details
 use Rattle.rad_check.specs.declared.shared.Range.{Range}
 
 -- the line, from 1, of what comes after these octets: 10 is the line feed
@@ -17,3 +21,11 @@ is_distinct key = false
 -- whether an address is in both ranges
 abbrev pub share : Range → Range → Bool
 share one other = nat_le one.first other.last && nat_le other.first one.last
+
+-- whether a fault may have such a detail
+abbrev pub fits : ConfigFault → Detail → Bool
+fits fault details.Nothing = true
+fits faults.Syntax (details.Syntax line column error) = true
+fits (faults.BadValue at) (details.SameAs part index) = nat_lt index at.index
+fits faults.PoolsOverlap (details.Pools one other) = nat_lt one other
+fits fault detail = false

@@ -1,4 +1,6 @@
 //! What more there is to say of a fault.
+ghost use Rattle.std.specs.Prelude.{IfSome, IsTrue};
+ghost use Rattle.rad_check.specs.Details.{fits};
 
 use crate::place::{column_after, line_after};
 use crate::shared::{same_as, shared_pools};
@@ -34,7 +36,9 @@ impl fmt::Display for Detail {
 }
 
 /// What more there is to say of the fault that a text has. Where memory is refused, it is nothing.
-pub fn detail_of(alloc: Global, text: &[u8], fault: ConfigFault) -> Detail {
+pub fn detail_of(alloc: Global, text: &[u8], fault: ConfigFault) -> Detail
+    ensures { IsTrue (fits fault result) }
+{
     let found = match fault {
         ConfigFault::Syntax => syntax(alloc, text),
         _ => in_document(alloc, text, fault),
@@ -42,13 +46,17 @@ pub fn detail_of(alloc: Global, text: &[u8], fault: ConfigFault) -> Detail {
     found.unwrap_or(Detail::Nothing)
 }
 
-fn syntax(alloc: Global, text: &[u8]) -> Option<Detail> {
+fn syntax(alloc: Global, text: &[u8]) -> Option<Detail>
+    ensures { IfSome result (λ detail. IsTrue (fits ConfigFault.Syntax detail)) }
+{
     let error = toml::table_from_slice(alloc, text).err()?;
     let before = text.get(..error.span()?.start)?;
     Some(Detail::Syntax(line_after(before), column_after(before), error))
 }
 
-fn in_document(alloc: Global, text: &[u8], fault: ConfigFault) -> Option<Detail> {
+fn in_document(alloc: Global, text: &[u8], fault: ConfigFault) -> Option<Detail>
+    ensures { IfSome result (λ detail. IsTrue (fits fault detail)) }
+{
     let document = toml::table_from_slice(alloc, text).ok()?;
     match fault {
         ConfigFault::BadValue(spot) => Some(Detail::SameAs(spot.part, same_as(&document, spot)?)),

@@ -1,6 +1,6 @@
 //! The names that each part of a configuration has.
 ghost use Rattle.std.specs.Prelude.{◌≡◌};
-ghost use Rattle.rad_check.specs.Names.{is_known, is_of_top, names_of};
+ghost use Rattle.rad_check.specs.Names.{is_known, is_of_top, is_top_key, names_of};
 
 use rad_config_fault::{Key, Part};
 
@@ -98,8 +98,14 @@ pub fn is_of_top(part: Part, name: &str) -> bool
 {
     match part {
         Part::Top => false,
-        _ => TOP
-            .iter()
-            .any(|known| known.is_key() && name == known.name()),
+        Part::Client | Part::Pool | Part::User => is_top_key(name),
     }
+}
+
+// Whether a key at the top has a name.
+fn is_top_key(name: &str) -> bool
+    ensures { result ≡ is_top_key name.now }
+{
+    TOP.iter()
+        .any(|known| known.is_key() && name == known.name())
 }

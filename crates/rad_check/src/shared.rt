@@ -1,5 +1,5 @@
 //! Entries of a document that are the same, or share addresses.
-ghost use Rattle.std.specs.Prelude.{◌≡◌};
+ghost use Rattle.std.specs.Prelude.{◌≡◌, ◌<◌, IfSome, IsSome, length, true};
 ghost use Rattle.rad_check.specs.Details.{is_distinct, share};
 
 use rad_config_fault::{Key, Part, Spot};
@@ -16,8 +16,11 @@ pub struct Range {
     pub last: u32,
 }
 
-/// The entry, from 1, that has the value before which a spot may not have: a name, or a network.
-pub fn same_as(document: &Table, spot: Spot) -> Option<usize> {
+/// The earlier entry, from 1, that has the same name or network as a spot has.
+pub fn same_as(document: &Table, spot: Spot) -> Option<usize>
+    ensures distinct { IsSome result → is_distinct spot.key ≡ true }
+    ensures earlier { IfSome result (λ index. index < spot.index) }
+{
     if !is_distinct(spot.key) {
         return None;
     }
@@ -32,7 +35,9 @@ pub fn same_as(document: &Table, spot: Spot) -> Option<usize> {
 }
 
 /// The first two pools, from 1, that share an address: of those that share one with an earlier pool the first, and that pool.
-pub fn shared_pools(document: &Table) -> Option<(usize, usize)> {
+pub fn shared_pools(document: &Table) -> Option<(usize, usize)>
+    ensures earlier { IfSome result (λ pools. pools.0 < pools.1) }
+{
     let items = items_of(document, Part::Pool)?;
     for (place, item) in items.iter().enumerate() {
         if let Some(earlier) = sharing(&items[..place], range_of(item)?) {
@@ -43,7 +48,9 @@ pub fn shared_pools(document: &Table) -> Option<(usize, usize)> {
 }
 
 // The place of the first pool that shares an address with a range.
-fn sharing(pools: &[Value], range: Range) -> Option<usize> {
+fn sharing(pools: &[Value], range: Range) -> Option<usize>
+    ensures within { IfSome result (λ place. place < length pools.now) }
+{
     pools.iter().position(|pool| range_of(pool).is_some_and(|other| share(range, other)))
 }
 
