@@ -14,23 +14,35 @@ use toml::de::Error;
 pub enum Detail {
     /// Nothing.
     Nothing,
-    /// The line and the column, from 1, at which a text is no document, and why.
-    Syntax(usize, usize, Error),
+    /// Where a text is no document, from line 1 and column 1, and why.
+    Syntax {
+        line: usize,
+        column: usize,
+        error: Error,
+    },
     /// The earlier entry of the part, from 1, that has the same name or network.
-    SameAs(Part, usize),
+    SameAs {
+        part: Part,
+        index: usize,
+    },
     /// The two pools, from 1, that share an address.
-    Pools(usize, usize),
+    Pools {
+        first: usize,
+        second: usize,
+    },
 }
 
 impl fmt::Display for Detail {
     fn fmt<W: fmt::Write>(&self, f: &mut fmt::Formatter<W>) -> fmt::Result {
         match self {
             Detail::Nothing => Ok(()),
-            Detail::Syntax(line, column, error) => {
-                write!(f, " at line {line}, column {column}: {}", error.message())
-            }
-            Detail::SameAs(part, index) => write!(f, ": the same as {part} {index}"),
-            Detail::Pools(one, other) => write!(f, ": pools {one} and {other}"),
+            Detail::Syntax {
+                line,
+                column,
+                error,
+            } => { write!(f, " at line {line}, column {column}: {}", error.message()) }
+            Detail::SameAs { part, index } => write!(f, ": the same as {part} {index}"),
+            Detail::Pools { first, second } => write!(f, ": pools {first} and {second}"),
         }
     }
 }
@@ -51,7 +63,11 @@ fn syntax(alloc: Global, text: &[u8]) -> Option<Detail>
 {
     let error = toml::table_from_slice(alloc, text).err()?;
     let before = text.get(..error.span()?.start)?;
-    Some(Detail::Syntax(line_after(before), column_after(before), error))
+    Some(Detail::Syntax {
+        line: line_after(before),
+        column: column_after(before),
+        error,
+    })
 }
 
 fn in_document(alloc: Global, text: &[u8], fault: ConfigFault) -> Option<Detail>
@@ -59,10 +75,13 @@ fn in_document(alloc: Global, text: &[u8], fault: ConfigFault) -> Option<Detail>
 {
     let document = toml::table_from_slice(alloc, text).ok()?;
     match fault {
-        ConfigFault::BadValue(spot) => Some(Detail::SameAs(spot.part, same_as(&document, spot)?)),
+        ConfigFault::BadValue(spot) => Some(Detail::SameAs {
+            part: spot.part,
+            index: same_as(&document, spot)?,
+        }),
         ConfigFault::PoolsOverlap => {
-            let (one, other) = shared_pools(&document)?;
-            Some(Detail::Pools(one, other))
+            let (first, second) = shared_pools(&document)?;
+            Some(Detail::Pools { first, second })
         }
         _ => None,
     }

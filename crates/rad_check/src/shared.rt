@@ -1,5 +1,5 @@
 //! Entries of a document that are the same, or share addresses.
-ghost use Rattle.std.specs.Prelude.{◌≡◌, ◌<◌, IfSome, IsSome, length, true};
+ghost use Rattle.std.specs.Prelude.{◌≡◌, ◌<◌, IfSome, IsSome, IsTrue, length};
 ghost use Rattle.rad_check.specs.Details.{is_distinct, share};
 
 use rad_config_fault::{Key, Part, Spot};
@@ -18,7 +18,7 @@ pub struct Range {
 
 /// The earlier entry, from 1, that has the same name or network as a spot has.
 pub fn same_as(document: &Table, spot: Spot) -> Option<usize>
-    ensures distinct { IsSome result → is_distinct spot.key ≡ true }
+    ensures distinct { IsSome result → IsTrue (is_distinct spot.key) }
     ensures earlier { IfSome result (λ index. index < spot.index) }
 {
     if !is_distinct(spot.key) {
