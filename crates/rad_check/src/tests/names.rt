@@ -102,6 +102,12 @@ fn unknown_names_are_told_with_what_may_be_meant(rt: HostRuntime) {
         ),
         (
             Part::Pool,
+            "fast",
+            false,
+            "unknown key 'fast' in pool 3: did you mean 'last'?",
+        ),
+        (
+            Part::Pool,
             "NAME",
             false,
             "unknown key 'NAME' in pool 3: did you mean 'name'?",
