@@ -1,7 +1,8 @@
 //! Turns: in each, what has come to ports is answered in a round, and its replies are sent.
 //!
 //! `Turns` are made one after another, each with one round of `rad_round`, and `run_rounds` makes them for one call. Nothing is
-//! decided here: answers are `rad_server`'s. The names of rounds and of the desk are passed on.
+//! decided here: answers are `rad_server`'s. A `Watch` sees each turn, and changes nothing. The names of rounds and of the desk are passed
+//! on.
 //!
 //! Other crates rest on this: however a call of turns ends, a history leads from the server before to the one after, and without a
 //! fault its sums count the entries (`specs/Serving.antt`).
@@ -14,6 +15,7 @@ mod serve_fault;
 mod served;
 mod serving;
 mod turns;
+mod watch;
 
 pub use memory_ports::{Datagram, MemoryPorts};
 pub use ports::{Got, PortFault, Ports, RECEIVED_MAX};
@@ -27,3 +29,4 @@ pub use serve_fault::ServeFault;
 pub use served::Served;
 pub use serving::run_rounds;
 pub use turns::Turns;
+pub use watch::{Turn, Unwatched, Watch};

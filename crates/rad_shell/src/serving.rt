@@ -7,6 +7,7 @@ use crate::ports::Ports;
 use crate::serve_fault::ServeFault;
 use crate::served::Served;
 use crate::turns::Turns;
+use crate::watch::Unwatched;
 use rad_round::{Gate, Service};
 use rand_core::Rng;
 use std::sync::Wait;
@@ -14,7 +15,7 @@ use std::thread::Threads;
 
 /// Answers the datagrams that come to ports, in so many turns, by at most so many workers, from 1 to `WORKERS_MAX`.
 ///
-/// It is `Turns::run` for a caller that makes no second call: the first turn takes the room for datagrams.
+/// It is `Turns::run` for a caller that makes no second call and watches none: the first turn takes the room for datagrams.
 pub fn run_rounds<R: Threads + Wait + Sync, P: Ports, D: Rng, G: Gate + Sync>(
     service: &mut Service,
     rt: &R,
@@ -29,5 +30,5 @@ pub fn run_rounds<R: Threads + Wait + Sync, P: Ports, D: Rng, G: Gate + Sync>(
     ensures fault { IfErr result (HasCause (P.failures ports.old) (P.failures ports.new)) }
     ensures counted { P.failures ports.old ≤ P.failures ports.new }
 {
-    Turns::without_room(random, gate).run(rt, service, ports, rounds, workers)
+    Turns::without_room(random, gate, Unwatched).run(rt, service, ports, rounds, workers)
 }

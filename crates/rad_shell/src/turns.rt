@@ -7,7 +7,8 @@ use crate::ports::Ports;
 use crate::received::Received;
 use crate::serve_fault::ServeFault;
 use crate::served::Served;
-use rad_round::{Done, Gate, Service};
+use crate::watch::{Turn, Watch};
+use rad_round::{Done, Gate, Service, Timed};
 use rad_server::{runs_are_lawful, runs_repeat};
 use rand_core::Rng;
 use std::alloc::{AllocError, Global};
@@ -17,36 +18,49 @@ use std::thread::Threads;
 /// The fewest datagrams of a turn whose round takes two workers less time than one. More than two workers never pay.
 const TWO_WORKERS_FROM: usize = 512;
 
-/// What turns have besides a service and its ports: the source of their draws, the gate of their rounds, and room for the datagrams of
-/// a turn, which each turn uses again.
+/// What turns have besides a service and its ports: the source of their draws, the gate of their rounds, who watches them, and room for
+/// the datagrams of a turn, which each turn uses again.
 #[derive(Drop)]
-pub struct Turns<'a, D, G> {
+pub struct Turns<'a, D, G, W> {
     random: &'a mut D,
     gate: &'a G,
+    watch: W,
     // None if its memory has been refused so far.
     room: Option<Received>,
 }
 
-impl<'a, D: Rng, G: Gate + Sync> Turns<'a, D, G> {
+impl<'a, D: Rng, G: Gate + Sync, W: Watch + Drop> Turns<'a, D, G, W> {
     /// Takes the room, so that no turn can be refused it.
     pub fn open(
         alloc: Global,
         random: &'a mut D,
         gate: &'a G,
-    ) -> Result<Turns<'a, D, G>, AllocError>
+        watch: W,
+    ) -> Result<Turns<'a, D, G, W>, AllocError>
         ensures { IfOk result (λ turns. IsSome turns.room) }
     {
         let room = Some(Received::new(alloc)?);
-        Ok(Turns { random, gate, room })
+        Ok(Turns {
+            random,
+            gate,
+            watch,
+            room,
+        })
     }
 
     /// Turns whose first one takes the room. A turn that is refused it is lost, and the next one tries again.
-    pub(crate) fn without_room(random: &'a mut D, gate: &'a G) -> Turns<'a, D, G> {
+    pub(crate) fn without_room(random: &'a mut D, gate: &'a G, watch: W) -> Turns<'a, D, G, W> {
         Turns {
             random,
             gate,
+            watch,
             room: None,
         }
+    }
+
+    /// Who watches.
+    pub fn watch(&mut self) -> &mut W {
+        &mut self.watch
     }
 
     /// Answers the datagrams that come to ports, in so many turns, by at most so many workers, from 1 to `WORKERS_MAX`.
@@ -100,23 +114,38 @@ impl<'a, D: Rng, G: Gate + Sync> Turns<'a, D, G> {
         if self.room.is_none() {
             self.room = Received::new(service.alloc()).ok();
         }
-        let Turns { random, gate, room } = self;
+        let Turns {
+            random,
+            gate,
+            watch,
+            room,
+        } = self;
         let Some(received) = room else {
             served.add_lost(0);
+            watch.lost(service, 0);
             ports.pause();
             return Ok(());
         };
         if received.receive(ports).is_err() {
             return Err(ServeFault::Receive);
         }
+        watch.received();
         received.draw(*random);
-        let Some(done) = answer(service, rt, received, *gate, workers) else {
+        let Some((arrivals, done)) = answer(service, rt, received, *gate, workers) else {
             served.add_lost(received.len());
+            watch.lost(service, received.len());
             ports.pause();
             return Ok(());
         };
         served.add_outcomes(&done.outcomes);
-        if received.reply(ports, &done.outcomes).is_err() {
+        let sent = received.reply(ports, &done.outcomes);
+        watch.made(&Turn {
+            service,
+            arrivals: &arrivals,
+            done: &done,
+            faults: ports.faults(),
+        });
+        if sent.is_err() {
             return Err(ServeFault::Send);
         }
         service.reuse(done);
@@ -124,24 +153,25 @@ impl<'a, D: Rng, G: Gate + Sync> Turns<'a, D, G> {
     }
 }
 
-// What a round of the received datagrams made; none if the round is lost.
+// The received datagrams, and what a round of them made; none if the round is lost.
 #[tactic(auto, using(crate::proofs::ServingLemmas::round_made))]
-fn answer<R: Threads + Wait + Sync, G: Gate + Sync>(
+fn answer<'t, R: Threads + Wait + Sync, G: Gate + Sync>(
     service: &mut Service,
     rt: &R,
-    received: &Received,
+    received: &'t Received,
     gate: &G,
     workers: u64,
-) -> Option<Done>
+) -> Option<(Vec<Timed<'t>>, Done)>
     requires workers { (1 ≤ workers) × (workers ≤ workers_max) }
     requires drawn { vec_len received.now.draws ≡ vec_len received.now.got }
-    ensures made { IfSome result (λ done.
-        IsRoundMade service.old done.outcomes.items service.new) }
+    ensures made { IfSome result (λ made.
+        IsRoundMade service.old made.1.outcomes.items service.new) }
     ensures lost { IfNone result (service.new ≡ service.old) }
 {
     let arrivals = received.arrivals(service.alloc()).ok()?;
     let workers = workers.min(workers_that_pay(arrivals.len()));
-    service.round(rt, &arrivals, workers, gate).ok()
+    let done = service.round(rt, &arrivals, workers, gate).ok()?;
+    Some((arrivals, done))
 }
 
 // How many workers take the least time for a round of so many datagrams.

@@ -7,6 +7,7 @@ mod rounds;
 mod serving;
 mod texts;
 mod turns;
+mod watching;
 
 use std::process::Abort;
 

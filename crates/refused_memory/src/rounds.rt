@@ -9,7 +9,7 @@ use rad_packet::code::{ACCESS_ACCEPT, ACCESS_REJECT};
 use rad_server::Server;
 use rad_shell::{
     Datagram, Done, MemoryPorts, OpenGate, Outcome, Ports, RECEIVED_MAX, RoundFault, Served,
-    Service, Timed, Turns, run_rounds,
+    Service, Timed, Turns, Unwatched, run_rounds,
 };
 use rand_chacha::ChaCha20Rng;
 use rand_core::SeedableRng;
@@ -331,7 +331,7 @@ fn judge_open_turns(alloc: Global) -> Verdict {
 
 fn are_turns_open(alloc: Global) -> bool {
     let mut random = ChaCha20Rng::from_seed([0; 32]);
-    Turns::open(alloc, &mut random, &OpenGate).is_ok()
+    Turns::open(alloc, &mut random, &OpenGate, Unwatched).is_ok()
 }
 
 /// All turns are made. What is refused memory is counted, and changes nothing: then the same turns, made once more, reply to each

@@ -4,6 +4,7 @@ use super::datagrams::Sent::Access;
 use super::datagrams::{CLIENT, NEMO, NEMO_ACCEPTED, SECOND_CLIENT, STRANGER, Sent, starts};
 use super::gates::InTurn;
 use super::holds;
+use super::watching::{Seen, UNSEEN};
 use rad_auth::Door;
 use rad_config::Config;
 use rad_shell::{
@@ -66,7 +67,7 @@ fn turns_with_room_go_on_from_one_another(rt: HostRuntime) {
     holds(
         &rt,
         is_right(&rt, rt.alloc(), Trial::Room),
-        "a challenge in each call",
+        "a challenge in each call, and a watcher that sees each turn",
     );
 }
 
@@ -191,23 +192,43 @@ fn is_replied<R: Threads + Wait + Sync>(
         && is_sum(serve(rt, service, ports, random, 1), 1, 1, 1, 0)
 }
 
-// The same by turns that have their room from the beginning.
+// The same by turns that have their room from the beginning, and a watcher.
 fn is_challenged_with_room<R: Threads + Wait + Sync>(
     rt: &R,
     alloc: Global,
     service: &mut Service,
 ) -> bool {
     let mut ports = MemoryPorts::new(alloc);
-    let mut random = random();
     let has_come = comes(alloc, &mut ports, 0, &Access(0, b"kay", b"pw"));
-    let Ok(mut turns) = Turns::open(alloc, &mut random, &OpenGate) else {
+    has_come && answers_twice(rt, alloc, service, &mut ports) && are_challenges(&ports, &[1, 2])
+}
+
+/// What a watcher sees of three turns, of which the first and the last answer one request.
+const SEEN_TWICE: Seen = Seen {
+    received: 3,
+    made: 3,
+    lost: 0,
+    arrivals: 2,
+    replies: 2,
+    entries: 2,
+    clock: 30_000,
+    faults: 0,
+};
+
+fn answers_twice<R: Threads + Wait + Sync>(
+    rt: &R,
+    alloc: Global,
+    service: &mut Service,
+    ports: &mut MemoryPorts,
+) -> bool {
+    let mut random = random();
+    let Ok(mut turns) = Turns::open(alloc, &mut random, &OpenGate, UNSEEN) else {
         return false;
     };
-    has_come
-        && is_sum(turns.run(rt, service, &mut ports, 2, 1), 2, 1, 1, 0)
-        && comes(alloc, &mut ports, 30_000, &Access(0, b"kay", b"pw"))
-        && is_sum(turns.run(rt, service, &mut ports, 1, 8), 1, 1, 1, 0)
-        && are_challenges(&ports, &[1, 2])
+    is_sum(turns.run(rt, service, ports, 2, 1), 2, 1, 1, 0)
+        && comes(alloc, ports, 30_000, &Access(0, b"kay", b"pw"))
+        && is_sum(turns.run(rt, service, ports, 1, 8), 1, 1, 1, 0)
+        && *turns.watch() == SEEN_TWICE
 }
 
 // Whether three requests of kay in one turn get a challenge each.
