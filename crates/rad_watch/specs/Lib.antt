@@ -1,0 +1,3 @@
+pub mod Expiry
+pub mod Limits
+pub mod Shown

@@ -1,0 +1,30 @@
+//! What an operator sees of turns: lines of a log, sums, and who is on.
+//!
+//! A `Watcher` counts each turn, and writes a line for each event of it that its level tells. Texts are made here, and only here; who
+//! calls has the clock, and puts them out. Nothing of this can change what is answered.
+//!
+//! What is written no contract of a public call can say. It rests on private functions with exact contracts: octets that others chose
+//! stand between quotes as `specs/Shown.antt` says, so none of them can end a name or a line; and of each count of lines the first
+//! `LINES_MAX` of a second are told (`specs/Limits.antt`).
+#![tactic(auto)]
+
+mod event;
+mod expiry;
+mod histogram;
+mod kind;
+mod limiter;
+mod line;
+mod metrics;
+mod now;
+mod roster;
+mod shown;
+mod sums;
+mod tally;
+mod transcript;
+mod watcher;
+
+pub use kind::Level;
+pub use limiter::LINES_MAX;
+pub use now::Now;
+pub use transcript::record;
+pub use watcher::Watcher;

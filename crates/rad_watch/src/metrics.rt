@@ -1,0 +1,220 @@
+//! The sums and the state in Prometheus' text format.
+
+use crate::line::push_octets;
+use crate::now::Seconds;
+use crate::shown::push_label;
+use crate::sums::{DENIALS, DISCARDS, REPLIES, Sums};
+use crate::tally::Tally;
+use rad_config::{Config, Pool};
+use rad_pool::SESSIONS_MAX;
+use rad_recent::{CHALLENGES_MAX, KEPT_MAX};
+use std::io;
+use std::io::Write;
+
+/// A row of a table of metrics: its name, what it is, and its value.
+type Row = (&'static str, &'static str, u64);
+
+/// Appends all metrics. The uptime is in milliseconds; `unwritten` is how many texts could not be written.
+pub(crate) fn write_metrics(
+    text: &mut Vec<u8>,
+    sums: &Sums,
+    tally: &Tally,
+    config: &Config,
+    uptime: u64,
+    unwritten: u64,
+) -> io::Result<()> {
+    write_rows(text, "counter", &sum_rows(sums, unwritten))?;
+    write_replies(text, sums)?;
+    write_rejects(text, sums)?;
+    write_discards(text, sums)?;
+    write_sessions(text, tally)?;
+    write_rows(text, "gauge", &state_rows(tally))?;
+    write_sizes(text, config)?;
+    write_uses(text, config, tally)?;
+    write_turns(text, sums)?;
+    let name = "radpool_uptime_seconds";
+    let uptime = Seconds::of_thousandths(uptime);
+    write_head(text, name, "gauge", "Seconds since the start.")?;
+    writeln!(text, "{name} {uptime}")
+}
+
+fn sum_rows(sums: &Sums, unwritten: u64) -> [Row; 7] {
+    [
+        (
+            "radpool_datagrams_total",
+            "Datagrams received.",
+            sums.datagrams,
+        ),
+        (
+            "radpool_busy_total",
+            "Requests without a reply, since no more replies can be kept.",
+            sums.busy,
+        ),
+        (
+            "radpool_nomemory_total",
+            "Requests without a reply, since memory was refused.",
+            sums.nomemory,
+        ),
+        (
+            "radpool_lost_turns_total",
+            "Turns lost with all their datagrams, since memory was refused.",
+            sums.lost,
+        ),
+        (
+            "radpool_socket_failures_total",
+            "Calls on sockets that failed.",
+            sums.failures,
+        ),
+        (
+            "radpool_log_lines_left_out_total",
+            "Lines that the log left out.",
+            sums.left_out,
+        ),
+        (
+            "radpool_unwritten_total",
+            "Texts that could not be written to standard error or to a file.",
+            unwritten,
+        ),
+    ]
+}
+
+fn state_rows(tally: &Tally) -> [Row; 5] {
+    [
+        (
+            "radpool_sessions_limit",
+            "The most sessions, ended ones included.",
+            SESSIONS_MAX as u64,
+        ),
+        ("radpool_kept_replies", "Kept replies.", tally.replies),
+        (
+            "radpool_kept_replies_limit",
+            "The most kept replies.",
+            KEPT_MAX as u64,
+        ),
+        (
+            "radpool_challenges",
+            "Challenges that wait for an answer.",
+            tally.challenges,
+        ),
+        (
+            "radpool_challenges_limit",
+            "The most challenges.",
+            CHALLENGES_MAX as u64,
+        ),
+    ]
+}
+
+// Metrics of one type, each with one value.
+fn write_rows(text: &mut Vec<u8>, kind: &str, rows: &[Row]) -> io::Result<()> {
+    for (name, help, value) in rows.iter() {
+        write_head(text, name, kind, help)?;
+        writeln!(text, "{name} {value}")?;
+    }
+    Ok(())
+}
+
+fn write_replies(text: &mut Vec<u8>, sums: &Sums) -> io::Result<()> {
+    let name = "radpool_replies_total";
+    write_head(text, name, "counter", "Replies made.")?;
+    for (reply, sum) in REPLIES.iter().zip(&sums.replies) {
+        write_sample(text, name, "code", reply.1, *sum)?;
+    }
+    Ok(())
+}
+
+fn write_rejects(text: &mut Vec<u8>, sums: &Sums) -> io::Result<()> {
+    let name = "radpool_rejects_total";
+    write_head(
+        text,
+        name,
+        "counter",
+        "Access-Rejects made, by their Reply-Message.",
+    )?;
+    for (denial, sum) in DENIALS.iter().zip(&sums.rejects) {
+        write_sample(text, name, "text", denial.text(), *sum)?;
+    }
+    Ok(())
+}
+
+fn write_discards(text: &mut Vec<u8>, sums: &Sums) -> io::Result<()> {
+    let name = "radpool_discards_total";
+    write_head(text, name, "counter", "Datagrams silently discarded.")?;
+    for (discard, sum) in DISCARDS.iter().zip(&sums.discards) {
+        write_sample(text, name, "reason", discard.label().1, *sum)?;
+    }
+    Ok(())
+}
+
+fn write_sessions(text: &mut Vec<u8>, tally: &Tally) -> io::Result<()> {
+    let name = "radpool_sessions";
+    write_head(text, name, "gauge", "Sessions.")?;
+    write_sample(text, name, "phase", "pending", tally.pending)?;
+    write_sample(text, name, "phase", "active", tally.active)?;
+    write_sample(text, name, "phase", "ended", tally.ended)
+}
+
+fn write_sizes(text: &mut Vec<u8>, config: &Config) -> io::Result<()> {
+    let name = "radpool_pool_addresses";
+    write_head(text, name, "gauge", "Addresses of a pool.")?;
+    for pool in config.pools().iter() {
+        let size = pool.last.saturating_sub(pool.first).saturating_add(1);
+        write_pool_sample(text, name, pool, u64::from(size))?;
+    }
+    Ok(())
+}
+
+fn write_uses(text: &mut Vec<u8>, config: &Config, tally: &Tally) -> io::Result<()> {
+    let name = "radpool_pool_addresses_used";
+    write_head(
+        text,
+        name,
+        "gauge",
+        "Addresses of a pool that a session has.",
+    )?;
+    for (pool, used) in config.pools().iter().zip(&tally.used) {
+        write_pool_sample(text, name, pool, *used)?;
+    }
+    Ok(())
+}
+
+fn write_turns(text: &mut Vec<u8>, sums: &Sums) -> io::Result<()> {
+    let name = "radpool_turn_datagrams";
+    write_head(
+        text,
+        name,
+        "histogram",
+        "Datagrams of each turn that had any.",
+    )?;
+    sums.sizes.write(text, name, sums.sizes.sum())?;
+    let name = "radpool_turn_seconds";
+    write_head(
+        text,
+        name,
+        "histogram",
+        "How long each of these turns took.",
+    )?;
+    sums.times
+        .write(text, name, Seconds::of_millionths(sums.times.sum()))
+}
+
+fn write_head(text: &mut Vec<u8>, name: &str, kind: &str, help: &str) -> io::Result<()> {
+    writeln!(text, "# HELP {name} {help}")?;
+    writeln!(text, "# TYPE {name} {kind}")
+}
+
+fn write_sample(
+    text: &mut Vec<u8>,
+    name: &str,
+    key: &str,
+    label: &str,
+    value: u64,
+) -> io::Result<()> {
+    writeln!(text, "{name}{{{key}=\"{label}\"}} {value}")
+}
+
+fn write_pool_sample(text: &mut Vec<u8>, name: &str, pool: &Pool, value: u64) -> io::Result<()> {
+    write!(text, "{name}{{pool=\"")?;
+    push_label(text, pool.name.octets())?;
+    push_octets(text, b"\"} ")?;
+    writeln!(text, "{value}")
+}

@@ -1,0 +1,5 @@
+//! Tests of `rad_watch`.
+#![tactic(auto)]
+
+#[cfg(test)]
+mod tests;
