@@ -1,8 +1,7 @@
 //! The files of `serve`.
 
 use crate::serve_error::ServeError;
-use rad_config::Config;
-use rad_replay::{RunFault, read_configuration, read_text};
+use rad_replay::{RunFault, read_text};
 use std::alloc::AllocGlobal;
 use std::fs;
 use std::io::Read;
@@ -24,15 +23,6 @@ pub fn open_text<R: Files + AllocGlobal>(rt: &R, path: &str) -> Result<Vec<u8>, 
         Err(RunFault::NoMemory) => Err(ServeError::NoMemory),
         Err(_) => Err(ServeError::ConfigUnreadable),
     }
-}
-
-/// The configuration that a file says; otherwise why it has no text, or the first fault of its text.
-pub(crate) fn open_configuration<R: Files + AllocGlobal>(
-    rt: &R,
-    path: &str,
-) -> Result<Config, ServeError> {
-    let text = open_text(rt, path)?;
-    Ok(read_configuration(rt.alloc(), &text)?)
 }
 
 /// The seed that a file has.

@@ -2,7 +2,8 @@
 //!
 //! `UdpPorts` are the only sockets of this repository, and decide nothing: what is answered is `rad_shell`'s `Turns`. What a
 //! failed call on a socket means is a table for those that receive and one for those that send. `serve` reads its two files, takes its
-//! memory, binds the ports and makes the turns.
+//! memory, binds the ports and makes the turns. Where an operator is to be told of them, a `Reporter` watches the turns, and
+//! two threads write what it hands over, so that no file or terminal can hold up a reply.
 //!
 //! No contract can say what a socket, a clock or a file gives.
 #![tactic(auto)]
@@ -10,14 +11,19 @@
 mod failure;
 mod input;
 mod options;
+mod progress;
 mod receive_buffer;
+mod recording;
+mod reporter;
 mod serve_error;
 mod serving;
 mod udp_ports;
+mod writer;
 
 pub use failure::{Failure, receive_failure, send_failure};
 pub use input::open_text;
-pub use options::{Options, Workers};
+pub use options::{Options, Reports, Workers};
+pub use rad_watch::Level;
 pub use serve_error::ServeError;
 pub use serving::serve;
 pub use udp_ports::{BindFault, UdpPorts};

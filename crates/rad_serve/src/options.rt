@@ -3,6 +3,7 @@ ghost use Rattle.std.specs.Prelude.{◌≡◌, ◌≤◌, IfSome};
 ghost use Rattle.rad_shell.specs.Rounds.{workers_max};
 
 use rad_shell::WORKERS_MAX;
+use rad_watch::Level;
 use std::marker::Model;
 
 /// What is to be served, and how.
@@ -21,6 +22,33 @@ pub struct Options {
     pub workers: Workers,
     /// The turns to make; without it serving goes on.
     pub rounds: Option<u32>,
+    pub reports: Reports,
+}
+
+/// What an operator is told while turns are made.
+#[derive(Drop)]
+pub struct Reports {
+    /// The lines on standard error, if there are to be any.
+    pub log: Option<Level>,
+    /// The path of the file of the metrics, if there is to be one.
+    pub metrics: Option<String>,
+    /// The path of the file of the sessions, if there is to be one.
+    pub sessions: Option<String>,
+    /// The path of the recording, if there is to be one.
+    pub record: Option<String>,
+}
+
+impl Reports {
+    /// Whether nothing is told.
+    pub(crate) fn are_none(&self) -> bool {
+        let Reports {
+            log,
+            metrics,
+            sessions,
+            record,
+        } = self;
+        log.is_none() && metrics.is_none() && sessions.is_none() && record.is_none()
+    }
 }
 
 /// How many threads answer a round at most, from 1 to `WORKERS_MAX`. Contracts see the number.

@@ -1,77 +1,209 @@
 //! The command `serve`.
 
-use crate::input::{open_configuration, open_seed};
+use crate::input::{open_seed, open_text};
 use crate::options::Options;
+use crate::progress::Progress;
+use crate::reporter::{Reporter, now};
 use crate::serve_error::ServeError;
 use crate::udp_ports::UdpPorts;
+use crate::writer::{Writing, write_files, write_lines};
+use crossbeam_channel::bounded;
 use rad_auth::Door;
+use rad_check::{warn, warn_of_file};
 use rad_config::Config;
-use rad_shell::{Gate, OpenGate, Ports, Served, Service, Turns};
+use rad_replay::{divide, read_configuration};
+use rad_shell::{Gate, OpenGate, Ports, Served, Service, Turns, Unwatched, Watch};
+use rad_watch::Watcher;
 use rand_chacha::ChaCha20Rng;
 use rand_core::{Rng, SeedableRng};
 use std::alloc::AllocGlobal;
 use std::net::{Ipv4Addr, Net};
 use std::rt::Files;
 use std::sync::Wait;
+use std::thread;
 use std::thread::Threads;
 use std::time::Clock;
+
+/// How many texts may wait for a thread that writes them.
+const TEXTS_MAX: usize = 4;
 
 /// Answers what comes to two UDP ports, in so many turns or on and on, and prints what they came to.
 ///
 /// It prints a line when it listens, and another at the end. Nobody has to read them: a line that can't be written is left out. All
 /// memory that turns can't do without is taken before the ports are bound.
-pub fn serve<R: Files + Net + Clock + Print + Threads + Wait + Sync + AllocGlobal>(
+pub fn serve<R: Files + Net + Clock + Print + Eprint + Threads + Wait + Sync + AllocGlobal>(
     rt: &R,
     options: &Options,
 ) -> Result<(), ServeError> {
-    let config = open_configuration(rt, &options.config)?;
-    serve_users(rt, options, &config)
+    let text = open_text(rt, &options.config)?;
+    let config = read_configuration(rt.alloc(), &text)?;
+    if options.reports.log.is_some() {
+        warn(rt, &options.config, &text, &config);
+        warn_of_file(rt, &options.seed);
+    }
+    serve_users(rt, options, &config, text)
 }
 
 // What is alive at a `?` is dropped there, and each such drop is proved. So here, and below, a function makes one big value and
 // lends it to the next.
-fn serve_users<R: Files + Net + Clock + Print + Threads + Wait + Sync + AllocGlobal>(
+fn serve_users<R: Files + Net + Clock + Print + Eprint + Threads + Wait + Sync + AllocGlobal>(
     rt: &R,
     options: &Options,
     config: &Config,
+    text: Vec<u8>,
 ) -> Result<(), ServeError> {
+    let head = head_of(rt, options, text)?;
     let seed = open_seed(rt, &options.seed)?;
     let mut service = Service::open(rt.alloc(), config)?;
-    serve_with_draws(rt, options, &mut service, seed)
+    if options.reports.are_none() {
+        return serve_unwatched(rt, options, &mut service, seed);
+    }
+    serve_reporting(rt, options, &mut service, seed, head)
 }
 
-fn serve_with_draws<R: Net + Clock + Print + Threads + Wait + Sync + AllocGlobal>(
+// With what a recording begins, if there is to be one: the text of the configuration, and the line that ends it. A text that has such
+// a line can't be told from what follows it.
+fn head_of<R: Eprint>(
+    rt: &R,
+    options: &Options,
+    text: Vec<u8>,
+) -> Result<Option<Vec<u8>>, ServeError> {
+    let Some(path) = &options.reports.record else {
+        return Ok(None);
+    };
+    if divide(&text).is_some() {
+        let _ = eprintln!(rt;
+            "radpool: warning: {path} stays unwritten: the configuration has a line ---"
+        );
+        return Ok(None);
+    }
+    let mut head = text;
+    head.extend_from_slice(b"\n---\n")?;
+    Ok(Some(head))
+}
+
+fn serve_unwatched<R: Net + Clock + Print + Threads + Wait + Sync + AllocGlobal>(
     rt: &R,
     options: &Options,
     service: &mut Service,
     seed: [u8; 32],
 ) -> Result<(), ServeError> {
     let mut random = ChaCha20Rng::from_seed(seed);
-    let mut turns = Turns::open(rt.alloc(), &mut random, &OpenGate)?;
-    serve_at_ports(rt, options, service, &mut turns)
+    let mut turns = Turns::open(rt.alloc(), &mut random, &OpenGate, Unwatched)?;
+    let mut ports = listen(rt, options)?;
+    serve_turns(rt, options, service, &mut turns, &mut ports)
 }
 
-fn serve_at_ports<
-    R: Net + Clock + Print + Threads + Wait + Sync + AllocGlobal,
-    D: Rng,
-    G: Gate + Sync,
->(
+fn serve_reporting<R: Files + Net + Clock + Print + Eprint + Threads + Wait + Sync + AllocGlobal>(
     rt: &R,
     options: &Options,
     service: &mut Service,
-    turns: &mut Turns<D, G>,
+    seed: [u8; 32],
+    head: Option<Vec<u8>>,
 ) -> Result<(), ServeError> {
-    let mut ports = UdpPorts::bind(rt, options.address, options.auth, options.acct)?;
+    let reports = &options.reports;
+    let watcher = Watcher::open(rt.alloc(), service.server().config(), reports.log, now(rt))?;
+    let (lines, lines_end) = bounded(rt.alloc(), TEXTS_MAX)?;
+    let (files, files_end) = bounded(rt.alloc(), TEXTS_MAX)?;
+    let progress = Progress::new();
+    let reporter = Reporter::new(rt, watcher, (lines, files), &progress, reports, head);
+    let writing = Writing {
+        lines: lines_end,
+        files: files_end,
+        reports,
+        progress: &progress,
+    };
+    serve_reported(rt, options, service, seed, reporter, writing)
+}
+
+fn serve_reported<R: Files + Net + Clock + Print + Eprint + Threads + Wait + Sync + AllocGlobal>(
+    rt: &R,
+    options: &Options,
+    service: &mut Service,
+    seed: [u8; 32],
+    reporter: Reporter<R>,
+    writing: Writing,
+) -> Result<(), ServeError> {
+    let mut random = ChaCha20Rng::from_seed(seed);
+    let turns = Turns::open(rt.alloc(), &mut random, &OpenGate, reporter)?;
+    let ports = listen(rt, options)?;
+    let serving = Serving {
+        options,
+        service,
+        turns,
+        ports,
+    };
+    serve_beside(rt, rt, serving, writing)
+}
+
+// What serves, on a thread of its own. At its end the reporter is dropped, which ends those who write.
+#[derive(Drop)]
+struct Serving<'s, 'c, R> {
+    options: &'s Options,
+    service: &'s mut Service<'c>,
+    turns: Turns<'s, ChaCha20Rng, OpenGate, Reporter<'s, R>>,
+    ports: UdpPorts<'s, R>,
+}
+
+impl<'s, 'c, R: Clock + Print + Threads + Wait + Sync + AllocGlobal> Serving<'s, 'c, R> {
+    fn run(self, rt: &R) -> Result<(), ServeError> {
+        let Serving {
+            options,
+            service,
+            mut turns,
+            mut ports,
+        } = self;
+        let served = serve_turns(rt, options, service, &mut turns, &mut ports);
+        turns.watch().finish(service.server());
+        served
+    }
+}
+
+// Serves on one thread, writes lines on another, and files on this one: only here there is a handle for files.
+fn serve_beside<
+    R: Clock + Print + Eprint + Threads + Wait + Sync + AllocGlobal,
+    F: Files + Eprint + Wait + AllocGlobal,
+>(rt: &R, system: &F, serving: Serving<R>, writing: Writing) -> Result<(), ServeError> {
+    let Writing {
+        lines,
+        files,
+        reports,
+        progress,
+    } = writing;
+    thread::scope(thread::scope_env(), rt, |scope| {
+        let printing = scope.spawn(move || write_lines(rt, &lines, progress));
+        if printing.is_err() {
+            let _ = eprintln!(system; "radpool: warning: no thread for the log");
+        }
+        match scope.spawn(move || serving.run(rt)) {
+            Ok(server) => {
+                write_files(system, &files, reports, progress);
+                server.join(rt)
+            }
+            Err(error) => {
+                let _ = eprintln!(system; "radpool: warning: no thread for the files");
+                (error.value)()
+            }
+        }
+    })
+}
+
+// Binds the ports, and prints that it listens.
+fn listen<'r, R: Net + Clock + Print + AllocGlobal>(
+    rt: &'r R,
+    options: &Options,
+) -> Result<UdpPorts<'r, R>, ServeError> {
+    let ports = UdpPorts::bind(rt, options.address, options.auth, options.acct)?;
     print_listening(rt, options, &ports);
-    serve_turns(rt, options, service, turns, &mut ports)
+    Ok(ports)
 }
 
 // Calls of so many turns follow one another, on the same service; if the number of turns is given, the first call makes them all.
-fn serve_turns<R: Print + Threads + Wait + Sync, P: Ports, D: Rng, G: Gate + Sync>(
+fn serve_turns<R: Print + Threads + Wait + Sync, P: Ports, D: Rng, G: Gate + Sync, W: Watch + Drop>(
     rt: &R,
     options: &Options,
     service: &mut Service,
-    turns: &mut Turns<D, G>,
+    turns: &mut Turns<D, G, W>,
     ports: &mut P,
 ) -> Result<(), ServeError> {
     let rounds = options.rounds.unwrap_or(u32::MAX);

@@ -5,7 +5,7 @@ use crate::options::{Absent, PORT, TEXT, Valued, with_options};
 use clap::builder::ValueParser;
 use clap::error::ErrorKind;
 use clap::{ArgMatches, Command};
-use rad_serve::{Options, Workers};
+use rad_serve::{Level, Options, Reports, Workers};
 use rad_text::decimal;
 use std::alloc::{AllocError, AllocGlobal, Global};
 use std::net::Net;
@@ -78,7 +78,46 @@ const SERVE_OPTIONS: &[Valued] = &[
         absent: Absent::Nothing,
         parser: ValueParser::Unsigned(1, 4_294_967_295),
     },
+    Valued {
+        name: "log",
+        value: "LEVEL",
+        help: "Lines on standard error: of what is refused, or of all [default: none]",
+        absent: Absent::Nothing,
+        parser: ValueParser::Names(LEVELS),
+    },
+    Valued {
+        name: "metrics",
+        value: "PATH",
+        help: "A file that gets the metrics every 10 seconds, in Prometheus' text format [default: none]",
+        absent: Absent::Nothing,
+        parser: TEXT,
+    },
+    Valued {
+        name: "sessions",
+        value: "PATH",
+        help: "A file that gets the sessions every 10 seconds, as a table [default: none]",
+        absent: Absent::Nothing,
+        parser: TEXT,
+    },
+    Valued {
+        name: "record",
+        value: "PATH",
+        help: "A new file that gets the datagrams, as a transcript for 'replay' [default: none]",
+        absent: Absent::Nothing,
+        parser: TEXT,
+    },
 ];
+
+/// The names of the levels of a log.
+const LEVELS: &[&str] = &["refused", "all"];
+
+fn level_named(name: &str) -> Option<Level> {
+    match name {
+        "refused" => Some(Level::Refused),
+        "all" => Some(Level::All),
+        _ => None,
+    }
+}
 
 /// The options of `serve`, as they are given.
 #[derive(Clone, Copy)]
@@ -90,6 +129,10 @@ pub struct Serve<'a> {
     acct: u16,
     workers: u64,
     rounds: Option<u32>,
+    log: Option<&'a str>,
+    metrics: Option<&'a str>,
+    sessions: Option<&'a str>,
+    record: Option<&'a str>,
 }
 
 impl<'a> Serve<'a> {
@@ -103,6 +146,10 @@ impl<'a> Serve<'a> {
             acct: found.get_one::<u16>("acct")?,
             workers: found.get_one::<u64>("workers")?,
             rounds: found.get_one::<u32>("rounds"),
+            log: found.get_str("log"),
+            metrics: found.get_str("metrics"),
+            sessions: found.get_str("sessions"),
+            record: found.get_str("record"),
         })
     }
 
@@ -123,7 +170,24 @@ impl<'a> Serve<'a> {
             acct: self.acct,
             workers,
             rounds: self.rounds,
+            reports: self.reports(alloc)?,
         })
+    }
+
+    fn reports(&self, alloc: Global) -> Result<Reports, AllocError> {
+        Ok(Reports {
+            log: self.log.and_then(level_named),
+            metrics: text_of(alloc, self.metrics)?,
+            sessions: text_of(alloc, self.sessions)?,
+            record: text_of(alloc, self.record)?,
+        })
+    }
+}
+
+fn text_of(alloc: Global, text: Option<&str>) -> Result<Option<String>, AllocError> {
+    match text {
+        Some(text) => Ok(Some(text.to_string(alloc)?)),
+        None => Ok(None),
     }
 }
 

@@ -1,7 +1,7 @@
 use super::client::CONFIGURATION;
 use super::{LOOPBACK, holds};
 use rad_config::ConfigFault;
-use rad_serve::{Options, ServeError, UdpPorts, Workers, serve};
+use rad_serve::{Options, Reports, ServeError, UdpPorts, Workers, serve};
 use rad_shell::ServeFault;
 use std::alloc::{AllocGlobal, Global};
 use std::net::Net;
@@ -43,11 +43,20 @@ fn options(alloc: Global, config: &str, seed: &str, auth: u16) -> Option<Options
         acct: auth.saturating_add(1),
         workers: Workers::new(1)?,
         rounds: Some(1),
+        reports: UNREPORTED,
     })
 }
 
+/// Nothing is told.
+const UNREPORTED: Reports = Reports {
+    log: None,
+    metrics: None,
+    sessions: None,
+    record: None,
+};
+
 // How one turn of serving ends with these files, on these ports.
-fn served<R: Files + Net + Clock + Print + Threads + Wait + Sync + AllocGlobal>(
+fn served<R: Files + Net + Clock + Print + Eprint + Threads + Wait + Sync + AllocGlobal>(
     rt: &R,
     config: &str,
     seed: &str,
@@ -94,7 +103,7 @@ fn remove_files<R: Files>(rt: &R) -> io::Result<()> {
     fs::remove_file(rt, LONG_SEED)
 }
 
-fn ends_so<R: Files + Net + Clock + Print + Threads + Wait + Sync + AllocGlobal>(
+fn ends_so<R: Files + Net + Clock + Print + Eprint + Threads + Wait + Sync + AllocGlobal>(
     rt: &R,
     row: &Row,
 ) -> bool {

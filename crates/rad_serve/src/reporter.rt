@@ -1,0 +1,213 @@
+//! The watcher of a server's turns, which hands texts over to the threads that write.
+
+use crate::options::Reports;
+use crate::progress::Progress;
+use crate::writer::Text;
+use crossbeam_channel::Sender;
+use rad_server::Server;
+use rad_shell::{Service, Turn, Watch};
+use rad_watch::{Now, Watcher, record};
+use std::alloc::AllocGlobal;
+use std::mem;
+use std::sync::Wait;
+use std::time::{Clock, Duration};
+
+/// How long it is from one writing of the files to the next, in milliseconds.
+const FILES_EVERY: u64 = 10_000;
+
+/// How long it is from one look for expired sessions to the next, in milliseconds.
+const LOOK_EVERY: u64 = 1_000;
+
+/// How many octets of a recording may wait, before one more turn.
+const RECORD_ROOM: usize = 4_194_304;
+
+/// What becomes of a recording.
+#[derive(Clone, Copy, PartialEq, Eq)]
+enum Record {
+    /// There is none, or its end was handed over.
+    Closed,
+    /// It goes on.
+    Open,
+    /// Something of it was left out, and its end is still to be handed over.
+    Broken,
+}
+
+/// Watches turns, and hands over what is to be written. It never waits: where a thread can't follow, lines and the recording stay here
+/// until it can, as far as there is room, and a file is left out.
+#[derive(Drop)]
+pub(crate) struct Reporter<'r, R> {
+    rt: &'r R,
+    watcher: Watcher,
+    lines: Sender<Vec<u8>>,
+    files: Sender<Text>,
+    progress: &'r Progress,
+    has_metrics: bool,
+    has_sessions: bool,
+    record: Record,
+    // What of the recording wasn't handed over yet.
+    recorded: Vec<u8>,
+    // When the present turn had its datagrams, in microseconds.
+    begun: u64,
+    // When the files are due, and the next look, in milliseconds.
+    files_due: u64,
+    look_due: u64,
+}
+
+impl<'r, R: Clock + Wait + AllocGlobal> Reporter<'r, R> {
+    /// A reporter of these reports, whose recording begins with the head, if there is one.
+    pub fn new(
+        rt: &'r R,
+        watcher: Watcher,
+        (lines, files): (Sender<Vec<u8>>, Sender<Text>),
+        progress: &'r Progress,
+        reports: &Reports,
+        head: Option<Vec<u8>>,
+    ) -> Reporter<'r, R> {
+        let record = if head.is_some() {
+            Record::Open
+        } else {
+            Record::Closed
+        };
+        Reporter {
+            rt,
+            watcher,
+            lines,
+            files,
+            progress,
+            has_metrics: reports.metrics.is_some(),
+            has_sessions: reports.sessions.is_some(),
+            record,
+            recorded: head.unwrap_or(Vec::new(rt.alloc())),
+            begun: 0,
+            files_due: 0,
+            look_due: 0,
+        }
+    }
+
+    /// Hands over all that is left, and the files once more. It may wait for the threads that write.
+    pub fn finish(&mut self, server: &Server) {
+        let now = now(self.rt);
+        self.watcher.finish(now);
+        if let Some(lines) = self.watcher.take_lines() {
+            let _ = self.lines.send(self.rt, lines);
+        }
+        if self.record == Record::Open {
+            let text = mem::replace(&mut self.recorded, Vec::new(self.rt.alloc()));
+            let _ = self.files.send(self.rt, Text::Record(text));
+        }
+        self.hand_over_files(server, now);
+    }
+
+    fn hand_over(&mut self, server: &Server, now: Now) {
+        if now.moment >= self.look_due {
+            self.look_due = now.moment.saturating_add(LOOK_EVERY);
+            self.watcher.look(server, now);
+        }
+        if now.moment >= self.files_due {
+            self.files_due = now.moment.saturating_add(FILES_EVERY);
+            self.hand_over_files(server, now);
+        }
+        self.hand_over_lines();
+    }
+
+    fn hand_over_lines(&mut self) {
+        if self.lines.is_full() {
+            return;
+        }
+        if let Some(lines) = self.watcher.take_lines() {
+            if self.lines.try_send(self.rt, lines).is_err() {
+                self.progress.count_unwritten();
+            }
+        }
+    }
+
+    fn hand_over_files(&mut self, server: &Server, now: Now) {
+        if self.has_metrics {
+            let unwritten = self.progress.unwritten();
+            let metrics = self.watcher.metrics(server, now, unwritten);
+            self.hand_over_file(metrics.map(Text::Metrics));
+        }
+        if self.has_sessions {
+            let sessions = self.watcher.roster(server, now);
+            self.hand_over_file(sessions.map(Text::Sessions));
+        }
+    }
+
+    // Hands over a text, or counts one for which there is no memory or no room.
+    fn hand_over_file(&mut self, text: Option<Text>) {
+        let is_handed_over = match text {
+            Some(text) => self.files.try_send(self.rt, text).is_ok(),
+            None => false,
+        };
+        if !is_handed_over {
+            self.progress.count_unwritten();
+        }
+    }
+
+    // Adds a turn to the recording, and hands over what there is of it.
+    fn record_turn(&mut self, turn: &Turn) {
+        match self.record {
+            Record::Closed => {}
+            Record::Open if !self.progress.is_recording() => self.record = Record::Closed,
+            Record::Open => self.record_more(turn),
+            Record::Broken => {
+                if self.files.try_send(self.rt, Text::RecordEnd).is_ok() {
+                    self.record = Record::Closed;
+                }
+            }
+        }
+    }
+
+    fn record_more(&mut self, turn: &Turn) {
+        if self.recorded.len() > RECORD_ROOM || !record(&mut self.recorded, turn) {
+            self.record = Record::Broken;
+            return;
+        }
+        if self.recorded.is_empty() || self.files.is_full() {
+            return;
+        }
+        let text = mem::replace(&mut self.recorded, Vec::new(self.rt.alloc()));
+        if self.files.try_send(self.rt, Text::Record(text)).is_err() {
+            self.record = Record::Broken;
+        }
+    }
+}
+
+impl<'r, R: Clock + Wait + AllocGlobal> Watch for Reporter<'r, R> {
+    fn received(&mut self) {
+        self.begun = micros(self.rt);
+    }
+
+    fn made(&mut self, turn: &Turn) {
+        let took = micros(self.rt).saturating_sub(self.begun);
+        let now = now(self.rt);
+        self.watcher.made(turn, took, now);
+        self.record_turn(turn);
+        self.hand_over(turn.service.server(), now);
+    }
+
+    fn lost(&mut self, service: &Service, datagrams: usize) {
+        let now = now(self.rt);
+        self.watcher.lost(datagrams, now);
+        self.hand_over(service.server(), now);
+    }
+}
+
+/// The time by both clocks of the system; a clock that fails gives 0.
+pub(crate) fn now<C: Clock>(clock: &C) -> Now {
+    Now {
+        since_1970: clock.since_1970().map_or(0, millis),
+        moment: clock.monotonic().map_or(0, millis),
+    }
+}
+
+fn millis(time: Duration) -> u64 {
+    u64::try_from(time.as_millis()).unwrap_or(u64::MAX)
+}
+
+fn micros<C: Clock>(clock: &C) -> u64 {
+    match clock.monotonic() {
+        Ok(time) => u64::try_from(time.as_micros()).unwrap_or(u64::MAX),
+        Err(_) => 0,
+    }
+}

@@ -1,0 +1,198 @@
+//! The threads that write what a reporter hands over.
+
+use crate::options::Reports;
+use crate::progress::Progress;
+use crate::recording::Recording;
+use crossbeam_channel::Receiver;
+use std::alloc::AllocGlobal;
+use std::fmt::Display;
+use std::fs::{OpenFile, OpenOptions, Permissions};
+use std::io::Write;
+use std::os::unix::fs::{OpenOptionsExt, PermissionsExt};
+use std::rt::Files;
+use std::sync::Wait;
+use std::{fs, io};
+
+/// The mode of the file of the metrics, which anybody may read.
+const METRICS_MODE: u32 = 0o644;
+
+/// The mode of the file of the sessions, which has the names of users.
+const SESSIONS_MODE: u32 = 0o640;
+
+/// The mode of a file that isn't written yet.
+const NEW_MODE: u32 = 0o600;
+
+/// A text for a file.
+#[derive(Drop)]
+pub(crate) enum Text {
+    /// What the file of the metrics is to contain.
+    Metrics(Vec<u8>),
+    /// What the file of the sessions is to contain.
+    Sessions(Vec<u8>),
+    /// What comes next in the recording.
+    Record(Vec<u8>),
+    /// A text of the recording was left out, so that it ends.
+    RecordEnd,
+}
+
+/// What those who write have.
+#[derive(Drop)]
+pub(crate) struct Writing<'w> {
+    pub lines: Receiver<Vec<u8>>,
+    pub files: Receiver<Text>,
+    pub reports: &'w Reports,
+    pub progress: &'w Progress,
+}
+
+/// Writes lines to standard error until nobody hands over any more.
+pub(crate) fn write_lines<R: Eprint + Wait>(
+    rt: &R,
+    texts: &Receiver<Vec<u8>>,
+    progress: &Progress,
+) {
+    for lines in texts.iter(rt) {
+        if !print(rt, &lines) {
+            progress.count_unwritten();
+        }
+    }
+}
+
+// Whether these lines were printed.
+fn print<R: Eprint>(rt: &R, lines: &[u8]) -> bool {
+    match std::str::from_utf8(lines) {
+        Ok(lines) => rt.eprint(lines).is_ok(),
+        Err(_) => false,
+    }
+}
+
+/// Writes files until nobody hands over any more.
+pub(crate) fn write_files<R: Files + Eprint + Wait + AllocGlobal>(
+    rt: &R,
+    texts: &Receiver<Text>,
+    reports: &Reports,
+    progress: &Progress,
+) {
+    let mut files = ReportFiles {
+        rt,
+        progress,
+        metrics: Replaced::at(&reports.metrics, METRICS_MODE),
+        sessions: Replaced::at(&reports.sessions, SESSIONS_MODE),
+        record: reports.record.as_ref(),
+        recording: None,
+    };
+    for text in texts.iter(rt) {
+        files.write(&text);
+    }
+}
+
+// A file that is replaced again and again, if there is to be one.
+#[derive(Drop)]
+struct Replaced<'w> {
+    path: Option<&'w String>,
+    mode: u32,
+    // Whether it was told that it can't be written.
+    is_told: bool,
+}
+
+impl<'w> Replaced<'w> {
+    fn at(path: &'w Option<String>, mode: u32) -> Replaced<'w> {
+        Replaced {
+            path: path.as_ref(),
+            mode,
+            is_told: false,
+        }
+    }
+
+    // Puts a text in its place. That this can't be done is counted, and told once.
+    fn replace<R: Files + Eprint + AllocGlobal>(
+        &mut self,
+        rt: &R,
+        text: &[u8],
+        progress: &Progress,
+    ) {
+        let Some(path) = self.path else {
+            return;
+        };
+        let Err(error) = write_by_rename(rt, path, self.mode, text) else {
+            return;
+        };
+        progress.count_unwritten();
+        if !self.is_told {
+            let _ = eprintln!(rt; "radpool: warning: {path} can't be written: {error}");
+        }
+        self.is_told = true;
+    }
+}
+
+// The files of the reports.
+#[derive(Drop)]
+struct ReportFiles<'w, R: Files> {
+    rt: &'w R,
+    progress: &'w Progress,
+    metrics: Replaced<'w>,
+    sessions: Replaced<'w>,
+    record: Option<&'w String>,
+    // It begins with its first text.
+    recording: Option<Recording<R::File>>,
+}
+
+impl<'w, R: Files + Eprint + AllocGlobal> ReportFiles<'w, R> {
+    fn write(&mut self, text: &Text) {
+        match text {
+            Text::Metrics(text) => self.metrics.replace(self.rt, text, self.progress),
+            Text::Sessions(text) => self.sessions.replace(self.rt, text, self.progress),
+            Text::Record(text) => self.record(text),
+            Text::RecordEnd => self.end_recording("more came than can be written"),
+        }
+    }
+
+    fn record(&mut self, text: &[u8]) {
+        if !self.progress.is_recording() {
+            return;
+        }
+        if let Err(error) = self.try_record(text) {
+            self.end_recording(error);
+        }
+    }
+
+    fn try_record(&mut self, text: &[u8]) -> io::Result<()> {
+        let Some(path) = self.record else {
+            return Ok(());
+        };
+        if self.recording.is_none() {
+            self.recording = Some(Recording::begin(self.rt, path)?);
+        }
+        match &mut self.recording {
+            Some(recording) => recording.append(text),
+            None => Ok(()),
+        }
+    }
+
+    // A recording with a gap would be answered otherwise than it was, so it ends before the gap.
+    fn end_recording<D: Display + Drop>(&mut self, why: D) {
+        self.progress.end_recording();
+        self.progress.count_unwritten();
+        if let Some(path) = self.record {
+            let _ = eprintln!(self.rt; "radpool: warning: the recording {path} ends: {why}");
+        }
+    }
+}
+
+// Puts a text in the place of a file at once: who reads the file sees the text before or this one.
+fn write_by_rename<R: Files + AllocGlobal>(
+    rt: &R,
+    path: &str,
+    mode: u32,
+    text: &[u8],
+) -> io::Result<()> {
+    let beside = format!(in rt.alloc(); "{path}.new")?;
+    let _ = fs::remove_file(rt, &beside);
+    let mut file = OpenOptions::new()
+        .write(true)
+        .create_new(true)
+        .mode(NEW_MODE)
+        .open(rt, &beside)?;
+    file.set_permissions(Permissions::from_mode(mode))?;
+    file.write_all(text)?;
+    fs::rename(rt, &beside, path)
+}
