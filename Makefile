@@ -13,7 +13,8 @@ try:
 demo:
 	cd crates/radpool && rt run -- replay < ../../examples/requests.txt
 	crates/radpool/out/radpool replay < examples/requests.txt | diff - examples/requests.expected
-	crates/radpool/out/radpool check examples/radpool.toml
+	install -D -m 600 examples/radpool.toml out/radpool.toml
+	crates/radpool/out/radpool check out/radpool.toml
 	@echo "The output is that of examples/requests.expected. The program is crates/radpool/out/radpool."
 
 # Runs radpool with many command lines, and judges what each prints and its status. It needs Python 3.
@@ -33,7 +34,7 @@ udp: demo
 
 # Proves everything from nothing, tries the must-fail edits, and runs the tests and the programs. The run of radpool is the
 # example, and the list in docs/PROVED.md is the one that docs/definitions makes. Then the executables are tried: radpool with many
-# command lines and over UDP, and refused_memory and commands of radpool with each of their allocations refused in turn.
+# command lines and over UDP, and refused_memory and commands of radpool with each of their allocations refused in turn, and an installation.
 test:
 	@cmp examples/requests.txt crates/radpool/stdin
 	@cmp examples/requests.expected crates/radpool/stdout
@@ -42,9 +43,10 @@ test:
 	@trials/command/run > /dev/null
 	@trials/refused_memory/run > /dev/null
 	@trials/udp/run
+	@trials/install/run > /dev/null
 
 # Installs the executable of `make demo`, its man pages, a unit for systemd, room for receive buffers, the example configuration and
-# two documents, below PREFIX, which the installed texts name. Nothing in /etc is touched.
+# three documents, below PREFIX, which the installed texts name. Nothing in /etc is touched.
 to = $(DESTDIR)$(PREFIX)
 text = sed 's,/usr/local,$(PREFIX),g' $(1) | install -D -m 644 /dev/stdin "$(to)/$(2)"
 install:
@@ -57,10 +59,11 @@ install:
 	$(call text,examples/radpool.toml,share/doc/radpool/examples/radpool.toml)
 	$(call text,docs/OPERATING.md,share/doc/radpool/OPERATING.md)
 	$(call text,docs/FORMATS.md,share/doc/radpool/FORMATS.md)
+	$(call text,docs/TRYING.md,share/doc/radpool/TRYING.md)
 
 # Removes what `install` installed, and the folder that only radpool uses.
 installed = bin/radpool share/man/man8/radpool.8 share/man/man5/radpool.toml.5 lib/systemd/system/radpool.service \
-	lib/sysctl.d/10-radpool.conf $(addprefix share/doc/radpool/,examples/radpool.toml OPERATING.md FORMATS.md)
+	lib/sysctl.d/10-radpool.conf $(addprefix share/doc/radpool/,examples/radpool.toml OPERATING.md FORMATS.md TRYING.md)
 uninstall:
 	rm -f $(foreach file,$(installed),"$(to)/$(file)")
 	@test ! -d "$(to)/share/doc/radpool" || find "$(to)/share/doc/radpool" -type d -empty -delete
