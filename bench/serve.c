@@ -29,6 +29,8 @@ enum {
     ROUND = 512,    // the most datagrams that are received before replies are sent
     WARM = 1000,
     COUNT = 200000, // the requests of a measurement
+    TRIES = 3,      // of which the best counts
+    SPAN = 21,      // seconds, in which files are written three times
     IDS = 256,      // the Identifiers
     PORTS = 255,    // the most from which sessions are asked for
     SESSIONS = 4096,    // of a user
@@ -270,8 +272,22 @@ static void write_file(const char *name, const char *octets, size_t len) {
     }
 }
 
-// A server; without a path of one, the responder.
-static pid_t begin_server(const char *radpool) {
+// What a server tells its operator: an option, and a level or the name of a file. Files that are written every ten seconds are measured
+// for longer, with full tables.
+struct report {
+    const char *option, *level, *file;
+    bool is_long;
+};
+
+static const struct report reports[] = {
+    {"none", NULL, NULL, false},          {"--log", "refused", NULL, false}, {"--log", "all", NULL, false},
+    {"--record", NULL, "record", false},  {"none", NULL, NULL, true},        {"--metrics", NULL, "metrics", true},
+    {"--sessions", NULL, "sessions", true},
+};
+
+// A server that reports; without a path of one, the responder.
+static pid_t begin_server(const char *radpool, const struct report *report) {
+    fflush(stdout);
     pid_t child = fork();
     if (child != 0) {
         return child;
@@ -284,8 +300,18 @@ static pid_t begin_server(const char *radpool) {
     if (!freopen("/dev/null", "w", stdout)) {
         _exit(1);
     }
-    execl(radpool, radpool, "serve", "--config", in_folder("toml"), "--seed", in_folder("seed"), "--auth", "18130", "--acct", "18131",
-          (char *)NULL);
+    char toml[200], seed[200];
+    snprintf(toml, sizeof toml, "%s", in_folder("toml"));
+    snprintf(seed, sizeof seed, "%s", in_folder("seed"));
+    const char *words[] = {radpool, "serve", "--config", toml, "--seed", seed, "--auth", "18130", "--acct", "18131", NULL, NULL, NULL};
+    if (report->level || report->file) {
+        words[10] = report->option;
+        words[11] = report->level ? report->level : in_folder(report->file);
+        if (!freopen("/dev/null", "w", stderr)) {
+            _exit(1);
+        }
+    }
+    execv(radpool, (char *const *)words);
     _exit(1);
 }
 
@@ -372,7 +398,7 @@ static double resident(pid_t process) {
 static struct figures measure(const char *radpool, const struct state *state) {
     struct figures found;
     write_configuration(state->window);
-    pid_t server = begin_server(radpool);
+    pid_t server = begin_server(radpool, &reports[0]);
     wait_for_server();
     if (radpool) {
         grant(state);
@@ -395,6 +421,54 @@ static struct figures measure(const char *radpool, const struct state *state) {
     kill(server, SIGTERM);
     waitpid(server, NULL, 0);
     return found;
+}
+
+// The processor time of a request, in microseconds, to a server that reports.
+static double processor_of(const char *radpool, const struct report *report) {
+    const struct state *state = report->is_long ? &full : &few;
+    write_configuration(state->window);
+    unlink(in_folder("record"));
+    pid_t server = begin_server(radpool, report);
+    wait_for_server();
+    grant(state);
+    load(WARM, SOME);
+    clockid_t clock;
+    if (clock_getcpuclockid(server, &clock) != 0) {
+        end("no clock");
+    }
+    double processor = nanoseconds(clock), begun = nanoseconds(CLOCK_MONOTONIC);
+    int count = 0;
+    do {
+        load(COUNT / 4, SOME);
+        count += COUNT / 4;
+    } while (report->is_long && nanoseconds(CLOCK_MONOTONIC) - begun < SPAN * 1e9);
+    double found = (nanoseconds(clock) - processor) / count / 1e3;
+    kill(server, SIGTERM);
+    waitpid(server, NULL, 0);
+    return found;
+}
+
+static double least_processor_of(const char *radpool, const struct report *report) {
+    double least = processor_of(radpool, report);
+    for (int try = 1; try < TRIES && !report->is_long; try++) {
+        double found = processor_of(radpool, report);
+        least = found < least ? found : least;
+    }
+    return least;
+}
+
+static void print_reports(const char *radpool) {
+    puts("\n| report | sessions | CPU µs a request | to none's |\n|---|---|---|---|");
+    double none = 0;
+    for (size_t at = 0; at < sizeof reports / sizeof *reports; at++) {
+        const struct report *report = &reports[at];
+        double found = least_processor_of(radpool, report);
+        bool is_none = !report->level && !report->file;
+        none = is_none ? found : none;
+        printf("| %s %s | %u | %.2f | %.2f |\n", report->option, report->level ? report->level : "",
+               report->is_long ? full.sessions : few.sessions, found, found / none);
+        fflush(stdout);
+    }
 }
 
 static void print_row(const char *name, uint32_t sessions, struct figures f, struct figures null) {
@@ -427,4 +501,5 @@ int main(int argc, char **argv) {
     printf("with full tables radpool answers %.2f of the requests a second that it answers with 16 sessions, 128 at a time, "
            "and %.2f with 512 at a time\n",
            large.a_second / small.a_second, large.most_a_second / small.most_a_second);
+    print_reports(argv[1]);
 }
