@@ -1,8 +1,8 @@
 -- What a configuration text says, or its first fault. A text is a list of octets, which are numbers below 256; an index counts
 -- from 1, and a place from 0.
-use Rattle.std.specs.Prelude.{◌≡◌, ◌⊎◌, ℕ, ◌+◌, ◌&&◌, ◌||◌, nat_le, nat_lt, Bool, false, List, [], ◌∷◌, ◌++◌, position, Option, Some, None, Result, Ok, Err, ok_or, is_some}
+use Rattle.std.specs.Prelude.{◌≡◌, ◌⊎◌, ℕ, ◌+◌, ◌&&◌, ◌||◌, nat_le, nat_lt, Bool, false, if◌then◌else◌, List, [], ◌∷◌, ◌++◌, position, Option, Some, None, Result, Ok, Err, ok_or, is_some}
 use Rattle.std.specs.List.{list_any}
-use Rattle.std.specs.Str.{bytes_eq}
+use Rattle.std.specs.Str.{bytes_eq, is_utf8}
 use Rattle.toml.specs.Data.{Data, as_array, as_table, Items, no_items, item, Members, get_member}
 use Rattle.toml.specs.Parse.{parse_document}
 use Rattle.rad_packet.specs.Ladders.{◌>>=◌, refuse_if}
@@ -230,3 +230,7 @@ configuration_of text = do
     pools = pools;
     users = users;
   })
+
+-- what octets say, which are no text unless they are UTF-8
+abbrev pub configuration_of_octets : List ℕ → Result Configuration ConfigFault
+configuration_of_octets octets = if is_utf8 octets then configuration_of octets else Err Syntax

@@ -1,5 +1,6 @@
 pub mod Configurations
 pub use Rattle.rad_config_fault.specs.Faults
+pub mod Inputs
 pub mod Keys
 pub mod Networks
 pub mod Ranges

@@ -46,12 +46,4 @@ impl Text {
     {
         self.octets == other.octets
     }
-
-    /// The octets, given back.
-    pub fn into_octets(self) -> Vec<u8>
-        ensures { result.items ≡ self }
-    {
-        let Text { octets } = self;
-        octets
-    }
 }

@@ -3,15 +3,15 @@ use Rattle.std.proofs.Common.{◌≡◌, ℕ, suc, ◌≤◌, ◌⊎◌, Bool, t
 use Rattle.std.specs.Prelude.{filter, map, option_map, unwrap_or, IfSome}
 use Rattle.std.specs.Io.KnownBytes.{Appends, Consumes, IsAtEnd}
 use Rattle.std.proofs.lemmas.List.{append-nil, length-map}
-use Rattle.rad_config.specs.Configurations.{Configuration}
+use Rattle.rad_config.specs.Configurations.{Configuration, configuration_of_octets}
+use Rattle.rad_config.specs.Inputs.{text_max}
 use Rattle.rad_config_fault.specs.declared.config_fault.ConfigFault.{ConfigFault}
 use Rattle.rad_config_fault.specs.declared.config_fault.ConfigFault.TheVariants as fault
 use Rattle.rad_replay.specs.declared.run_fault.RunFault.{RunFault}
 use Rattle.rad_replay.specs.declared.run_fault.RunFault.TheVariants as run
-use Rattle.rad_replay.specs.Configuration.{configuration_of_octets}
-use Rattle.rad_replay.specs.Lines.{Divides, lines_of, onto_first, line_feed, divided, is_divider, is_skipped, datagram_lines, without_return}
+use Rattle.rad_text.specs.Lines.{Divides, lines_of, onto_first, line_feed, divided, is_divider, is_skipped, datagram_lines, without_return}
 use Rattle.rad_replay.specs.Replays.{EndsLines, IsReadFault}
-use Rattle.rad_replay.specs.Transcripts.{IsAfterReading, IsAllRead, IsInput, EndsRun, text_max}
+use Rattle.rad_replay.specs.Transcripts.{IsAfterReading, IsAllRead, IsInput, EndsRun}
 use Rattle.rad_replay.proofs.TranscriptLemmas.{Appends-nil}
 
 -- ---- there are no more lines than octets

@@ -1,6 +1,4 @@
-pub mod Configuration
 pub mod DatagramLines
-pub mod Lines
 pub mod ReadLines
 pub mod Replays
 pub mod Transcripts

@@ -3,7 +3,6 @@
 use Rattle.std.specs.Prelude.{◌≡◌, ◌⊎◌, ℕ, ◌+◌, ◌<◌, ◌≤◌, ◌==◌, Bool, true, false, not, List, [], ◌∷◌, ◌++◌, length, take, replicate, codes, decimal, Option, Some, None, IfSome, Result, Ok, Err}
 use Rattle.std.specs.List.{list_any}
 use Rattle.std.specs.Int.{w64, to_be_bytes}
-use Rattle.std.specs.Io.KnownBytes.{Consumes}
 use Rattle.hex.specs.Hex.{encode_lower}
 use Rattle.rad_auth.specs.Admission.{admission}
 use Rattle.rad_packet.specs.Bodies.{Body}
@@ -12,13 +11,13 @@ use Rattle.rad_auth.specs.Discards.{discard_number, discard_name}
 use Rattle.rad_auth.specs.Sealing.{reply_octets}
 use Rattle.rad_auth.specs.declared.arrival.Request.{Request}
 use Rattle.rad_auth.specs.declared.discard.Discard.{Discard}
-use Rattle.rad_config.specs.Configurations.{Configuration}
+use Rattle.rad_config.specs.Configurations.{Configuration, configuration_of_octets}
+use Rattle.rad_config.specs.Inputs.{text_max}
 use Rattle.rad_config_fault.specs.declared.config_fault.ConfigFault.TheVariants as fault
 use Rattle.rad_replay.specs.declared.run_fault.RunFault.{RunFault}
 use Rattle.rad_replay.specs.declared.run_fault.RunFault.TheVariants as run
-use Rattle.rad_replay.specs.Configuration.{configuration_of_octets}
 use Rattle.rad_replay.specs.DatagramLines.{TimedDatagram, datagram_of_line}
-use Rattle.rad_replay.specs.Lines.{line_feed, lines_of, divided, text_of, datagram_lines}
+use Rattle.rad_text.specs.Lines.{line_feed, lines_of, divided, text_of, datagram_lines}
 use Rattle.rad_server.specs.States.{State, opening}
 use Rattle.rad_server.specs.Steps.{step}
 use Rattle.rad_server.specs.declared.answer.Answer.{Answer}
@@ -110,10 +109,6 @@ abbrev pub first_malformed : ℕ → List (List ℕ) → Option ℕ
 first_malformed number [] = None
 first_malformed number (text ∷ lines) = number_if_malformed number (datagram_of_line text) (first_malformed (number + 1) lines)
 
--- the most octets of a transcript
-abbrev pub text_max : ℕ
-text_max = 16777216
-
 -- a reader whose octets are known has given all of them
 abbrev pub IsAllRead : Option (List ℕ) → Option (List ℕ) → Type 0
 IsAllRead old new = IfSome old (λ text. new ≡ Some [])
@@ -128,10 +123,6 @@ IsAfterReading (Err run.NoDivider) = Unit {0}
 IsAfterReading (Err (run.Config reported)) = Unit {0}
 IsAfterReading (Err (run.BadLine number)) = Unit {0}
 IsAfterReading (Err run.Write) = Unit {0}
-
--- a reader gave at most so many octets
-abbrev pub GivesAtMost : ℕ → Option (List ℕ) → Option (List ℕ) → Type 0
-GivesAtMost most old new = (octets : List ℕ) × Consumes old new octets × (length octets ≤ most)
 
 -- The input is the text of this configuration, a divider, and these datagram lines.
 pub record IsInput (text : List ℕ) (configuration : Configuration) (lines : List (List ℕ)) : Type 0 where

@@ -1,6 +1,6 @@
 //! The answering of one datagram after the other, with the server's state carried along.
 ghost use Rattle.std.specs.Prelude.{◌≡◌, ◌≤◌, IfOk};
-ghost use Rattle.rad_auth.specs.Admission.{HoldsAdmitted, IsAdmitted, IsAnswerable, admission};
+ghost use Rattle.rad_auth.specs.Admission.{IsAdmitted, admission};
 ghost use Rattle.rad_auth.specs.Datagrams.{datagram_of};
 ghost use Rattle.rad_auth.specs.Sealing.{IsReply};
 ghost use Rattle.rad_config.specs.Spans.{moment_max};

@@ -7,17 +7,13 @@
 #![tactic(auto)]
 
 mod answering;
-mod configuration;
 mod datagram_line;
-mod lines;
 mod make;
 mod output_line;
 mod replay;
 mod run_fault;
 
-pub use configuration::read_configuration;
 pub use datagram_line::{DatagramLine, read_datagram_line};
-pub use lines::{DatagramLines, divide};
 pub use make::{KINDS, Kind, Make, MakeFault};
-pub use replay::{TEXT_MAX, read_text, run_replay};
+pub use replay::run_replay;
 pub use run_fault::RunFault;

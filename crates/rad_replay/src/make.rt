@@ -54,22 +54,22 @@ impl Kind {
 /// Why there is no request: an option's value doesn't fit, or memory was refused.
 #[derive(Clone, Copy, Debug, PartialEq, Eq, Error)]
 pub enum MakeFault {
-    #[error("invalid value for '--secret <TEXT>': a text of 1 to 128 octets would fit")]
+    #[error("invalid value for '--secret <TEXT>': expected 1 to 128 octets")]
     Secret,
-    #[error("invalid value for '--random <HEX>': 32 hexadecimal digits would fit")]
+    #[error("invalid value for '--random <HEX>': expected 32 hexadecimal digits")]
     Random,
-    #[error("invalid value for '--user <TEXT>': a text of 1 to 253 octets would fit")]
+    #[error("invalid value for '--user <TEXT>': expected 1 to 253 octets")]
     User,
-    #[error("invalid value for '--password <TEXT>': a text of at most 128 octets would fit")]
+    #[error("invalid value for '--password <TEXT>': expected at most 128 octets")]
     Password,
     /// `--extra` is no octets in hexadecimal.
-    #[error("invalid value for '--extra <HEX>': an even number of hexadecimal digits would fit")]
+    #[error("invalid value for '--extra <HEX>': expected an even number of hexadecimal digits")]
     ExtraDigits,
     /// `--extra` spells no attributes.
-    #[error("invalid value for '--extra <HEX>': whole attributes would fit, each of a Type, a Length of 2 to 255 that counts all its octets, and a Value")]
+    #[error("invalid value for '--extra <HEX>': expected whole attributes, each a Type, a Length of 2 to 255 that counts all three, and a Value")]
     ExtraAttributes,
     /// The request has more than `LENGTH_MAX` octets.
-    #[error("invalid value for '--extra <HEX>': attributes that leave the request at most 4096 octets would fit")]
+    #[error("invalid value for '--extra <HEX>': expected attributes that leave the request at most 4096 octets")]
     TooLong,
     #[error("out of memory")]
     NoMemory,

@@ -89,7 +89,7 @@ impl OutputLine {
         self.put(b"nomemory\n");
     }
 
-    // A number and a space.
+    // A number and a space, without an allocation.
     fn begin(&mut self, number: u64)
         ensures octets { self.new ≡ decimal number ++ 32 ∷ [] }
         ensures short { length self.new ≤ 21 }

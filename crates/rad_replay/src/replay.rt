@@ -1,27 +1,21 @@
 //! A replay: reads a transcript, and writes a line for each datagram.
-ghost use Rattle.std.specs.Prelude.{◌≡◌, ◌+◌, ◌≤◌, ◌<◌, ◌++◌, [], length, take, IfOk, IfErr, IfSome, OnErr, OnOk, Some};
-ghost use Rattle.std.specs.Io.KnownBytes.{Appends, Consumes, IsAtEnd, Keeps};
-ghost use Rattle.rad_replay.specs.Lines.{datagram_lines, lines_of};
+ghost use Rattle.std.specs.Prelude.{◌≡◌, ◌+◌, ◌≤◌, ◌<◌, length, IfOk, IfErr, IfSome, OnErr, OnOk, Some};
+ghost use Rattle.std.specs.Io.KnownBytes.{Appends, Consumes, IsAtEnd};
+ghost use Rattle.rad_config.specs.Inputs.{GivesAtMost, text_max};
+ghost use Rattle.rad_text.specs.Lines.{datagram_lines, lines_of};
 ghost use Rattle.rad_replay.specs.Replays.{EndsLines, IsReadFault};
-ghost use Rattle.rad_replay.specs.Transcripts.{BreaksOff, EndsRun, GivesAtMost, IsAfterReading, IsAllRead, text_max};
-ghost use Rattle.rad_replay.specs.declared.run_fault.RunFault.TheVariants.{TooLong, NoMemory, Read as ReadFailed, Write as WriteFailed};
+ghost use Rattle.rad_replay.specs.Transcripts.{BreaksOff, EndsRun, IsAfterReading, IsAllRead};
+ghost use Rattle.rad_replay.specs.declared.run_fault.RunFault.TheVariants.{TooLong, Write as WriteFailed};
 
 use crate::answering::Replay;
-use crate::configuration::read_configuration;
 use crate::datagram_line::read_datagram_line;
-use crate::lines::{DatagramLines, divide};
 use crate::run_fault::RunFault;
 use rad_auth::Arrival;
-use rad_config::Config;
+use rad_config::{Config, InputFault, TEXT_MAX, read_configuration, read_text};
 use rad_packet::LENGTH_MAX;
+use rad_text::lines::{DatagramLines, divide};
 use std::alloc::Global;
 use std::io::{Read, Write};
-
-/// The most octets of an input.
-pub const TEXT_MAX: usize = 16_777_216;
-
-/// How many octets are asked for at once.
-const CHUNK: usize = 8192;
 
 /// Reads a transcript, and writes a line for each datagram.
 ///
@@ -42,7 +36,7 @@ pub fn run_replay<R: Read, W: Write>(
         → IsAllRead (R.remaining reader.old) (R.remaining reader.new) }
     ensures bounded { GivesAtMost (text_max + 1) (R.remaining reader.old) (R.remaining reader.new) }
 {
-    let text = read_text(alloc, reader)?;
+    let text = read_input(alloc, reader)?;
     let Some((configuration, datagrams)) = divide(&text) else {
         return Err(RunFault::NoDivider);
     };
@@ -53,8 +47,8 @@ pub fn run_replay<R: Read, W: Write>(
     answer_lines(alloc, &config, datagrams, writer)
 }
 
-/// Reads all that there is. It takes one octet more than the `TEXT_MAX` that are allowed, at most.
-pub fn read_text<R: Read>(alloc: Global, reader: &mut R) -> Result<Vec<u8>, RunFault>
+// Reads the whole input.
+fn read_input<R: Read>(alloc: Global, reader: &mut R) -> Result<Vec<u8>, RunFault>
     ensures read { IfOk result (λ text.
         Consumes (R.remaining reader.old) (R.remaining reader.new) text.items) }
     ensures end { OnOk result (IsAtEnd (R.remaining reader.new)) }
@@ -64,42 +58,11 @@ pub fn read_text<R: Read>(alloc: Global, reader: &mut R) -> Result<Vec<u8>, RunF
     ensures faults { IfErr result IsReadFault }
     ensures bounded { GivesAtMost (text_max + 1) (R.remaining reader.old) (R.remaining reader.new) }
 {
-    let mut text = Vec::new(alloc);
-    let mut chunk = [0; CHUNK];
-    while text.len() <= TEXT_MAX {
-        let room = CHUNK.min(TEXT_MAX + 1 - text.len());
-        let count = read_some(reader, &mut chunk[..room])?;
-        if count == 0 {
-            return Ok(text);
-        }
-        append(&mut text, &chunk[..count])?;
-    }
-    Err(RunFault::TooLong)
-}
-
-// One read, whose first error is reported.
-fn read_some<R: Read>(reader: &mut R, room: &mut [u8]) -> Result<usize, RunFault>
-    requires { 0 < length room.old }
-    ensures bound { IfOk result (λ count. count ≤ length room.new) }
-    ensures read { IfOk result (λ count.
-        Consumes (R.remaining reader.old) (R.remaining reader.new) (take count room.new)) }
-    ensures end { IfOk result (λ count. count ≡ 0 → IsAtEnd (R.remaining reader.new)) }
-    ensures fault { IfErr result (λ fault. fault ≡ ReadFailed) }
-    ensures kept { OnErr result (Keeps (R.remaining reader.old) (R.remaining reader.new)) }
-{
-    match reader.read(room) {
-        Ok(count) => Ok(count),
-        Err(_) => Err(RunFault::Read),
-    }
-}
-
-fn append(text: &mut Vec<u8>, part: &[u8]) -> Result<(), RunFault>
-    ensures appended { OnOk result (text.new.items ≡ text.old.items ++ part.now) }
-    ensures fault { IfErr result (λ fault. fault ≡ NoMemory) }
-{
-    match text.extend_from_slice(part) {
-        Ok(()) => Ok(()),
-        Err(_) => Err(RunFault::NoMemory),
+    match read_text(alloc, reader) {
+        Ok(text) => Ok(text),
+        Err(InputFault::Read) => Err(RunFault::Read),
+        Err(InputFault::TooLong) => Err(RunFault::TooLong),
+        Err(InputFault::NoMemory) => Err(RunFault::NoMemory),
     }
 }
 

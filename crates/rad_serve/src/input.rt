@@ -1,7 +1,7 @@
 //! The files of `serve`.
 
 use crate::serve_error::ServeError;
-use rad_replay::{RunFault, read_text};
+use rad_config::{InputFault, read_text};
 use std::alloc::AllocGlobal;
 use std::fs;
 use std::io::Read;
@@ -20,8 +20,8 @@ pub fn open_text<R: Files + AllocGlobal>(rt: &R, path: &str) -> Result<Vec<u8>, 
     };
     match read_text(rt.alloc(), &mut file) {
         Ok(text) => Ok(text),
-        Err(RunFault::NoMemory) => Err(ServeError::NoMemory),
-        Err(_) => Err(ServeError::ConfigUnreadable),
+        Err(InputFault::NoMemory) => Err(ServeError::NoMemory),
+        Err(InputFault::Read | InputFault::TooLong) => Err(ServeError::ConfigUnreadable),
     }
 }
 

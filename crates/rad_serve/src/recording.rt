@@ -1,6 +1,6 @@
 //! The recording of a server: a transcript of what came to it.
 
-use rad_replay::TEXT_MAX;
+use rad_config::TEXT_MAX;
 use std::fs::{OpenFile, OpenOptions};
 use std::io;
 use std::io::Write;

@@ -1,7 +1,7 @@
 use Rattle.std.proofs.Common.{◌≡◌, ◌+◌, List, ℕ, length}
 use Rattle.std.specs.Io.KnownBytes.{Appends}
 use Rattle.rad_packet.specs.Packets.{length_max}
-use Rattle.rad_replay.specs.Lines.{datagram_lines, lines_of}
+use Rattle.rad_text.specs.Lines.{datagram_lines, lines_of}
 use Rattle.rad_replay.proofs.TranscriptLemmas.{Progress}
 use Rattle.rad_replay.proofs.replay.answer_lines.Given as goal
 

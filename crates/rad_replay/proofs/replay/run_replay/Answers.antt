@@ -1,5 +1,5 @@
 use Rattle.std.proofs.Common.{length, ap, arith}
-use Rattle.rad_replay.specs.Lines.{datagram_lines, lines_of}
+use Rattle.rad_text.specs.Lines.{datagram_lines, lines_of}
 use Rattle.rad_replay.proofs.RunLemmas.{few_lines, read_all, is_all_read, is_input, ends_run, ends_config, for_input}
 use Rattle.rad_replay.proofs.replay.run_replay.Goals as goal
 

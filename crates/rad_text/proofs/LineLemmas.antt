@@ -6,7 +6,7 @@ use Rattle.std.proofs.lemmas.Bool.{eqb-true}
 use Rattle.std.proofs.lemmas.List.{append-nil}
 use Rattle.rad_text.specs.Splits.{split_once}
 use lib.Pointwise.{pointwise}
-use Rattle.rad_replay.specs.Lines.{line_feed, carriage_return, onto_first, lines_of, without_return, is_divider, divided, text_of, IsFirstLine}
+use Rattle.rad_text.specs.Lines.{line_feed, carriage_return, onto_first, lines_of, without_return, is_divider, divided, text_of, IsFirstLine}
 
 -- the lines of a text with no line feed
 abbrev whole : List ℕ → List (List ℕ)

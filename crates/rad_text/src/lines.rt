@@ -1,9 +1,9 @@
 //! The lines of a transcript: a configuration, a line `---`, and a line for each datagram.
 ghost use Rattle.std.specs.Prelude.{◌≡◌, ℕ, List, [], None, MatchOption};
 ghost use Rattle.std.specs.Iterator.{YieldsFirstRef, item_count};
-ghost use Rattle.rad_replay.specs.Lines.{IsFirstLine, Divides, lines_of, without_return, is_divider, divided, is_skipped, datagram_lines};
+ghost use Rattle.rad_text.specs.Lines.{IsFirstLine, Divides, lines_of, without_return, is_divider, divided, is_skipped, datagram_lines};
 
-use rad_text::split::split_once;
+use crate::split::split_once;
 use std::marker::Model;
 
 // The first line of a text, without its line feed, and the text after it.
@@ -38,7 +38,7 @@ fn is_skipped(line: &[u8]) -> bool
     matches!(line, [] | [b'#', ..])
 }
 
-/// The text before the first divider line, and the text after that line.
+/// The text before the first divider line, and the text after that line; none without such a line.
 pub fn divide(text: &[u8]) -> Option<(&[u8], &[u8])>
     ensures { MatchOption result (divided (lines_of text.now) ≡ None)
         (λ parts. Divides text.now parts.0.now parts.1.now) }
@@ -66,6 +66,7 @@ impl<'a> Model for DatagramLines<'a> {
 }
 
 impl<'a> DatagramLines<'a> {
+    /// Those of this text.
     pub fn new(text: &'a [u8]) -> Self
         ensures { result ≡ datagram_lines (lines_of text.now) }
     {

@@ -1,8 +1,8 @@
-//! The configuration of a transcript.
-ghost use Rattle.rad_config.specs.Configurations.{Gives};
-ghost use Rattle.rad_replay.specs.Configuration.{configuration_of_octets};
+//! A configuration as octets.
+ghost use Rattle.rad_config.specs.Configurations.{Gives, configuration_of_octets};
 
-use rad_config::{Config, ConfigFault};
+use crate::config::Config;
+use rad_config_fault::ConfigFault;
 use std::alloc::Global;
 
 /// The configuration that octets say, or its first fault. Octets that aren't UTF-8 are `Syntax`.

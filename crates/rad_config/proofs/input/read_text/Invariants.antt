@@ -1,6 +1,6 @@
 use Rattle.std.proofs.Common.{◌-◌, ◌≤◌, length}
 use Rattle.std.specs.Io.KnownBytes.{Consumes}
-use Rattle.rad_replay.proofs.replay.read_text.Given as goal
+use Rattle.rad_config.proofs.input.read_text.Given as goal
 
 -- what was read is in the text
 abbrev pub invariant-loop-chunk : goal.invariant-loop-chunk

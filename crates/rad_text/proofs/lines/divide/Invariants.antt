@@ -1,6 +1,6 @@
 use Rattle.std.proofs.Common.{length}
-use Rattle.rad_replay.proofs.LineLemmas.{Passes}
-use Rattle.rad_replay.proofs.lines.divide.Given as goal
+use Rattle.rad_text.proofs.LineLemmas.{Passes}
+use Rattle.rad_text.proofs.lines.divide.Given as goal
 
 abbrev pub invariant-loop-line : goal.invariant-loop-line
 invariant-loop-line l = Passes l.text l.rest

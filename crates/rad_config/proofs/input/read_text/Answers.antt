@@ -1,7 +1,7 @@
 use Rattle.std.proofs.Common.{◌++◌, List, ℕ, take, arith}
 use Rattle.std.proofs.KnownBytes.{Consumes-trans}
 use Rattle.std.proofs.lemmas.List.{length-append, length-take}
-use Rattle.rad_replay.proofs.replay.read_text.Goals as goal
+use Rattle.rad_config.proofs.input.read_text.Goals as goal
 
 pub returns-in_err-append-clause-bounded : goal.returns-in_err-append-clause-bounded
 returns-in_err-append-clause-bounded g c =

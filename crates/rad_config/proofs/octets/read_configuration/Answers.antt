@@ -2,7 +2,7 @@ use Rattle.std.proofs.Common.{inr, inl}
 use Rattle.std.proofs.lemmas.Bool.{cases_Bool}
 use Rattle.std.proofs.lemmas.Str.{IsUtf8-from_is_utf8, is_utf8-from_IsUtf8}
 use Rattle.std.specs.Str.{is_utf8}
-use Rattle.rad_replay.proofs.configuration.read_configuration.Goals as goal
+use Rattle.rad_config.proofs.octets.read_configuration.Goals as goal
 
 pub returns-in-Ok : goal.returns-in-Ok
 returns-in-Ok c =
