@@ -1,6 +1,5 @@
-use Rattle.std.proofs.Common.{zero, suc, true, false, cond, remove, subst, sym, Result, Ok, Err, OnOk, ◌≡◌, ℕ, ◌≤◌, ◌<◌, List, [], ◌∷◌, ◌++◌, Bool, arith, refl, ap, ◌∙◌, filter, get_or, length, set, ltb}
+use Rattle.std.proofs.Common.{zero, suc, false, cond, remove, subst, sym, Result, Ok, Err, OnOk, ◌≡◌, ℕ, ◌≤◌, ◌<◌, List, [], ◌∷◌, ◌++◌, Bool, arith, refl, ap, ◌∙◌, filter, get_or, length, set, ltb}
 use Rattle.std.specs.List.{All, FoldsTo}
-use Rattle.std.proofs.lemmas.List.Sums.{length-filter, count_by-le-length}
 use Rattle.std.proofs.lemmas.List.Elements.{All-weaker, All-head, All-tail, All-push, All-set}
 use Rattle.std.proofs.lemmas.Bool.{lt-ltb}
 use Rattle.rad_rows.specs.Blocks.{LivesUntil, SeenBlock, with_rows}
@@ -57,12 +56,3 @@ pub filter_removed : {T : Type 0} (q : T → Bool) (xs : List T) (i : ℕ) (x : 
 filter_removed q [] i x lt is fails = absurd (omega arith)
 filter_removed q (y ∷ ys) zero x lt is fails = sym (ap (λ b. cond b (y ∷ filter q ys) (filter q ys)) (ap q (sym is) ∙ fails))
 filter_removed q (y ∷ ys) (suc i) x lt is fails = λ j. cond (q y) (y ∷ filter_removed q ys i x (omega arith) is fails j) (filter_removed q ys i x (omega arith) is fails j)
-
--- where as many are left, all are left
-pub all_left : {T : Type 0} (p : T → Bool) (xs : List T) → length (filter p xs) ≡ length xs → filter p xs ≡ xs
-all_left p [] e = refl
-all_left p (x ∷ xs) e = by_test (p x) refl (all_left p xs)
-  where
-    by_test : (b : Bool) → p x ≡ b → (length (filter p xs) ≡ length xs → filter p xs ≡ xs) → filter p (x ∷ xs) ≡ x ∷ xs
-    by_test true is rest = rw (is) (ap (λ l. x ∷ l) (rest (omega (arith, rw (is) at e))))
-    by_test false is rest = absurd (omega (arith, rw (is) at e, length-filter p xs, count_by-le-length p xs))

@@ -1,5 +1,5 @@
 //! A block of rows.
-ghost use Rattle.std.specs.Prelude.{◌≡◌, ◌≤◌, ◌<◌, ◌++◌, ◌∷◌, [], filter, find, length, option_copied, IfOk, OnOk, nat_lt};
+ghost use Rattle.std.specs.Prelude.{◌≡◌, ◌≤◌, ◌<◌, ◌++◌, ◌∷◌, [], find, length, option_copied, IfOk, OnOk, nat_lt};
 ghost use Rattle.rad_rows.specs.Blocks.{BlockLives, block_changed, block_mapped, block_without, cut_block};
 ghost use Rattle.rad_rows.specs.Rows.{Tells, has_number, moment_max};
 

@@ -1,9 +1,9 @@
 //! What is done to the block that a number belongs to, and to the row of blocks.
-ghost use Rattle.std.specs.Prelude.{◌≡◌, ◌≤◌, ◌<◌, ◌-◌, ◌*◌, ◌++◌, ◌∷◌, [], All, OnOk, false, filter, find, length, option_copied, slice_get, true};
+ghost use Rattle.std.specs.Prelude.{◌≡◌, ◌<◌, ◌-◌, ◌*◌, ◌++◌, ◌∷◌, [], All, OnOk, false, filter, find, length, option_copied, slice_get, true};
 ghost use Rattle.indexmap.specs.IndexMap.{keys};
 ghost use Rattle.rad_rows.specs.Blocks.{block_changed, block_mapped, block_without};
-ghost use Rattle.rad_rows.specs.Entries.{Ascends, EntryLives, HasSpans, IsGrouped, IsPlaced, IsSound, all_rows, has_room_at, has_rows, is_at_key, key_of, on_blocks};
-ghost use Rattle.rad_rows.specs.Rows.{has_number, moment_max};
+ghost use Rattle.rad_rows.specs.Entries.{Ascends, EntryLives, IsGrouped, IsPlaced, IsSound, all_rows, has_room_at, has_rows, is_at_key, key_of, on_blocks};
+ghost use Rattle.rad_rows.specs.Rows.{has_number};
 
 use crate::block::{BLOCK, Block};
 use crate::groups::{self, GROUP};

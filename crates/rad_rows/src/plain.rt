@@ -1,5 +1,5 @@
 //! Rows as a plain list: each question walks over all of it.
-ghost use Rattle.std.specs.Prelude.{◌≡◌, ◌≤◌, ◌<◌, ◌↔◌, All, IsTrue, filter, find, length, map, option_copied, remove, vec_len, IfNone, IfSome};
+ghost use Rattle.std.specs.Prelude.{◌≡◌, ◌≤◌, ◌<◌, All, filter, find, length, map, option_copied, remove, vec_len, IfNone, IfSome};
 ghost use Rattle.std.specs.Vec.{vec_capacity};
 ghost use Rattle.rad_rows.specs.Blocks.{LivesUntil};
 ghost use Rattle.rad_rows.specs.Rows.{Tells, change_row, has_number, has_other, moment_max};

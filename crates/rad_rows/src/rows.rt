@@ -127,15 +127,6 @@ impl<T: Row<S>, S: Copy> Rows<T, S> {
         live.count
     }
 
-    /// Whether each row is live at a moment.
-    pub fn all_live(&self, now: u64) -> bool
-        requires { now ≤ moment_max }
-        ensures { IsTrue result
-            ↔ (filter (T.is_live self.now.spans now) self.now.rows ≡ self.now.rows) }
-    {
-        self.count_live(now) == self.count
-    }
-
     /// Makes memory ready for one more row.
     pub fn room(&mut self) -> Result<(), AllocError>
         ensures rows { self.new.rows ≡ self.old.rows }

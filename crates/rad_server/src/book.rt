@@ -125,27 +125,6 @@ impl<'c> Book<'c> {
         &self.server
     }
 
-    /// A book of a server, its history and the server that it was before.
-    #[doc(hidden)]
-    pub fn from_parts(
-        alloc: Global,
-        opening: Server<'c>,
-        history: Vec<Entry>,
-        server: Server<'c>,
-    ) -> Book<'c>
-        requires { IsHistory opening history.items server }
-        ensures opening { result.opening ≡ opening.entry }
-        ensures history { result.history ≡ history.items }
-        ensures server { result.server ≡ server.entry }
-    {
-        Book {
-            alloc,
-            opening,
-            history,
-            server,
-        }
-    }
-
     /// The history and the server as it is now.
     #[doc(hidden)]
     pub fn into_parts(self) -> (Vec<Entry>, Server<'c>)
