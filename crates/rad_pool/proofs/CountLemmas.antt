@@ -14,7 +14,7 @@ use Rattle.rad_pool.specs.declared.session.Phase.{Phase}
 use Rattle.rad_pool.specs.declared.session.Phase.TheVariants.{Active, Ended, Pending}
 use Rattle.rad_pool.specs.declared.session.Session.{Session}
 use Rattle.rad_pool.specs.Counts.{Comes, CountsOpen, Ends, GainsOpen, HoldsCounts, Leaves, LosesOpen, found_open_by, group_of, is_open_by, one_open_by, open_by, source_groups, user_of}
-use Rattle.rad_pool.specs.Meant.{meant, is_meant}
+use Rattle.rad_pool.specs.Meant.{SentName, meant, is_meant}
 use Rattle.rad_pool.specs.Sessions.{if_numbered, is_live, is_open, live_sessions, session_ended, session_renewed, session_reset}
 use Rattle.rad_pool.proofs.InsideLemmas.{inside_between, inside_changed, inside_copied, inside_gone, inside_granted}
 use Rattle.rad_pool.proofs.PlaceLemmas.{places_between, places_changed, places_copied, places_gone, places_granted}
@@ -313,7 +313,7 @@ module _ (client n : ℕ) (rows : List Session) where
       by_test false e = meant_other x rising found e
 
 -- without a number and an address no session is meant
-pub meant_nothing : (client : ℕ) (number address : Option ℕ) (name : Option (Option ℕ)) (rows : List Session) → number ≡ None → address ≡ None → None ≡ meant client number address name rows
+pub meant_nothing : (client : ℕ) (number address : Option ℕ) (name : SentName) (rows : List Session) → number ≡ None → address ≡ None → None ≡ meant client number address name rows
 meant_nothing client number address name rows unnumbered unaddressed =
     sym (ap (λ n. meant client n address name rows) unnumbered ∙ ap (λ a. meant client None a name rows) unaddressed
     ∙ ap (option_map num) (none_passes (λ session. (eqb session.client client) && is_meant None None name session) rows (λ k d lt. and_false (eqb (get_or rows k d).client client))))

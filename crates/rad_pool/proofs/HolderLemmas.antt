@@ -1,9 +1,9 @@
-use Rattle.std.proofs.Common.{◌≡◌, ℕ, ◌≤◌, Bool, true, false, cond, ◌&&◌, List, [], ◌∷◌, Option, Some, None, refl, ap, ◌∙◌, sym, eqb, find, is_some, unwrap_or, true≢false, arith}
+use Rattle.std.proofs.Common.{◌≡◌, ℕ, ◌≤◌, Bool, true, false, cond, ◌&&◌, List, [], ◌∷◌, Some, None, refl, ap, ◌∙◌, sym, eqb, find, is_some, unwrap_or, true≢false, arith}
 use Rattle.std.specs.Option.{option_map}
 use Rattle.rad_rows.specs.Rows.{has_number}
 use Rattle.rad_pool.specs.declared.session.Session.{Session}
 use Rattle.rad_pool.specs.Grants.{has_address}
-use Rattle.rad_pool.specs.Meant.{meant, is_meant, name_agrees}
+use Rattle.rad_pool.specs.Meant.{SentName, meant, is_meant, name_agrees}
 use Rattle.rad_pool.specs.Sessions.{is_open}
 use Rattle.rad_pool.proofs.CountLemmas.{num}
 use Rattle.rad_pool.proofs.PlaceLemmas.{held_by, held_cons}
@@ -47,10 +47,10 @@ module _ (address : ℕ) (wanted : Session → Bool) (n : ℕ) (needs : Needs ad
       by_test false e true c rest = absurd (true≢false (sym (ap (has_address address) (same_row x row rows c at) ∙ has) ∙ e))
       by_test false e false c rest = ap (λ b. cond b (Some row) (find wanted rows)) (needs.needs row e) ∙ rest (in_rest x row rows c at) (omega (arith, held_cons address row rows false e, is))
 
-abbrev pub wants : ℕ → ℕ → Option (Option ℕ) → Session → Bool
+abbrev pub wants : ℕ → ℕ → SentName → Session → Bool
 wants client address name session = (eqb session.client client) && is_meant None (Some address) name session
 
-wants_needs : (client address : ℕ) (name : Option (Option ℕ)) → Needs address (wants client address name)
+wants_needs : (client address : ℕ) (name : SentName) → Needs address (wants client address name)
 wants_needs client address name = record { needs = λ x e. ap (λ b. (eqb x.client client) && (is_open x.phase && b && name_agrees name x.user)) e ∙ fails x.user (eqb x.client client) (is_open x.phase) }
   where
     fails : (u : ℕ) (a b : Bool) → (a && (b && false && name_agrees name u)) ≡ false
@@ -58,10 +58,10 @@ wants_needs client address name = record { needs = λ x e. ap (λ b. (eqb x.clie
     fails u true false = refl
     fails u false b = refl
 
-pub meant_nobody : (client address : ℕ) (name : Option (Option ℕ)) (rows : List Session) → held_by address rows ≡ 0 → None ≡ meant client None (Some address) name rows
+pub meant_nobody : (client address : ℕ) (name : SentName) (rows : List Session) → held_by address rows ≡ 0 → None ≡ meant client None (Some address) name rows
 meant_nobody client address name rows h = sym (ap (option_map num) (none_held address (wants client address name) 0 (wants_needs client address name) rows h))
 
-pub meant_holder : (client address n : ℕ) (name : Option (Option ℕ)) (rows : List Session) (x : Session) (b : Bool) → find (has_number num n) rows ≡ Some x → has_address address x ≡ true → held_by address rows ≡ 1
+pub meant_holder : (client address n : ℕ) (name : SentName) (rows : List Session) (x : Session) (b : Bool) → find (has_number num n) rows ≡ Some x → has_address address x ≡ true → held_by address rows ≡ 1
     → wants client address name x ≡ b → cond b (Some x.number) None ≡ meant client None (Some address) name rows
 meant_holder client address n name rows x b at has is e =
     over b (wants client address name x) e ∙ sym (ap (option_map num) (single address (wants client address name) n (wants_needs client address name) x rows at has is))
