@@ -8,6 +8,7 @@ ghost use Rattle.rad_server.specs.Steps.{IsSealable};
 ghost use Rattle.rad_round.specs.Rounds.{arrivals_max};
 ghost use Rattle.rad_round.specs.Works.{AreAskedOf, AreOctets, AreSealed, AreVerdicts, HasOctets, IsAskIn, IsJobIn, IsJobOf, IsLaneOf, IsReady, IsSealedIn, PutsLanes, batch_count, entry_of, unasked};
 
+use crate::lanes::BATCH;
 use crate::leftovers::put_back;
 use crate::outcome::Outcome;
 use crate::timed::Timed;
@@ -18,9 +19,6 @@ use rad_packet::{Frame, Octets};
 use rad_server::{Answer, Ask, Prepared};
 use std::alloc::Global;
 use std::marker::Model;
-
-/// The most arrivals of a batch.
-pub(crate) const BATCH: usize = 8;
 
 /// The verdict on an arrival; None in a lane without one.
 pub(crate) type Verdict<'a> = Option<Result<Request<'a>, Discard>>;

@@ -4,10 +4,10 @@ ghost use Rattle.std.specs.Vec.{vec_capacity};
 ghost use Rattle.rad_round.specs.Rounds.{Round, arrivals_max};
 ghost use Rattle.rad_round.specs.Works.{AreLogged, ArePut, FitsAmong, HasFinished, HaveHandedIn, LastFit, PutsLast, TakesIn, answers_of};
 
-use crate::batch::BATCH;
+use crate::done::Done;
+use crate::lanes::BATCH;
 use crate::leftovers::Leftovers;
 use crate::outcome::Outcome;
-use crate::round::Done;
 use crate::shared::{OpenRound, Setting};
 use crate::worker::{Claimed, Parts, Worker};
 use rad_claim::ClaimSeat;

@@ -1,5 +1,5 @@
 //! Frames that a round leaves to the next one.
-use crate::batch::BATCH;
+use crate::lanes::BATCH;
 use crate::outcome::Outcome;
 use rad_packet::Frame;
 use std::alloc::{AllocError, Global};

@@ -11,8 +11,10 @@
 #![tactic(auto)]
 
 mod batch;
+mod done;
 mod gate;
 mod gather;
+mod lanes;
 mod leftovers;
 mod outcome;
 mod room;
@@ -23,9 +25,9 @@ mod shared;
 mod timed;
 mod worker;
 
+pub use done::Done;
 pub use gate::{Gate, OpenGate};
 pub use outcome::Outcome;
-pub use round::Done;
 pub use round_fault::RoundFault;
 pub use service::{ARRIVALS_MAX, Service, WORKERS_MAX};
 pub use timed::Timed;

@@ -5,10 +5,10 @@ ghost use Rattle.rad_round.specs.Rounds.{AreMoments, Round, arrivals_max};
 ghost use Rattle.rad_round.specs.Works.{HasFinished, IsIdle, IsRoomFor};
 
 use crate::batch::batch_count;
+use crate::done::Done;
 use crate::gate::Gate;
 use crate::gather::gather;
 use crate::leftovers::Leftovers;
-use crate::outcome::Outcome;
 use crate::room::Room;
 use crate::shared::{OpenRound, Setting, Shared};
 use crate::timed::Timed;
@@ -16,21 +16,12 @@ use crate::worker::Worker;
 use rad_claim::ClaimSeat;
 use rad_desk::{Locked, Opened};
 use rad_log::Logged;
-use rad_server::{Entry, Server};
+use rad_server::Server;
 use std::alloc::{AllocError, Global};
 use std::marker::{Brand, PhantomData};
 use std::sync::ledger::Share;
 use std::sync::{Mutex, Wait};
 use std::thread::{Threads, for_each_mut};
-
-/// What a round made.
-#[derive(Drop)]
-pub struct Done {
-    /// One for each arrival, in their order.
-    pub outcomes: Vec<Outcome>,
-    /// The exchanges, oldest first. The tag of an entry is the number of its arrival, counted from 0.
-    pub history: Vec<Entry>,
-}
 
 /// A round on a server that is moved in. It comes back as it is afterwards, or as it was if memory for the workers is refused, before
 /// the first exchange.

@@ -8,10 +8,11 @@ ghost use Rattle.rad_round.specs.Rounds.{AreMoments, Round, arrivals_max, worker
 ghost use Rattle.rad_round.specs.declared.round_fault.RoundFault.{RoundFault};
 
 use crate::batch::batch_count;
+use crate::done::Done;
 use crate::gate::Gate;
 use crate::leftovers::Leftovers;
 use crate::room::Room;
-use crate::round::{Done, run_round};
+use crate::round::run_round;
 use crate::round_fault::RoundFault;
 use crate::timed::Timed;
 use rad_config::Config;

@@ -5,7 +5,8 @@ ghost use Rattle.rad_server.specs.Runs.{IsHistory};
 ghost use Rattle.rad_round.specs.Rounds.{AreMoments, arrivals_max};
 ghost use Rattle.rad_round.specs.Works.{AreAskedOf, IsAskedIn, IsLogged, batch_count, entries_in, entry_of, somes, taken};
 
-use crate::batch::{BATCH, Batch};
+use crate::batch::Batch;
+use crate::lanes::BATCH;
 use crate::timed::Timed;
 use rad_claim::Claims;
 use rad_config::Config;
@@ -140,7 +141,8 @@ pub(crate) struct OpenRound<'r, 'a, 'c, L: Opened + Logged> {
 }
 
 impl<'r, 'a, 'c, L: Opened + Logged> OpenRound<'r, 'a, 'c, L> {
-    /// Asks the requests of a batch with one taking of the lock, if it has any. The share counts the entries.
+    /// Asks the requests of a batch with one taking of the lock, if it has any: to wake a thread that waits takes longer than an exchange.
+    /// The share counts the entries.
     pub fn ask<R: Wait>(
         &self,
         rt: &R,

@@ -4,8 +4,9 @@ ghost use Rattle.std.specs.Vec.{vec_capacity};
 ghost use Rattle.rad_round.specs.Rounds.{arrivals_max};
 ghost use Rattle.rad_round.specs.Works.{Adds, Answers, HasFinished, IsIdle, answers_of, taken};
 
-use crate::batch::{BATCH, Batch, check_batch, octets_in};
+use crate::batch::{Batch, check_batch, octets_in};
 use crate::gate::Gate;
+use crate::lanes::BATCH;
 use crate::leftovers::eight_frames;
 use crate::outcome::Outcome;
 use crate::shared::OpenRound;

@@ -8,11 +8,20 @@ ghost use Rattle.rad_server.specs.Decisions.{CanBeGiven, Gives, decision_answeri
 ghost use Rattle.rad_server.specs.TableStates.{AreUsable, live_state, state_for};
 
 use crate::denial::Denial;
-use crate::rule::ChallengeAnswer;
 use crate::tables::Tables;
 use rad_auth::Request;
 use rad_config::Config;
 use rad_pool::Grant;
+
+/// An answer to a challenge.
+#[derive(Clone, Copy)]
+pub(crate) struct ChallengeAnswer<'a> {
+    pub state: &'a [u8],
+    /// The place of the user whose name was sent, if there is one.
+    pub user: Option<u32>,
+    /// Whether the password that was sent is that user's answer.
+    pub is_right: bool,
+}
 
 /// A session that the rule grants.
 #[derive(Clone, Copy)]

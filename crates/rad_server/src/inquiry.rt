@@ -8,11 +8,12 @@ ghost use Rattle.rad_server.specs.Access.{answer_matches};
 ghost use Rattle.rad_server.specs.Prepared.{IsInquiry, denied, wanted_of};
 ghost use Rattle.rad_server.specs.SentCredentials.{IsSent, sent_password_of};
 
+use crate::access::ChallengeAnswer;
 use crate::change::{Change, reported_change};
 use crate::credentials::{Credentials, SentPassword};
 use crate::denial::Denial;
 use crate::fixed_reply::FixedReply;
-use crate::rule::{ChallengeAnswer, Rule};
+use crate::rule::Rule;
 use rad_auth::{ChapResponse, Door, HiddenPassword, PasswordCheck, Request};
 use rad_config::{Config, User};
 use rad_packet::code::STATUS_SERVER;

@@ -2,19 +2,10 @@
 ghost use Rattle.std.specs.Prelude.{◌≡◌};
 ghost use Rattle.rad_server.specs.Prepared.{fixed_reply};
 
+use crate::access::ChallengeAnswer;
 use crate::change::Change;
 use crate::fixed_reply::FixedReply;
 use rad_auth::Door;
-
-/// An answer to a challenge.
-#[derive(Clone, Copy)]
-pub(crate) struct ChallengeAnswer<'a> {
-    pub state: &'a [u8],
-    /// The place of the user whose name was sent, if there is one.
-    pub user: Option<u32>,
-    /// Whether the password that was sent is that user's answer.
-    pub is_right: bool,
-}
 
 /// The rule by which a request that is no Status-Server is answered.
 #[derive(Clone, Copy)]

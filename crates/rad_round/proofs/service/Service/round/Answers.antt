@@ -1,7 +1,7 @@
 use Rattle.std.proofs.Common.{Result, Ok, Err, IfOk, subst}
 use Rattle.rad_server.specs.Runs.{IsLawfulThroughout}
 use Rattle.rad_round.proofs.service.Service.round.Goals as goal
-use Rattle.rad_round.specs.declared.round.Done.{Done}
+use Rattle.rad_round.specs.declared.done.Done.{Done}
 use Rattle.rad_round.specs.declared.round_fault.RoundFault.{RoundFault}
 
 -- what holds of everything holds of what a call returned
