@@ -1,4 +1,4 @@
--- What one walk over the attributes of an Accounting-Request found. No other crate cites these.
+-- The numbers in Values, and what one walk over the attributes of an Accounting-Request found.
 use Rattle.std.specs.Prelude.{◌≡◌, ℕ, ◌==◌, ◌&&◌, if◌then◌else◌, List, length, drop, take, Option, Some, None, option_copied}
 use Rattle.std.specs.Int.{w32, w64, from_be_bytes}
 use Rattle.std.specs.Option.{option_or}

@@ -1,5 +1,5 @@
 //! What an Accounting-Request reports of a session.
-ghost use Rattle.std.specs.Prelude.{◌≡◌, option_copied};
+ghost use Rattle.std.specs.Prelude.{◌≡◌};
 ghost use Rattle.rad_packet.specs.AttributeViews.{attribute_of};
 ghost use Rattle.rad_server.specs.Reports.{AreReportAttributes, IsOneMoreReported, class_number_of, integer_of};
 
@@ -7,19 +7,19 @@ use rad_packet::attribute::{ACCT_STATUS_TYPE, CLASS, FRAMED_IP_ADDRESS, USER_NAM
 use rad_packet::{Attribute, Attributes};
 
 /// The Acct-Status-Type of a Start (RFC 2866, section 5.1).
-pub(crate) const START: u32 = 1;
+pub const START: u32 = 1;
 
 /// The Acct-Status-Type of a Stop.
-pub(crate) const STOP: u32 = 2;
+pub const STOP: u32 = 2;
 
 /// The Acct-Status-Type of an Interim-Update.
-pub(crate) const INTERIM_UPDATE: u32 = 3;
+pub const INTERIM_UPDATE: u32 = 3;
 
 /// The Acct-Status-Type of an Accounting-On.
-pub(crate) const ACCOUNTING_ON: u32 = 7;
+pub const ACCOUNTING_ON: u32 = 7;
 
 /// The Acct-Status-Type of an Accounting-Off.
-pub(crate) const ACCOUNTING_OFF: u32 = 8;
+pub const ACCOUNTING_OFF: u32 = 8;
 
 /// What the attributes of an Accounting-Request say of the session that it means.
 #[derive(Clone, Copy)]
@@ -67,8 +67,8 @@ impl<'a> Report<'a> {
     }
 }
 
-// The integer that a Value of four octets is.
-fn integer_of(value: &[u8]) -> Option<u32>
+/// The integer that a Value of four octets is, most significant octet first; none of any other Value (RFC 2865, section 5).
+pub fn integer_of(value: &[u8]) -> Option<u32>
     ensures { result ≡ integer_of value.now }
 {
     let [a, b, c, d] = value else {
@@ -77,8 +77,8 @@ fn integer_of(value: &[u8]) -> Option<u32>
     Some(u32::from_be_bytes([*a, *b, *c, *d]))
 }
 
-// The number that a session's Class has.
-fn class_number_of(value: &[u8]) -> Option<u64>
+/// The number in the Class of a session, which is `RAP1` and the number in 8 octets, most significant first; none in any other.
+pub fn class_number_of(value: &[u8]) -> Option<u64>
     ensures { result ≡ class_number_of value.now }
 {
     let [b'R', b'A', b'P', b'1', a, b, c, d, e, f, g, h] = value else {

@@ -34,6 +34,9 @@ mod runs;
 mod server;
 mod tables;
 
+pub use accounting::{
+    ACCOUNTING_OFF, ACCOUNTING_ON, INTERIM_UPDATE, START, STOP, class_number_of, integer_of,
+};
 pub use answer::Answer;
 pub use ask::Ask;
 pub use book::Book;

@@ -6,6 +6,9 @@ use rad_config::Config;
 use rad_packet::Packet;
 use rad_packet::attribute::{ACCT_STATUS_TYPE, CLASS, FRAMED_IP_ADDRESS, REPLY_MESSAGE, USER_NAME};
 use rad_packet::code::{ACCESS_ACCEPT, ACCESS_CHALLENGE, ACCESS_REJECT, STATUS_SERVER};
+use rad_server::{
+    ACCOUNTING_OFF, ACCOUNTING_ON, INTERIM_UPDATE, START, STOP, class_number_of, integer_of,
+};
 use rad_shell::Outcome;
 
 /// An event of a turn: what it is, and what is known of it.
@@ -133,12 +136,12 @@ fn of_packets<'t>(request: &Packet<'t>, reply: &Packet<'t>) -> Event<'t> {
     }
 }
 
-// An event of the session that a packet names.
+// An event of the session that a packet names. A function of another crate can't be passed by its name.
 fn of_session<'t>(kind: Kind, packet: &Packet<'t>) -> Event<'t> {
     Event {
         address: packet
             .first_of_len(FRAMED_IP_ADDRESS, 4)
-            .and_then(integer_of),
+            .and_then(|value| integer_of(value)),
         session: session_of(packet),
         ..Event::of(kind)
     }
@@ -161,28 +164,13 @@ fn session_of(packet: &Packet) -> Option<u64> {
 fn reported(request: &Packet) -> Kind {
     match request
         .first_of_len(ACCT_STATUS_TYPE, 4)
-        .and_then(integer_of)
+        .and_then(|value| integer_of(value))
     {
-        Some(1) => Kind::Start,
-        Some(2) => Kind::Stop,
-        Some(3) => Kind::Interim,
-        Some(7) => Kind::On,
-        Some(8) => Kind::Off,
+        Some(START) => Kind::Start,
+        Some(STOP) => Kind::Stop,
+        Some(INTERIM_UPDATE) => Kind::Interim,
+        Some(ACCOUNTING_ON) => Kind::On,
+        Some(ACCOUNTING_OFF) => Kind::Off,
         _ => Kind::Accounting,
     }
-}
-
-fn integer_of(value: &[u8]) -> Option<u32> {
-    let [a, b, c, d] = value else {
-        return None;
-    };
-    Some(u32::from_be_bytes([*a, *b, *c, *d]))
-}
-
-// The number of the session that has this Class.
-fn class_number_of(value: &[u8]) -> Option<u64> {
-    let [b'R', b'A', b'P', b'1', a, b, c, d, e, f, g, h] = value else {
-        return None;
-    };
-    Some(u64::from_be_bytes([*a, *b, *c, *d, *e, *f, *g, *h]))
 }

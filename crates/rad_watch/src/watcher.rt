@@ -34,8 +34,6 @@ pub struct Watcher {
     lines: Vec<u8>,
     // The second that lines are counted of, by the clock of moments.
     second: Option<u64>,
-    // The failures of the ports that were told.
-    failures: u64,
     // When it was opened.
     start: Now,
 }
@@ -58,7 +56,6 @@ impl Watcher {
             last_look: LastLook::new(alloc),
             lines: Vec::new(alloc),
             second: None,
-            failures: 0,
             start,
         })
     }
@@ -183,8 +180,7 @@ impl Watcher {
 
     // Counts the failures of the ports since the last turn.
     fn count_failures(&mut self, faults: u64, now: Now) {
-        let more = faults.saturating_sub(self.failures);
-        self.failures = faults;
+        let more = faults.saturating_sub(self.sums.failures);
         self.sums.failures = faults;
         if more > 0 {
             self.tell_count(Kind::Failure, None, more, now);
