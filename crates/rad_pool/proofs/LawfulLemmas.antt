@@ -15,8 +15,8 @@ use Rattle.rad_config.specs.Configurations.{Configuration}
 use Rattle.rad_config.specs.declared.pool.Pool.{Pool}
 use Rattle.rad_config.specs.declared.spans.Spans.{Spans}
 use Rattle.rad_pool.specs.Grants.{address_from, granted, has_address, is_held, last_number, least_free, open_sessions, pool_of, session_limit, with_session}
-use Rattle.rad_pool.specs.Lawful.{HaveOwnAddresses, IsInPool, IsLawful, IsLawfulSession, IsNumberedBefore}
-use Rattle.rad_pool.specs.Sessions.{Table, cut, if_numbered, is_live, is_open, opening, renewed, session_ended, session_renewed, session_reset, sessions_max, source_reset, stopped, with_each}
+use Rattle.rad_pool.specs.Lawful.{HaveOwnAddresses, IsInPool, IsLawful, IsLawfulSession}
+use Rattle.rad_pool.specs.Sessions.{Sessions, cut, if_numbered, is_live, is_open, opening, renewed, session_ended, session_renewed, session_reset, sessions_max, source_reset, stopped, with_each}
 use Rattle.rad_pool.specs.declared.grant.Grant.{Grant}
 use Rattle.rad_pool.specs.declared.grant.Refusal.{Refusal}
 use Rattle.rad_pool.specs.declared.grant.Refusal.TheVariants.{SessionLimit, NoAddress, Full}
@@ -96,7 +96,7 @@ opening_is_lawful configuration clock spans = record {
 
 -- ---- time
 
-pub later_is_lawful : (configuration : Configuration) (clock now : ℕ) (table : Table) → clock ≤ now → IsLawful configuration clock table
+pub later_is_lawful : (configuration : Configuration) (clock now : ℕ) (table : Sessions) → clock ≤ now → IsLawful configuration clock table
     → IsLawful configuration now table
 later_is_lawful configuration clock now table later lawful = record {
   next = lawful.next;
@@ -113,7 +113,7 @@ later_is_lawful configuration clock now table later lawful = record {
   }) table.sessions lawful.sessions;
 }
 
-pub cut_is_lawful : (configuration : Configuration) (now : ℕ) (table : Table) → IsLawful configuration now table
+pub cut_is_lawful : (configuration : Configuration) (now : ℕ) (table : Sessions) → IsLawful configuration now table
     → IsLawful configuration now (cut now table)
 cut_is_lawful configuration now table lawful =
     let live : Session → Bool = is_live table.spans now in
@@ -121,7 +121,7 @@ cut_is_lawful configuration now table lawful =
     record {
       next = lawful.next;
       few = omega (arith, length-filter live sessions, count_by-le-length live sessions, lawful.few);
-      rising = AllPairs-filter IsNumberedBefore live sessions lawful.rising;
+      rising = AllPairs-filter (λ (earlier later : Session). earlier.number < later.number) live sessions lawful.rising;
       sessions = All-filter live (IsLawfulSession configuration now table.next) sessions lawful.sessions;
       limits = λ user.
           omega (arith, lawful.limits user, count_by-filter-le (λ session. (session.user == user) && is_open session.phase) live sessions);
@@ -152,14 +152,14 @@ address_is_free sessions (Some pool) address is = by_search (least_free sessions
         subst (λ o. IfSome o (λ a. IsInPool (Some pool) a × (is_held sessions a ≡ false))) same ((low, omega arith), free)
 
 -- what a grant says of the table
-record AllowsGrant (configuration : Configuration) (user : ℕ) (table : Table) (grant : Grant) : Type 0 where
+record AllowsGrant (configuration : Configuration) (user : ℕ) (table : Sessions) (grant : Grant) : Type 0 where
   below : open_sessions user table.sessions < session_limit configuration user
   address : address_from table.sessions (pool_of configuration user) ≡ Ok grant.address
   few : length table.sessions < sessions_max
   last : table.next ≤ last_number
   number : grant.number ≡ table.next
 
-granted_says : (configuration : Configuration) (user : ℕ) (table : Table) (grant : Grant) → granted configuration user table ≡ Ok grant
+granted_says : (configuration : Configuration) (user : ℕ) (table : Sessions) (grant : Grant) → granted configuration user table ≡ Ok grant
     → AllowsGrant configuration user table grant
 unfolding granted
 granted_says configuration user table grant is =
@@ -185,7 +185,7 @@ granted_says configuration user table grant is =
     }
 
 -- a session that is granted is lawful by itself
-new_is_lawful : (configuration : Configuration) (client source user now : ℕ) (grant : Grant) (table : Table)
+new_is_lawful : (configuration : Configuration) (client source user now : ℕ) (grant : Grant) (table : Sessions)
     → client < length configuration.clients → user < length configuration.users → AllowsGrant configuration user table grant → 1 ≤ table.next
     → IsLawfulSession configuration now (table.next + 1) (record {
       number = grant.number;
@@ -253,7 +253,7 @@ addresses_with_session sessions new own free one other address there here is sam
     by_cases (inr first) (inl second) = absurd (is_free other second same (ap (λ s. s.address) first ∙ is))
     by_cases (inr first) (inr second) = ap (λ s. s.number) (sym first ∙ second)
 
-pub with_session_is_lawful : (configuration : Configuration) (client source user now : ℕ) (grant : Grant) (table : Table)
+pub with_session_is_lawful : (configuration : Configuration) (client source user now : ℕ) (grant : Grant) (table : Sessions)
     → client < length configuration.clients → user < length configuration.users → granted configuration user table ≡ Ok grant
     → IsLawful configuration now table → IsLawful configuration now (with_session client source user now grant table)
 with_session_is_lawful configuration client source user now grant table known_client known_user is lawful =
@@ -264,7 +264,7 @@ with_session_is_lawful configuration client source user now grant table known_cl
     record {
       next = (omega arith, omega (arith, facts.last));
       few = omega (arith, length_push sessions new, facts.few);
-      rising = all_pairs_push IsNumberedBefore sessions new lawful.rising (λ k d within. omega (arith, (lawful.sessions k d within).number.1, facts.number));
+      rising = all_pairs_push (λ (earlier later : Session). earlier.number < later.number) sessions new lawful.rising (λ k d within. omega (arith, (lawful.sessions k d within).number.1, facts.number));
       sessions = All-push (IsLawfulSession configuration now (table.next + 1)) sessions new
           (All-weaker (IsLawfulSession configuration now table.next) (IsLawfulSession configuration now (table.next + 1)) (λ session known. record {
             number = (known.number.0, omega (arith, known.number.1));
@@ -349,7 +349,7 @@ number_at change keeps sessions k d within =
     ap (λ s. s.number) (get_or-map change sessions k d d within) ∙ keeps (get_or sessions k d)
 
 change_is_lawful : (configuration : Configuration) (clock : ℕ) (change : Session → Session) → IsLawfulChange configuration clock change
-    → (table : Table) → IsLawful configuration clock table → IsLawful configuration clock (with_each change table)
+    → (table : Sessions) → IsLawful configuration clock table → IsLawful configuration clock (with_each change table)
 change_is_lawful configuration clock change changes table lawful =
     let sessions : List Session = table.sessions in
     record {
@@ -376,19 +376,19 @@ change_is_lawful configuration clock change changes table lawful =
           one_is ∙ lawful.addresses first.0 second.0 address first.1 second.1 held held_too ∙ sym other_is;
     }
 
-pub renewed_is_lawful : (configuration : Configuration) (clock number : ℕ) (table : Table) → IsLawful configuration clock table
+pub renewed_is_lawful : (configuration : Configuration) (clock number : ℕ) (table : Sessions) → IsLawful configuration clock table
     → IsLawful configuration clock (renewed number clock table)
 renewed_is_lawful configuration clock number table lawful =
     change_is_lawful configuration clock (if_numbered (session_renewed clock) number)
     (chosen configuration clock (λ session. session.number == number) (session_renewed clock) (renewal_is_lawful configuration clock)) table lawful
 
-pub stopped_is_lawful : (configuration : Configuration) (clock number : ℕ) (table : Table) → IsLawful configuration clock table
+pub stopped_is_lawful : (configuration : Configuration) (clock number : ℕ) (table : Sessions) → IsLawful configuration clock table
     → IsLawful configuration clock (stopped number table)
 stopped_is_lawful configuration clock number table lawful =
     change_is_lawful configuration clock (if_numbered session_ended number)
     (chosen configuration clock (λ session. session.number == number) session_ended (end_is_lawful configuration clock)) table lawful
 
-pub reset_is_lawful : (configuration : Configuration) (clock source : ℕ) (table : Table) → IsLawful configuration clock table
+pub reset_is_lawful : (configuration : Configuration) (clock source : ℕ) (table : Sessions) → IsLawful configuration clock table
     → IsLawful configuration clock (source_reset source table)
 reset_is_lawful configuration clock source table lawful =
     change_is_lawful configuration clock (session_reset source)

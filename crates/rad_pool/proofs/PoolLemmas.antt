@@ -2,7 +2,7 @@ use Rattle.std.proofs.Common.{◌≡◌, ℕ, zero, suc, ◌+◌, Bool, true, fa
 use Rattle.std.specs.List.{range_with_len}
 use Rattle.rad_config.specs.declared.spans.Spans.{Spans}
 use Rattle.rad_pool.specs.declared.session.Session.{Session}
-use Rattle.rad_pool.specs.Sessions.{Table, cut, is_live, live_sessions}
+use Rattle.rad_pool.specs.Sessions.{Sessions, cut, is_live, live_sessions}
 
 -- past a number that doesn't fit, the first that fits is the same
 pub first_past : (fits : ℕ → Bool) (a b n m : ℕ) (first : Option ℕ) → a + 1 ≡ b → n ≡ m + 1 → fits a ≡ false
@@ -25,7 +25,7 @@ filter_twice p (x ∷ xs) = by_test p x xs (p x) refl (filter_twice p xs)
 
 -- a moment once more changes nothing
 pub settled_is : (spans spans' : Spans) (now next : ℕ) (rows left : List Session) → left ≡ live_sessions spans now rows → spans' ≡ spans
-    → ◌≡◌ {A = Table} (cut now (record { sessions = left; next = next; spans = spans' })) (record { sessions = left; next = next; spans = spans' })
+    → ◌≡◌ {A = Sessions} (cut now (record { sessions = left; next = next; spans = spans' })) (record { sessions = left; next = next; spans = spans' })
 settled_is spans spans' now next rows left is same =
     let twice : live_sessions spans' now left ≡ left =
     ap (λ s. live_sessions s now left) same ∙ ap (live_sessions spans now) is ∙ filter_twice (is_live spans now) rows ∙ sym is in

@@ -6,7 +6,7 @@
 //! Accounting-Request names one.
 //!
 //! Other crates rest on this: what each call does to the list is what `specs/Sessions.antt`, `specs/Grants.antt` and
-//! `specs/Meant.antt` say. `lawful_tables` says what these calls keep true of a lawful table (`specs/Lawful.antt`).
+//! `specs/Meant.antt` say. `lawful_sessions` says what these calls keep true of a lawful table (`specs/Lawful.antt`).
 //!
 //! `rad_rows` has the sessions under their numbers. How many open sessions a user has and which addresses are in use is counted
 //! beside it, with `rad_places`. Both are known to this crate alone.
@@ -26,6 +26,6 @@ mod users;
 mod walk;
 
 pub use grant::{Grant, Refusal};
-pub use lawful::lawful_tables;
+pub use lawful::lawful_sessions;
 pub use session::{Phase, Session};
 pub use sessions::{Rows, SESSIONS_MAX, Sessions};

@@ -10,7 +10,7 @@ use Rattle.rad_rows.specs.Rows.{has_number, has_other}
 use Rattle.rad_rows.specs.Rows.{IsBefore, IsGiven}
 use Rattle.rad_rows.proofs.OrderLemmas.{IsAfter, rest_after, rising_rest}
 use Rattle.rad_recent.specs.declared.challenge.Challenge.{Challenge}
-use Rattle.rad_recent.specs.Challenges.{Waiting, cut_challenges, has_state, is_challenge_live, state_value}
+use Rattle.rad_recent.specs.Challenges.{Challenges, cut_challenges, has_state, is_challenge_live, state_value}
 use Rattle.rad_recent.proofs.FindLemmas.{Means, both, find_false, find_filter, find_none, find_true, found_holds, none_passes}
 use Rattle.rad_recent.proofs.RecentLemmas.{filter_twice, filter_within}
 
@@ -130,7 +130,7 @@ removed_is value client last x rows rising given fits at =
 
 -- a moment once more changes nothing
 pub settled_is : (hold hold' now next : ℕ) (rows left : List Challenge) → left ≡ filter (is_challenge_live hold now) rows → hold' ≡ hold
-    → ◌≡◌ {A = Waiting} (cut_challenges now (record { challenges = left; next = next; hold = hold' })) (record { challenges = left; next = next; hold = hold' })
+    → ◌≡◌ {A = Challenges} (cut_challenges now (record { challenges = left; next = next; hold = hold' })) (record { challenges = left; next = next; hold = hold' })
 settled_is hold hold' now next rows left is same =
     let twice : filter (is_challenge_live hold' now) left ≡ left =
     ap (λ h. filter (is_challenge_live h now) left) same ∙ ap (filter (is_challenge_live hold now)) is ∙ filter_twice (is_challenge_live hold now) rows ∙ sym is in
@@ -138,7 +138,7 @@ settled_is hold hold' now next rows left is same =
 
 -- the same without the one that was answered
 pub taken_is : (hold hold' hold'' now next : ℕ) (q : Challenge → Bool) (rows left new : List Challenge) → left ≡ filter (is_challenge_live hold now) rows → hold' ≡ hold → hold'' ≡ hold' → new ≡ filter (λ c. not (q c)) left
-    → ◌≡◌ {A = Waiting} (cut_challenges now (record { challenges = new; next = next; hold = hold'' })) (record { challenges = new; next = next; hold = hold'' })
+    → ◌≡◌ {A = Challenges} (cut_challenges now (record { challenges = new; next = next; hold = hold'' })) (record { challenges = new; next = next; hold = hold'' })
 taken_is hold hold' hold'' now next q rows left new is one two without =
     let live = is_challenge_live hold now in
     let other : Challenge → Bool = λ c. not (q c) in

@@ -7,9 +7,9 @@ use Rattle.std.proofs.lemmas.List.Elements.{All-filter, All-nil, All-push, All-w
 use Rattle.std.proofs.lemmas.List.Kept.{AllPairs-filter}
 use Rattle.std.proofs.lemmas.List.Quantifiers.{all_pairs_push}
 use Rattle.std.proofs.lemmas.List.Sums.{count_by-le-length, length-filter}
-use Rattle.rad_recent.specs.Challenges.{Waiting, challenges_max, cut_challenges, has_state, is_challenge_live, last_challenge, next_number, with_challenge, without_answered}
+use Rattle.rad_recent.specs.Challenges.{Challenges, challenges_max, cut_challenges, has_state, is_challenge_live, last_challenge, next_number, with_challenge, without_answered}
 use Rattle.rad_recent.specs.Challenges as challenges
-use Rattle.rad_recent.specs.Lawful.{AreLawfulChallenges, AreLawfulReplies, HaveDifferentKeys, IsLawfulChallenge, IsNumberedBefore}
+use Rattle.rad_recent.specs.Lawful.{AreLawfulChallenges, AreLawfulReplies, HaveDifferentKeys, IsLawfulChallenge}
 use Rattle.rad_recent.specs.Recent.{Replies, cut_replies, is_full, is_reply_live, kept_max, same_key, with_reply, without_key}
 use Rattle.rad_recent.specs.Recent as replies
 use Rattle.rad_recent.specs.declared.challenge.Challenge.{Challenge}
@@ -83,12 +83,12 @@ no_challenges clock hold = record {
 }
 
 -- some of them go
-challenges_left : (clock : ℕ) (stays : Challenge → Bool) (table : Waiting) → AreLawfulChallenges clock table
+challenges_left : (clock : ℕ) (stays : Challenge → Bool) (table : Challenges) → AreLawfulChallenges clock table
     → AreLawfulChallenges clock (record table { challenges = filter stays table.challenges })
 challenges_left clock stays table lawful = record {
   next = lawful.next;
   few = omega (arith, length-filter stays table.challenges, count_by-le-length stays table.challenges, lawful.few);
-  rising = AllPairs-filter IsNumberedBefore stays table.challenges lawful.rising;
+  rising = AllPairs-filter (λ (earlier later : Challenge). earlier.number < later.number) stays table.challenges lawful.rising;
   each = All-filter stays (IsLawfulChallenge clock table.next) table.challenges lawful.each;
 }
 
@@ -101,7 +101,7 @@ challenge_later clock now next beyond later further challenge known = record {
 }
 
 -- the clock goes on, and those that are no longer live go
-pub live_challenges : (clock now : ℕ) (table : Waiting) → clock ≤ now → AreLawfulChallenges clock table
+pub live_challenges : (clock now : ℕ) (table : Challenges) → clock ≤ now → AreLawfulChallenges clock table
     → AreLawfulChallenges now (cut_challenges now table)
 live_challenges clock now table later lawful = challenges_left now (is_challenge_live table.hold now) table (record {
   next = lawful.next;
@@ -112,17 +112,17 @@ live_challenges clock now table later lawful = challenges_left now (is_challenge
 })
 
 -- the one that is answered goes
-pub other_challenges : (clock client : ℕ) (value : List ℕ) (table : Waiting) → AreLawfulChallenges clock table
+pub other_challenges : (clock client : ℕ) (value : List ℕ) (table : Challenges) → AreLawfulChallenges clock table
     → AreLawfulChallenges clock (without_answered value client table)
 other_challenges clock client value = challenges_left clock (λ challenge. not (has_state value client challenge))
 
 -- one more may wait, and there is a number for it
-record HasRoom (table : Waiting) : Type 0 where
+record HasRoom (table : Challenges) : Type 0 where
   few : length table.challenges < challenges_max
   last : table.next ≤ last_challenge
 
 -- a number is given only where there is room
-next_number_says : (table : Waiting) → IsOk (next_number table) → HasRoom table
+next_number_says : (table : Challenges) → IsOk (next_number table) → HasRoom table
 unfolding next_number
 next_number_says table is = at (nat_le challenges_max (length table.challenges)) (nat_le table.next last_challenge) refl refl is
   where
@@ -136,7 +136,7 @@ next_number_says table is = at (nat_le challenges_max (length table.challenges))
     }
 
 -- one more waits
-pub more_challenges : (client user now : ℕ) (draw : List ℕ) (table : Waiting) → IsOk (next_number table) → AreLawfulChallenges now table
+pub more_challenges : (client user now : ℕ) (draw : List ℕ) (table : Challenges) → IsOk (next_number table) → AreLawfulChallenges now table
     → AreLawfulChallenges now (with_challenge client user draw now table)
 more_challenges client user now draw table given lawful =
     let challenges : List Challenge = table.challenges in
@@ -147,7 +147,7 @@ more_challenges client user now draw table given lawful =
     record {
       next = (omega arith, omega (arith, room.last));
       few = omega (arith, length_push challenges new, room.few);
-      rising = all_pairs_push IsNumberedBefore challenges new lawful.rising (λ k d within. (lawful.each k d within).number.1);
+      rising = all_pairs_push (λ (earlier later : Challenge). earlier.number < later.number) challenges new lawful.rising (λ k d within. (lawful.each k d within).number.1);
       each = All-push (IsLawfulChallenge now (next + 1)) challenges new
           (All-weaker (IsLawfulChallenge now next) (IsLawfulChallenge now (next + 1))
           (challenge_later now now next (next + 1) (omega arith) (omega arith)) challenges lawful.each)

@@ -2,7 +2,7 @@
 -- where there is room, while moments don't fall. `lawful_replies` and `lawful_challenges` say so.
 use Rattle.std.specs.Prelude.{◌≡◌, ℕ, ◌+◌, ◌≤◌, ◌<◌, false, List, length, All, AllPairs, IsOk}
 use Rattle.std.specs.Int.{IsInRange}
-use Rattle.rad_recent.specs.Challenges.{Waiting, challenges_max, cut_challenges, last_challenge, next_number, with_challenge, without_answered}
+use Rattle.rad_recent.specs.Challenges.{Challenges, challenges_max, cut_challenges, last_challenge, next_number, with_challenge, without_answered}
 use Rattle.rad_recent.specs.Challenges as challenges
 use Rattle.rad_recent.specs.Recent.{Replies, cut_replies, is_full, kept_max, same_key, with_reply, without_key}
 use Rattle.rad_recent.specs.Recent as replies
@@ -34,18 +34,14 @@ pub record IsLawfulChallenge (clock next : ℕ) (challenge : Challenge) : Type 0
   -- it was not made after the clock
   pub made : challenge.made ≤ clock
 
--- the earlier of two challenges has the smaller number
-abbrev pub IsNumberedBefore : Challenge → Challenge → Type 0
-IsNumberedBefore earlier later = earlier.number < later.number
-
 -- what holds of the challenges when the clock shows a moment
-pub record AreLawfulChallenges (clock : ℕ) (table : Waiting) : Type 0 where
+pub record AreLawfulChallenges (clock : ℕ) (table : Challenges) : Type 0 where
   -- the next number counts from 1; after the last number there is only one more
   pub next : IsInRange 1 (last_challenge + 1) table.next
   -- there are no more than there may be
   pub few : length table.challenges ≤ challenges_max
   -- numbers rise along the list, so no two challenges have the same
-  pub rising : AllPairs IsNumberedBefore table.challenges
+  pub rising : AllPairs (λ (earlier later : Challenge). earlier.number < later.number) table.challenges
   -- each is lawful
   pub each : All (IsLawfulChallenge clock table.next) table.challenges
 
@@ -76,14 +72,14 @@ OpeningChallengesAreLawful = (clock hold : ℕ) → AreLawfulChallenges clock (c
 
 -- moments don't fall
 abbrev pub ExpiryLeavesLawfulChallenges : Type 0
-ExpiryLeavesLawfulChallenges = (clock now : ℕ) (table : Waiting) → clock ≤ now
+ExpiryLeavesLawfulChallenges = (clock now : ℕ) (table : Challenges) → clock ≤ now
     → AreLawfulChallenges clock table → AreLawfulChallenges now (cut_challenges now table)
 
 abbrev pub AnswerLeavesLawfulChallenges : Type 0
-AnswerLeavesLawfulChallenges = (clock client : ℕ) (value : List ℕ) (table : Waiting)
+AnswerLeavesLawfulChallenges = (clock client : ℕ) (value : List ℕ) (table : Challenges)
     → AreLawfulChallenges clock table → AreLawfulChallenges clock (without_answered value client table)
 
 -- one more challenge may wait, and there is a number for it
 abbrev pub IssueLeavesLawfulChallenges : Type 0
-IssueLeavesLawfulChallenges = (client user now : ℕ) (draw : List ℕ) (table : Waiting) → IsOk (next_number table)
+IssueLeavesLawfulChallenges = (client user now : ℕ) (draw : List ℕ) (table : Challenges) → IsOk (next_number table)
     → AreLawfulChallenges now table → AreLawfulChallenges now (with_challenge client user draw now table)

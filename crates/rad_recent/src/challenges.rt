@@ -37,9 +37,9 @@ pub struct Challenges {
 
 impl Model for Challenges {
     ghost use Rattle.std.specs.Prelude.{◌+◌};
-    ghost use Rattle.rad_recent.specs.Challenges.{SeenWaiting};
+    ghost use Rattle.rad_recent.specs.Challenges.{SeenChallenges};
 
-    ghost Value = { SeenWaiting };
+    ghost Value = { SeenChallenges };
 
     ghost view = { λ challenges. record {
       table = record {

@@ -1,5 +1,5 @@
 //! Rows of kept replies, and the index that finds them.
-ghost use Rattle.std.specs.Prelude.{◌≡◌, ◌≤◌, ◌&&◌, ◌++◌, ◌∷◌, [], All, false, filter, find, length, not, option_copied, option_map, IsOk, IsSome, None, OnErr, OnOk, Some};
+ghost use Rattle.std.specs.Prelude.{◌≡◌, ◌≤◌, ◌&&◌, ◌++◌, ◌∷◌, [], All, false, filter, find, not, option_copied, option_map, IsOk, IsSome, None, OnErr, OnOk, Some};
 ghost use Rattle.rad_config.specs.Spans.{moment_max};
 ghost use Rattle.rad_recent.specs.Index.{HoldsIndex, IsIndexed, is_row_live, replies_of};
 ghost use Rattle.rad_recent.specs.Numbers.{number_at};

@@ -8,7 +8,7 @@ use Rattle.rad_packet.specs.Packets.{Packet}
 use Rattle.rad_config.specs.declared.spans.Spans.{Spans}
 use Rattle.rad_config.specs.declared.user.User.{User}
 use Rattle.rad_pool.specs.Grants.{with_session}
-use Rattle.rad_pool.specs.Sessions.{Table, cut, if_numbered, is_live, is_open, lasts_unless_stale, lives, renewed, session_ended, session_renewed, session_reset, source_reset, stopped, with_each}
+use Rattle.rad_pool.specs.Sessions.{Sessions, cut, if_numbered, is_live, is_open, lasts_unless_stale, lives, renewed, session_ended, session_renewed, session_reset, source_reset, stopped, with_each}
 use Rattle.rad_pool.specs.declared.grant.Grant.{Grant}
 use Rattle.rad_pool.specs.declared.session.Phase.{Phase}
 use Rattle.rad_pool.specs.declared.session.Phase.TheVariants.{Pending, Active, Ended}
@@ -133,11 +133,11 @@ pub record IsStill (session other : Session) : Type 0 where
   pub made : other.made ≡ session.made
 
 -- each session of a table is still in another
-abbrev pub KeepsSessions : Table → Table → Type 0
+abbrev pub KeepsSessions : Sessions → Sessions → Type 0
 KeepsSessions old new = (session : Session) → Contains old.sessions session → (other : Session) × Contains new.sessions other × IsStill session other
 
 -- a reply has its session while sessions are kept
-pub still_has : (old new : Table) (body : Body) (made : ℕ) → KeepsSessions old new → HasItsSession old body made → HasItsSession new body made
+pub still_has : (old new : Sessions) (body : Body) (made : ℕ) → KeepsSessions old new → HasItsSession old body made → HasItsSession new body made
 still_has old new body made keeps has accept value gives =
     let found = has accept value gives in
     let still = keeps found.0 found.1 in (
@@ -151,7 +151,7 @@ still_has old new body made keeps has accept value gives =
     )
 
 -- a grant and each report keep sessions
-pub grant_keeps : (client source user now : ℕ) (grant : Grant) (table : Table) → KeepsSessions table (with_session client source user now grant table)
+pub grant_keeps : (client source user now : ℕ) (grant : Grant) (table : Sessions) → KeepsSessions table (with_session client source user now grant table)
 grant_keeps client source user now grant table = λ session there.
     (session, Contains-append_left table.sessions _ session there, record { number = refl; address = refl; made = refl })
 
@@ -160,14 +160,14 @@ either_is_still : (b : Bool) (session changed : Session) → IsStill session cha
 either_is_still true session changed is = is
 either_is_still false session changed is = record { number = refl; address = refl; made = refl }
 
-each_keeps : (change : Session → Session) → ((session : Session) → IsStill session (change session)) → (table : Table) → KeepsSessions table (with_each change table)
+each_keeps : (change : Session → Session) → ((session : Session) → IsStill session (change session)) → (table : Sessions) → KeepsSessions table (with_each change table)
 each_keeps change is_still table = λ session there. (
   change session,
   All-contains (λ s. Contains (map change table.sessions) (change s)) table.sessions session (contains_mapped change table.sessions) there,
   is_still session,
 )
 
-pub renewal_keeps : (number now : ℕ) (table : Table) → KeepsSessions table (renewed number now table)
+pub renewal_keeps : (number now : ℕ) (table : Sessions) → KeepsSessions table (renewed number now table)
 renewal_keeps number now table =
     each_keeps (if_numbered (session_renewed now) number)
     (λ session. either_is_still (eqb session.number number) session (session_renewed now session)
@@ -176,11 +176,11 @@ renewal_keeps number now table =
 end_is_still : (session : Session) → IsStill session (session_ended session)
 end_is_still session = record { number = refl; address = refl; made = refl }
 
-pub stop_keeps : (number : ℕ) (table : Table) → KeepsSessions table (stopped number table)
+pub stop_keeps : (number : ℕ) (table : Sessions) → KeepsSessions table (stopped number table)
 stop_keeps number table =
     each_keeps (if_numbered session_ended number) (λ session. either_is_still (eqb session.number number) session (session_ended session) (end_is_still session)) table
 
-pub reset_keeps : (source : ℕ) (table : Table) → KeepsSessions table (source_reset source table)
+pub reset_keeps : (source : ℕ) (table : Sessions) → KeepsSessions table (source_reset source table)
 reset_keeps source table =
     each_keeps (session_reset source) (λ session. either_is_still (eqb session.source source) session (session_ended session) (end_is_still session)) table
 
@@ -204,7 +204,7 @@ pub record WasSeen (session : Session) : Type 0 where
   pub seen : session.made ≤ session.seen
 
 -- a reply that is live still has its session, after those that are no longer live were removed
-pub live_has : (now window : ℕ) (table : Table) (body : Body) (made : ℕ) → window ≡ table.spans.window → OutlastReplies table.spans → All WasSeen table.sessions
+pub live_has : (now window : ℕ) (table : Sessions) (body : Body) (made : ℕ) → window ≡ table.spans.window → OutlastReplies table.spans → All WasSeen table.sessions
     → nat_lt now (made + window) ≡ true → HasItsSession table body made → HasItsSession (cut now table) body made
 live_has now window table body made same outlast seen live has accept value gives =
     let found = has accept value gives in
@@ -219,7 +219,7 @@ live_has now window table body made same outlast seen live has accept value give
     )
 
 -- an Access-Accept has the session that is granted
-pub accept_has_session : (client source user_place now : ℕ) (user : User) (grant : Grant) (p : Packet) (table : Table)
+pub accept_has_session : (client source user_place now : ℕ) (user : User) (grant : Grant) (p : Packet) (table : Sessions)
     → HasItsSession (with_session client source user_place now grant table) (access_accept user grant p) now
 accept_has_session client source user_place now user grant p table accept value gives =
     let new : Session = record { number = grant.number; client = client; source = source; user = user_place; address = grant.address; phase = Pending; made = now; seen = now } in (

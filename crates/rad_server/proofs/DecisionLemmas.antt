@@ -32,7 +32,7 @@ use Rattle.rad_server.specs.declared.denial.Denial.{Denial}
 use Rattle.rad_server.specs.declared.denial.Denial.TheVariants.{WrongState, AccessDenied}
 use Rattle.rad_server.specs.declared.fixed_reply.FixedReply.TheVariants.{Accounting, Denied}
 use Rattle.rad_server.specs.declared.inquiry.Login.{Login}
-use Rattle.rad_server.specs.declared.rule.ChallengeAnswer.{ChallengeAnswer}
+use Rattle.rad_server.specs.declared.access.ChallengeAnswer.{ChallengeAnswer}
 use Rattle.rad_server.specs.declared.tables.Tables.{Tables}
 use Rattle.rad_server.proofs.PlanLemmas.{found_has, image_has}
 
@@ -221,8 +221,8 @@ pub challenged_within : (configuration : Configuration) (request : Request) (now
     → AreUsers configuration request (state_for request now tables)
 challenged_within configuration request now tables usable None = tt
 challenged_within configuration request now tables usable (Some value) =
-    let waiting = tables.challenges.table in
+    let table = tables.challenges.table in
     let within : ℕ → Type 0 = λ user. user < length configuration.users in
     image_has within (λ challenge. challenge.user) _
-    (found_has (λ challenge. within challenge.user) (has_state value request.client) (cut_challenges now waiting).challenges
-    (All-filter (is_challenge_live waiting.hold now) (λ challenge. within challenge.user) waiting.challenges usable.users))
+    (found_has (λ challenge. within challenge.user) (has_state value request.client) (cut_challenges now table).challenges
+    (All-filter (is_challenge_live table.hold now) (λ challenge. within challenge.user) table.challenges usable.users))

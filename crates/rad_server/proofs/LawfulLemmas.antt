@@ -25,11 +25,11 @@ use Rattle.rad_config.specs.Spans.{milliseconds, moment_max, spans_of}
 use Rattle.rad_config.specs.declared.spans.Spans.{Spans}
 use Rattle.rad_config.specs.declared.user.User.{User}
 use Rattle.rad_pool.specs.Grants.{granted, with_session}
-use Rattle.rad_pool.specs.Lawful.{ExpiryKeepsTheLaw, GrantKeepsTheLaw, IsLawful as IsLawfulTable, IsLawfulSession, OpeningIsLawful as EmptyTableIsLawful, RenewalKeepsTheLaw, ResetKeepsTheLaw, StopKeepsTheLaw}
-use Rattle.rad_pool.specs.Sessions.{Table, cut, renewed, source_reset, stopped}
+use Rattle.rad_pool.specs.Lawful.{ExpiryKeepsTheLaw, GrantKeepsTheLaw, IsLawful as AreLawfulSessions, IsLawfulSession, OpeningIsLawful as OpeningSessionsAreLawful, RenewalKeepsTheLaw, ResetKeepsTheLaw, StopKeepsTheLaw}
+use Rattle.rad_pool.specs.Sessions.{Sessions, cut, renewed, source_reset, stopped}
 use Rattle.rad_pool.specs.declared.grant.Grant.{Grant}
 use Rattle.rad_pool.specs.declared.grant.Refusal.{Refusal}
-use Rattle.rad_recent.specs.Challenges.{Waiting, answered, has_state, is_challenge_live, next_number}
+use Rattle.rad_recent.specs.Challenges.{Challenges, answered, has_state, is_challenge_live, next_number}
 use Rattle.rad_recent.specs.Lawful.{AnswerLeavesLawfulChallenges, AreLawfulReplies, ExpiryLeavesLawfulChallenges, ExpiryLeavesLawfulReplies, IssueLeavesLawfulChallenges, KeepingLeavesLawfulReplies, OpeningChallengesAreLawful, OpeningRepliesAreLawful, RemovalLeavesLawfulReplies}
 use Rattle.rad_recent.specs.Recent.{Replies, cut_replies, is_full, is_reply_live, same_key, without_key}
 use Rattle.rad_recent.specs.Recent as recent
@@ -52,7 +52,7 @@ use Rattle.rad_server.specs.declared.denial.Denial.TheVariants.{AccessDenied, St
 
 -- what holds of the tables of the opening state
 pub record OpeningLaws : Type 0 where
-  pub sessions : EmptyTableIsLawful
+  pub sessions : OpeningSessionsAreLawful
   pub replies : OpeningRepliesAreLawful
   pub challenges : OpeningChallengesAreLawful
 
@@ -109,16 +109,16 @@ IfOk-ok_or P Q (Some x) refusal next holds follows = follows x holds
 -- ---- addresses
 
 -- a kept reply has its session
-abbrev HasIts : Table → Kept → Type 0
+abbrev HasIts : Sessions → Kept → Type 0
 HasIts table reply = HasItsSession table reply.body reply.made
 
 -- kept replies have their sessions while sessions are kept
-addresses_kept : (old new : Table) (kept : List Kept) → KeepsSessions old new → All (HasIts old) kept → All (HasIts new) kept
+addresses_kept : (old new : Sessions) (kept : List Kept) → KeepsSessions old new → All (HasIts old) kept → All (HasIts new) kept
 addresses_kept old new kept keeps has =
     All-weaker (HasIts old) (HasIts new) (λ reply its. still_has old new reply.body reply.made keeps its) kept has
 
 -- the live ones do after those that are no longer live were removed, since a session lives at least as long as a reply
-addresses_live : (now : ℕ) (table : Table) (replies : Replies) → replies.window ≡ table.spans.window → OutlastReplies table.spans → All WasSeen table.sessions
+addresses_live : (now : ℕ) (table : Sessions) (replies : Replies) → replies.window ≡ table.spans.window → OutlastReplies table.spans → All WasSeen table.sessions
     → All (HasIts table) replies.kept → All (HasIts (cut now table)) (cut_replies now replies).kept
 addresses_live now table replies same outlast seen has =
     let live : Kept → Bool = is_reply_live replies.window now in
@@ -143,12 +143,12 @@ opening_is_lawful laws configuration = record {
   spans = refl;
   window = refl;
   hold = refl;
-  table = laws.sessions configuration 0 (spans_of configuration);
+  sessions = laws.sessions configuration 0 (spans_of configuration);
   replies = laws.replies 0 (spans_of configuration).window;
   repeatable = All-nil IsRepeatable;
-  addresses = All-nil (HasIts (opening configuration).table);
-  waiting = laws.challenges 0 (spans_of configuration).hold;
-  challenges = All-nil (IsChallengeOf configuration);
+  addresses = All-nil (HasIts (opening configuration).sessions);
+  challenges = laws.challenges 0 (spans_of configuration).hold;
+  configured = All-nil (IsChallengeOf configuration);
 }
 
 -- a lawful state is lawful at each later moment
@@ -157,21 +157,21 @@ at_moment_is_lawful : TableLaws → (configuration : Configuration) (state : Sta
 at_moment_is_lawful laws configuration state moment valid within lawful =
     let now : ℕ = max state.clock moment in
     let later : state.clock ≤ now = omega arith in
-    let same : state.replies.window ≡ state.table.spans.window = lawful.window ∙ ap (λ (spans : Spans). spans.window) (sym lawful.spans) in
-    let outlast : OutlastReplies state.table.spans = subst OutlastReplies (sym lawful.spans) (spans_outlast configuration valid) in
-    let seen : All WasSeen state.table.sessions =
-    All-weaker (IsLawfulSession configuration state.clock state.table.next) WasSeen (λ session known. record { seen = known.seen.0 }) state.table.sessions lawful.table.sessions in
+    let same : state.replies.window ≡ state.sessions.spans.window = lawful.window ∙ ap (λ (spans : Spans). spans.window) (sym lawful.spans) in
+    let outlast : OutlastReplies state.sessions.spans = subst OutlastReplies (sym lawful.spans) (spans_outlast configuration valid) in
+    let seen : All WasSeen state.sessions.sessions =
+    All-weaker (IsLawfulSession configuration state.clock state.sessions.next) WasSeen (λ session known. record { seen = known.seen.0 }) state.sessions.sessions lawful.sessions.sessions in
     record {
       clock = omega (arith, within, lawful.clock);
       spans = lawful.spans;
       window = lawful.window;
       hold = lawful.hold;
-      table = laws.sessions.expiry configuration state.clock now state.table later lawful.table;
+      sessions = laws.sessions.expiry configuration state.clock now state.sessions later lawful.sessions;
       replies = laws.replies.expiry state.clock now state.replies later lawful.replies;
       repeatable = All-filter (is_reply_live state.replies.window now) IsRepeatable state.replies.kept lawful.repeatable;
-      addresses = addresses_live now state.table state.replies same outlast seen lawful.addresses;
-      waiting = laws.challenges.expiry state.clock now state.waiting later lawful.waiting;
-      challenges = All-filter (is_challenge_live state.waiting.hold now) (IsChallengeOf configuration) state.waiting.challenges lawful.challenges;
+      addresses = addresses_live now state.sessions state.replies same outlast seen lawful.addresses;
+      challenges = laws.challenges.expiry state.clock now state.challenges later lawful.challenges;
+      configured = All-filter (is_challenge_live state.challenges.hold now) (IsChallengeOf configuration) state.challenges.challenges lawful.configured;
     }
 
 -- ---- users
@@ -200,15 +200,15 @@ place_of_name configuration name =
     (λ is. ltb-true place (length users) is) (λ _. tt)
 
 -- the user of a challenge that is answered has a place
-place_of_challenge : (configuration : Configuration) (client : ℕ) (value : Option (List ℕ)) (waiting : Waiting)
-    → All (IsChallengeOf configuration) waiting.challenges
-    → IfSome (option_map (λ challenge. challenge.user) (answered_challenge client value waiting)) (IsPlace configuration)
-place_of_challenge configuration client None waiting known = tt
-place_of_challenge configuration client (Some value) waiting known =
+place_of_challenge : (configuration : Configuration) (client : ℕ) (value : Option (List ℕ)) (table : Challenges)
+    → All (IsChallengeOf configuration) table.challenges
+    → IfSome (option_map (λ challenge. challenge.user) (answered_challenge client value table)) (IsPlace configuration)
+place_of_challenge configuration client None table known = tt
+place_of_challenge configuration client (Some value) table known =
     let IsKnown : Challenge → Type 0 = IsChallengeOf configuration in
-    let found : IfSome (answered value client waiting) IsKnown = IfSome-find IsKnown (has_state value client) waiting.challenges known in
-    IfSome-map (λ (challenge : Challenge). challenge.user) (IsPlace configuration) (answered value client waiting)
-    (IfSome_then (answered value client waiting) found (λ challenge known. known.user))
+    let found : IfSome (answered value client table) IsKnown = IfSome-find IsKnown (has_state value client) table.challenges known in
+    IfSome-map (λ (challenge : Challenge). challenge.user) (IsPlace configuration) (answered value client table)
+    (IfSome_then (answered value client table) found (λ challenge known. known.user))
 
 -- the user whose password was sent has a place
 place_by_password : (configuration : Configuration) (request : Request) (credentials : Credentials)
@@ -238,24 +238,24 @@ place_by_answer configuration request challenged credentials known =
 abbrev IsSound : Configuration → State → Result Decision Denial → Type 0
 IsSound configuration state (Err denial) = Unit {0}
 IsSound configuration state (Ok (Challenged user)) =
-    IsPlace configuration user × (is_some (user_at configuration user).challenge ≡ true) × IsOk (next_number state.waiting)
-IsSound configuration state (Ok (Granted user grant)) = IsPlace configuration user × (granted configuration user state.table ≡ Ok grant)
+    IsPlace configuration user × (is_some (user_at configuration user).challenge ≡ true) × IsOk (next_number state.challenges)
+IsSound configuration state (Ok (Granted user grant)) = IsPlace configuration user × (granted configuration user state.sessions ≡ Ok grant)
 
 -- a session that is granted to a user of the configuration is sound
 session_is_sound : (configuration : Configuration) (state : State) (user : ℕ) → IsPlace configuration user
     → IsSound configuration state (session_for configuration state user)
-session_is_sound configuration state user within = at (granted configuration user state.table) refl
+session_is_sound configuration state user within = at (granted configuration user state.sessions) refl
   where
-    at : (r : Result Grant Refusal) → granted configuration user state.table ≡ r → IsSound configuration state (session_or_denial user r)
+    at : (r : Result Grant Refusal) → granted configuration user state.sessions ≡ r → IsSound configuration state (session_or_denial user r)
     at (Ok grant) is = (within, is)
     at (Err refusal) is = tt
 
 -- a challenge for a user of the configuration who has one is sound
 challenge_is_sound : (configuration : Configuration) (state : State) (user : ℕ) → IsPlace configuration user
     → is_some (user_at configuration user).challenge ≡ true → IsSound configuration state (challenge_for state user)
-challenge_is_sound configuration state user within has = at (next_number state.waiting) refl
+challenge_is_sound configuration state user within has = at (next_number state.challenges) refl
   where
-    at : (r : Result ℕ IssueFault) → next_number state.waiting ≡ r → IsSound configuration state (challenge_or_denial user r)
+    at : (r : Result ℕ IssueFault) → next_number state.challenges ≡ r → IsSound configuration state (challenge_or_denial user r)
     at (Ok number) is = (within, has, rw (is) refl)
     at (Err fault) is = tt
 
@@ -307,7 +307,7 @@ pub record IsGiven (configuration : Configuration) (request : Request) (draw : L
 -- clock and the same kept replies
 record IsLawfulResult (configuration : Configuration) (state : State) (result : Body × State) : Type 0 where
   reply : IsReply result.0
-  session : HasItsSession result.1.table result.0 result.1.clock
+  session : HasItsSession result.1.sessions result.0 result.1.clock
   new : IsLawful configuration result.1
   clock : result.1.clock ≡ state.clock
   replies : result.1.replies ≡ state.replies
@@ -327,7 +327,7 @@ decided_is_lawful laws configuration state request draw (Ok (Challenged user)) g
     let known = user_is_known configuration user given.valid sound.0 in
     let row : User = user_at configuration user in
     record {
-      reply = challenge_is_reply row state.waiting.next draw request.packet (text_fits row.challenge known.challenge) given.drawn
+      reply = challenge_is_reply row state.challenges.next draw request.packet (text_fits row.challenge known.challenge) given.drawn
           given.answerable.proxy_states;
       session = λ accept. absurd (omega (arith, accept));
       new = record {
@@ -335,12 +335,12 @@ decided_is_lawful laws configuration state request draw (Ok (Challenged user)) g
         spans = lawful.spans;
         window = lawful.window;
         hold = lawful.hold;
-        table = lawful.table;
+        sessions = lawful.sessions;
         replies = lawful.replies;
         repeatable = lawful.repeatable;
         addresses = lawful.addresses;
-        waiting = laws.challenges.issue request.client user state.clock draw state.waiting sound.2 lawful.waiting;
-        challenges = All-push (IsChallengeOf configuration) state.waiting.challenges _ lawful.challenges (record {
+        challenges = laws.challenges.issue request.client user state.clock draw state.challenges sound.2 lawful.challenges;
+        configured = All-push (IsChallengeOf configuration) state.challenges.challenges _ lawful.configured (record {
           draw = given.drawn;
           client = given.answerable.client;
           user = sound.0;
@@ -355,19 +355,19 @@ decided_is_lawful laws configuration state request draw (Ok (Granted user grant)
     let row : User = user_at configuration user in
     record {
       reply = accept_is_reply row grant request.packet (text_fits row.message known.message) given.answerable.proxy_states;
-      session = accept_has_session request.client request.source user state.clock row grant request.packet state.table;
+      session = accept_has_session request.client request.source user state.clock row grant request.packet state.sessions;
       new = record {
         clock = lawful.clock;
         spans = lawful.spans;
         window = lawful.window;
         hold = lawful.hold;
-        table = laws.sessions.grant configuration request.client request.source user state.clock grant state.table given.answerable.client sound.0 sound.1 lawful.table;
+        sessions = laws.sessions.grant configuration request.client request.source user state.clock grant state.sessions given.answerable.client sound.0 sound.1 lawful.sessions;
         replies = lawful.replies;
         repeatable = lawful.repeatable;
-        addresses = addresses_kept state.table (with_session request.client request.source user state.clock grant state.table) state.replies.kept
-            (grant_keeps request.client request.source user state.clock grant state.table) lawful.addresses;
-        waiting = lawful.waiting;
+        addresses = addresses_kept state.sessions (with_session request.client request.source user state.clock grant state.sessions) state.replies.kept
+            (grant_keeps request.client request.source user state.clock grant state.sessions) lawful.addresses;
         challenges = lawful.challenges;
+        configured = lawful.configured;
       };
       clock = refl;
       replies = refl;
@@ -382,12 +382,12 @@ without_challenge_is_lawful laws configuration client (Some value) state lawful 
   spans = lawful.spans;
   window = lawful.window;
   hold = lawful.hold;
-  table = lawful.table;
+  sessions = lawful.sessions;
   replies = lawful.replies;
   repeatable = lawful.repeatable;
   addresses = lawful.addresses;
-  waiting = laws.challenges.answer state.clock client value state.waiting lawful.waiting;
-  challenges = All-filter (λ challenge. not (has_state value client challenge)) (IsChallengeOf configuration) state.waiting.challenges lawful.challenges;
+  challenges = laws.challenges.answer state.clock client value state.challenges lawful.challenges;
+  configured = All-filter (λ challenge. not (has_state value client challenge)) (IsChallengeOf configuration) state.challenges.challenges lawful.configured;
 }
 
 -- without it the clock and the kept replies are the same, so a lawful result there is one here
@@ -406,9 +406,9 @@ access_is_lawful laws configuration state request draw given lawful = with_resul
     with_result (Err denial) = decided_is_lawful laws configuration state request draw (Err denial) given lawful tt
     with_result (Ok credentials) =
         let value : Option (List ℕ) = credentials.state in
-        let challenged : Option ℕ = option_map (λ challenge. challenge.user) (answered_challenge request.client value state.waiting) in
+        let challenged : Option ℕ = option_map (λ challenge. challenge.user) (answered_challenge request.client value state.challenges) in
         let left : State = without_challenge request.client value state in
-        let known = place_of_challenge configuration request.client value state.waiting lawful.challenges in
+        let known = place_of_challenge configuration request.client value state.challenges lawful.configured in
         result_without_challenge configuration request.client value state _
         (decided_is_lawful laws configuration left request draw (decision configuration left request challenged credentials) given
         (without_challenge_is_lawful laws configuration request.client value state lawful)
@@ -420,17 +420,17 @@ access_is_lawful laws configuration state request draw given lawful = with_resul
 account_is_lawful : TableLaws → (configuration : Configuration) (state : State) (request : Request) → IsAnswerable configuration.clients request
     → IsLawful configuration state → IsLawfulResult configuration state (account configuration state request)
 account_is_lawful laws configuration state request answerable lawful =
-    with_table (reported request.source state.clock (first_integer type_acct_status_type request.packet.attributes) session state.table)
+    with_table (reported request.source state.clock (first_integer type_acct_status_type request.packet.attributes) session state.sessions)
     (with_status (first_integer type_acct_status_type request.packet.attributes))
   where
     session : Option ℕ
-    session = session_meant configuration request state.table
+    session = session_meant configuration request state.sessions
 
-    IsKept : Table → Type 0
-    IsKept table = IsLawfulTable configuration state.clock table × (table.spans ≡ state.table.spans) × KeepsSessions state.table table
+    IsKept : Sessions → Type 0
+    IsKept table = AreLawfulSessions configuration state.clock table × (table.spans ≡ state.sessions.spans) × KeepsSessions state.sessions table
 
-    with_table : (table : Table) → IsKept table
-        → IsLawfulResult configuration state (accounting_response request.packet, record state { table = table })
+    with_table : (table : Sessions) → IsKept table
+        → IsLawfulResult configuration state (accounting_response request.packet, record state { sessions = table })
     with_table table kept = record {
       reply = accounting_is_reply request.packet answerable.proxy_states;
       session = λ accept. absurd (omega (arith, accept));
@@ -439,40 +439,40 @@ account_is_lawful laws configuration state request answerable lawful =
         spans = kept.1 ∙ lawful.spans;
         window = lawful.window;
         hold = lawful.hold;
-        table = kept.0;
+        sessions = kept.0;
         replies = lawful.replies;
         repeatable = lawful.repeatable;
-        addresses = addresses_kept state.table table state.replies.kept kept.2 lawful.addresses;
-        waiting = lawful.waiting;
+        addresses = addresses_kept state.sessions table state.replies.kept kept.2 lawful.addresses;
         challenges = lawful.challenges;
+        configured = lawful.configured;
       };
       clock = refl;
       replies = refl;
     }
 
-    same : IsKept state.table
-    same = (lawful.table, refl, (λ session there. (session, there, record { number = refl; address = refl; made = refl })))
+    same : IsKept state.sessions
+    same = (lawful.sessions, refl, (λ session there. (session, there, record { number = refl; address = refl; made = refl })))
 
-    renewal : (o : Option ℕ) → IsKept (changed (λ n. renewed n state.clock) o state.table)
+    renewal : (o : Option ℕ) → IsKept (changed (λ n. renewed n state.clock) o state.sessions)
     renewal None = same
-    renewal (Some number) = (laws.sessions.renewal configuration state.clock number state.table lawful.table, refl, renewal_keeps number state.clock state.table)
+    renewal (Some number) = (laws.sessions.renewal configuration state.clock number state.sessions lawful.sessions, refl, renewal_keeps number state.clock state.sessions)
 
-    stop : (o : Option ℕ) → IsKept (changed stopped o state.table)
+    stop : (o : Option ℕ) → IsKept (changed stopped o state.sessions)
     stop None = same
-    stop (Some number) = (laws.sessions.stop configuration state.clock number state.table lawful.table, refl, stop_keeps number state.table)
+    stop (Some number) = (laws.sessions.stop configuration state.clock number state.sessions lawful.sessions, refl, stop_keeps number state.sessions)
 
-    reset : IsKept (source_reset request.source state.table)
-    reset = (laws.sessions.reset configuration state.clock request.source state.table lawful.table, refl, reset_keeps request.source state.table)
+    reset : IsKept (source_reset request.source state.sessions)
+    reset = (laws.sessions.reset configuration state.clock request.source state.sessions lawful.sessions, refl, reset_keeps request.source state.sessions)
 
     by_status : (is_session is_stop is_reset : Bool)
-        → IsKept (cond is_session (changed (λ n. renewed n state.clock) session state.table)
-        (cond is_stop (changed stopped session state.table) (cond is_reset (source_reset request.source state.table) state.table)))
+        → IsKept (cond is_session (changed (λ n. renewed n state.clock) session state.sessions)
+        (cond is_stop (changed stopped session state.sessions) (cond is_reset (source_reset request.source state.sessions) state.sessions)))
     by_status true is_stop is_reset = renewal session
     by_status false true is_reset = stop session
     by_status false false true = reset
     by_status false false false = same
 
-    with_status : (o : Option ℕ) → IsKept (reported request.source state.clock o session state.table)
+    with_status : (o : Option ℕ) → IsKept (reported request.source state.clock o session state.sessions)
     with_status None = same
     with_status (Some status) = by_status (shows_session status) (status == status_stop) (shows_reset status)
 
@@ -488,12 +488,12 @@ without_reply_is_lawful laws configuration state request lawful =
       spans = lawful.spans;
       window = lawful.window;
       hold = lawful.hold;
-      table = lawful.table;
+      sessions = lawful.sessions;
       replies = laws.replies.removal state.clock (key_of request) state.replies lawful.replies;
       repeatable = All-filter other IsRepeatable state.replies.kept lawful.repeatable;
-      addresses = All-filter other (HasIts state.table) state.replies.kept lawful.addresses;
-      waiting = lawful.waiting;
+      addresses = All-filter other (HasIts state.sessions) state.replies.kept lawful.addresses;
       challenges = lawful.challenges;
+      configured = lawful.configured;
     }
 
 -- a reply to this request can take the place of the one with its key among these replies, of which the state has the others
@@ -509,7 +509,7 @@ record TakesPlace (replies : Replies) (request : Request) (state : State) : Type
 
 -- a lawful state is lawful with such a reply
 with_reply_is_lawful : TableLaws → (configuration : Configuration) (replies : Replies) (state : State) (request : Request) (body : Body)
-    → TakesPlace replies request state → IsReply body → HasItsSession state.table body state.clock → IsLawful configuration state
+    → TakesPlace replies request state → IsReply body → HasItsSession state.sessions body state.clock → IsLawful configuration state
     → IsLawful configuration (with_reply request body state)
 with_reply_is_lawful laws configuration replies state request body place sealable its lawful =
     let reply : Kept = record { key = key_of request; octets = packet_octets request.packet; body = body; made = state.clock } in
@@ -519,12 +519,12 @@ with_reply_is_lawful laws configuration replies state request body place sealabl
       spans = lawful.spans;
       window = lawful.window;
       hold = lawful.hold;
-      table = lawful.table;
+      sessions = lawful.sessions;
       replies = subst (λ left. AreLawfulReplies state.clock (recent.with_reply reply left)) (sym place.left) kept;
       repeatable = All-push IsRepeatable state.replies.kept reply lawful.repeatable (record { sealable = sealable; request = place.other });
-      addresses = All-push (HasIts state.table) state.replies.kept reply lawful.addresses its;
-      waiting = lawful.waiting;
+      addresses = All-push (HasIts state.sessions) state.replies.kept reply lawful.addresses its;
       challenges = lawful.challenges;
+      configured = lawful.configured;
     }
 
 -- the state after a lawful result is sent and kept is lawful

@@ -451,7 +451,7 @@ repeats_follow configuration before sources (exchange ∷ rest) ready made =
     let follow = repeats_follow configuration exchange.after next rest (ready_again state sources exchange.entry exchange.after now right) made.1 in (
       λ source there covered.
           let again = right.again source there covered in
-          record { answer = again.0; sessions = ap (λ s. s.table) again.1; challenges = ap (λ s. s.waiting) again.1 },
+          record { answer = again.0; sessions = ap (λ s. s.sessions) again.1; challenges = ap (λ s. s.challenges) again.1 },
       (
         right.kept,
         subst (λ (w : ℕ). RepeatsFollow w state.clock exchange.after next rest) right.window

@@ -13,7 +13,7 @@ use Rattle.rad_config.specs.declared.user.User.{User}
 use Rattle.rad_pool.specs.Grants.{granted, with_session}
 use Rattle.rad_pool.specs.declared.grant.Grant.{Grant}
 use Rattle.rad_pool.specs.declared.grant.Refusal.{Refusal}
-use Rattle.rad_recent.specs.Challenges.{Waiting, answered, next_number, without_answered}
+use Rattle.rad_recent.specs.Challenges.{Challenges, answered, next_number, without_answered}
 use Rattle.rad_recent.specs.Challenges as challenges
 use Rattle.rad_recent.specs.declared.challenge.Challenge.{Challenge}
 use Rattle.rad_recent.specs.declared.challenges.IssueFault.{IssueFault}
@@ -68,18 +68,18 @@ user_by_password configuration request credentials = do
 -- ---- challenges
 
 -- the challenge that a client answers with a State, if it sent one
-abbrev pub answered_challenge : ℕ → Option (List ℕ) → Waiting → Option Challenge
-answered_challenge client None waiting = None
-answered_challenge client (Some value) waiting = answered value client waiting
+abbrev pub answered_challenge : ℕ → Option (List ℕ) → Challenges → Option Challenge
+answered_challenge client None challenges = None
+answered_challenge client (Some value) challenges = answered value client challenges
 
 -- the user whose challenge a request answers, if it answers one
 abbrev pub user_challenged : Request → Option (List ℕ) → State → Option ℕ
-user_challenged request value state = option_map (λ challenge. challenge.user) (answered_challenge request.client value state.waiting)
+user_challenged request value state = option_map (λ challenge. challenge.user) (answered_challenge request.client value state.challenges)
 
 -- the state without that challenge
 abbrev pub without_challenge : ℕ → Option (List ℕ) → State → State
 without_challenge client None state = state
-without_challenge client (Some value) state = record state { waiting = without_answered value client state.waiting }
+without_challenge client (Some value) state = record state { challenges = without_answered value client state.challenges }
 
 -- whether a name is that of the user at a place
 abbrev pub is_name_of : Configuration → ℕ → List ℕ → Bool
@@ -99,12 +99,12 @@ challenge_or_denial user (Ok number) = Ok (Challenged user)
 challenge_or_denial user (Err fault) = Err ServerFull
 
 abbrev pub challenge_for : State → ℕ → Result Decision Denial
-challenge_for state user = challenge_or_denial user (next_number state.waiting)
+challenge_for state user = challenge_or_denial user (next_number state.challenges)
 
 -- the state with a challenge for a user
 abbrev pub with_challenge : ℕ → ℕ → List ℕ → State → State
 with_challenge client user draw state =
-    record state { waiting = challenges.with_challenge client user draw state.clock state.waiting }
+    record state { challenges = challenges.with_challenge client user draw state.clock state.challenges }
 
 -- ---- the decision
 
@@ -114,7 +114,7 @@ session_or_denial user (Ok grant) = Ok (Granted user grant)
 session_or_denial user (Err refusal) = Err (denial_of refusal)
 
 abbrev pub session_for : Configuration → State → ℕ → Result Decision Denial
-session_for configuration state user = session_or_denial user (granted configuration user state.table)
+session_for configuration state user = session_or_denial user (granted configuration user state.sessions)
 
 -- a request with a State: with the right answer to its challenge, the user is granted a session
 unfoldable pub decision_on_answer : Configuration → State → Request → Option ℕ → Credentials → Result Decision Denial
@@ -143,10 +143,10 @@ decision configuration state request challenged credentials =
 abbrev pub decided : Configuration → State → Request → List ℕ → Result Decision Denial → Body × State
 decided configuration state request draw (Err denial) = (access_reject denial request.packet, state)
 decided configuration state request draw (Ok (Challenged user)) =
-    (access_challenge (user_at configuration user) state.waiting.next draw request.packet, with_challenge request.client user draw state)
+    (access_challenge (user_at configuration user) state.challenges.next draw request.packet, with_challenge request.client user draw state)
 decided configuration state request draw (Ok (Granted user grant)) = (
   access_accept (user_at configuration user) grant request.packet,
-  record state { table = with_session request.client request.source user state.clock grant state.table },
+  record state { sessions = with_session request.client request.source user state.clock grant state.sessions },
 )
 
 -- The reply to a request with these credentials, and the state after it. A challenge that is answered goes, whatever follows.

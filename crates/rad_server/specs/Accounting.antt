@@ -9,8 +9,8 @@ use Rattle.rad_packet.specs.Bodies.{Body}
 use Rattle.rad_packet.specs.Types.{type_acct_status_type, type_class, type_framed_ip_address, type_user_name}
 use Rattle.rad_auth.specs.declared.arrival.Request.{Request}
 use Rattle.rad_config.specs.Configurations.{Configuration, user_place}
-use Rattle.rad_pool.specs.Meant.{meant}
-use Rattle.rad_pool.specs.Sessions.{Table, renewed, source_reset, stopped}
+use Rattle.rad_pool.specs.Meant.{SentName, meant}
+use Rattle.rad_pool.specs.Sessions.{Sessions, renewed, source_reset, stopped}
 use Rattle.rad_server.specs.Replies.{accounting_response, class_prefix}
 use Rattle.rad_server.specs.States.{State}
 
@@ -54,24 +54,24 @@ is_class a = is_of_len type_class class_size a && pointwise ◌==◌ (take (leng
 abbrev pub class_number : List Attribute → Option ℕ
 class_number list = option_map (λ a. from_be_bytes w64 (drop (length class_prefix) a.value)) (find is_class list)
 
--- the user whose name was sent, if one was sent; it may be nobody's
-abbrev pub named_user : Configuration → List Attribute → Option (Option ℕ)
+-- the User-Name that was sent, if one was
+abbrev pub named_user : Configuration → List Attribute → SentName
 named_user configuration list = option_map (user_place configuration.users) (first_value type_user_name list)
 
 -- the number of the session that a request means, if it means one
-abbrev pub session_meant : Configuration → Request → Table → Option ℕ
+abbrev pub session_meant : Configuration → Request → Sessions → Option ℕ
 session_meant configuration request table =
     let list = request.packet.attributes in
     meant request.client (class_number list) (first_integer type_framed_ip_address list) (named_user configuration list) table.sessions
 
 -- the table after a change of the session of this number, if there is one
-abbrev pub changed : (ℕ → Table → Table) → Option ℕ → Table → Table
+abbrev pub changed : (ℕ → Sessions → Sessions) → Option ℕ → Sessions → Sessions
 changed change None table = table
 changed change (Some number) table = change number table
 
 -- The table after a status was reported from a source at a moment; `number` is that of the session meant, if one is. Every other
 -- status changes nothing.
-abbrev pub reported : ℕ → ℕ → Option ℕ → Option ℕ → Table → Table
+abbrev pub reported : ℕ → ℕ → Option ℕ → Option ℕ → Sessions → Sessions
 reported source now None number table = table
 reported source now (Some status) number table =
     if shows_session status then changed (λ n. renewed n now) number table
@@ -84,7 +84,7 @@ abbrev pub account : Configuration → State → Request → Body × State
 account configuration state request = (
   accounting_response request.packet,
   record state {
-    table = reported request.source state.clock (first_integer type_acct_status_type request.packet.attributes)
-        (session_meant configuration request state.table) state.table;
+    sessions = reported request.source state.clock (first_integer type_acct_status_type request.packet.attributes)
+        (session_meant configuration request state.sessions) state.sessions;
   },
 )

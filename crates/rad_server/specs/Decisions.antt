@@ -11,7 +11,7 @@ use Rattle.rad_server.specs.declared.access.Decision.{Decision as DecisionOfCode
 use Rattle.rad_server.specs.declared.access.Decision.TheVariants as decisions
 use Rattle.rad_server.specs.declared.denial.Denial.{Denial}
 use Rattle.rad_server.specs.declared.denial.Denial.TheVariants.{StateUnknown, WrongState, AccessDenied}
-use Rattle.rad_server.specs.declared.rule.ChallengeAnswer.{ChallengeAnswer}
+use Rattle.rad_server.specs.declared.access.ChallengeAnswer.{ChallengeAnswer}
 
 -- what a call returned, seen by view, is what is defined
 abbrev pub Gives : {X Y E : Type 0} → (X → Y) → Result X E → Result Y E → Type 0
@@ -55,5 +55,5 @@ place_given (decisions.Session session) = session.user
 
 -- what a decision gives can be given in a state: a challenge with the next number, or a session with the next number
 abbrev pub CanBeGiven : State → DecisionOfCode → Type 0
-CanBeGiven state (decisions.Challenge user number) = (next_number state.waiting ≡ Ok number) × (number ≡ state.waiting.next)
-CanBeGiven state (decisions.Session session) = session.grant.number ≡ state.table.next
+CanBeGiven state (decisions.Challenge user number) = (next_number state.challenges ≡ Ok number) × (number ≡ state.challenges.next)
+CanBeGiven state (decisions.Session session) = session.grant.number ≡ state.sessions.next

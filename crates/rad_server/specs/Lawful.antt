@@ -12,8 +12,8 @@ use Rattle.rad_auth.specs.declared.arrival.Request.{Request}
 use Rattle.rad_config.specs.Configurations.{Configuration}
 use Rattle.rad_config.specs.Ranges.{IsConfiguration}
 use Rattle.rad_config.specs.Spans.{moment_max, spans_of}
-use Rattle.rad_pool.specs.Lawful.{IsLawful as IsLawfulTable}
-use Rattle.rad_pool.specs.Sessions.{Table}
+use Rattle.rad_pool.specs.Lawful.{IsLawful as AreLawfulSessions}
+use Rattle.rad_pool.specs.Sessions.{Sessions}
 use Rattle.rad_pool.specs.declared.session.Session.{Session}
 use Rattle.rad_recent.specs.Lawful.{AreLawfulChallenges, AreLawfulReplies}
 use Rattle.rad_recent.specs.declared.challenge.Challenge.{Challenge}
@@ -39,7 +39,7 @@ pub record IsSessionOf (body : Body) (value : List ℕ) (session : Session) : Ty
 
 -- If a reply that was made at this moment is an Access-Accept that gives an address, there is a session that has it and was granted
 -- then: so long as a repeated request may get the reply again, the address is nobody else's.
-abbrev pub HasItsSession : Table → Body → ℕ → Type 0
+abbrev pub HasItsSession : Sessions → Body → ℕ → Type 0
 HasItsSession table body made = body.code ≡ code_access_accept
     → (value : List ℕ) → first_value type_framed_ip_address body.attributes ≡ Some value
     → (session : Session) × Contains table.sessions session × IsSessionOf body value session × (session.made ≡ made)
@@ -63,21 +63,21 @@ pub record IsLawful (configuration : Configuration) (state : State) : Type 0 whe
   -- the clock shows a moment
   pub clock : state.clock ≤ moment_max
   -- sessions, replies and challenges live as long as the configuration says
-  pub spans : state.table.spans ≡ spans_of configuration
+  pub spans : state.sessions.spans ≡ spans_of configuration
   pub window : state.replies.window ≡ (spans_of configuration).window
-  pub hold : state.waiting.hold ≡ (spans_of configuration).hold
+  pub hold : state.challenges.hold ≡ (spans_of configuration).hold
   -- the table of sessions is lawful: no address belongs to two of them
-  pub table : IsLawfulTable configuration state.clock state.table
+  pub sessions : AreLawfulSessions configuration state.clock state.sessions
   -- the table of kept replies is lawful: no two have one key
   pub replies : AreLawfulReplies state.clock state.replies
   -- each kept reply may be sent again
   pub repeatable : All IsRepeatable state.replies.kept
   -- the address that a kept Access-Accept gives is still its session's
-  pub addresses : All (λ reply. HasItsSession state.table reply.body reply.made) state.replies.kept
+  pub addresses : All (λ reply. HasItsSession state.sessions reply.body reply.made) state.replies.kept
   -- the table of challenges that wait for an answer is lawful
-  pub waiting : AreLawfulChallenges state.clock state.waiting
+  pub challenges : AreLawfulChallenges state.clock state.challenges
   -- each challenge is one of this configuration
-  pub challenges : All (IsChallengeOf configuration) state.waiting.challenges
+  pub configured : All (IsChallengeOf configuration) state.challenges.challenges
 
 -- ---- what keeps the law
 

@@ -64,4 +64,4 @@ abbrev pub IsReadyForPlan : Plan → Tables → Type 0
 IsReadyForPlan (plans.Unchanged body) tables = Unit {0}
 IsReadyForPlan plans.Busy tables = Unit {0}
 IsReadyForPlan (plans.New reply kept) tables =
-    IsReadyFor reply.change tables × (tables.recent.ready ≡ Some kept.key)
+    IsReadyFor reply.change tables × (tables.replies.ready ≡ Some kept.key)

@@ -28,7 +28,7 @@ use Rattle.rad_server.specs.declared.inquiry.Login.{Login}
 use Rattle.rad_server.specs.declared.prepared.Ruled.{Ruled}
 use Rattle.rad_server.specs.declared.prepared.Told.{Told}
 use Rattle.rad_server.specs.declared.prepared.Told.TheVariants as told
-use Rattle.rad_server.specs.declared.rule.ChallengeAnswer.{ChallengeAnswer}
+use Rattle.rad_server.specs.declared.access.ChallengeAnswer.{ChallengeAnswer}
 use Rattle.rad_server.specs.declared.rule.Rule.{Rule}
 use Rattle.rad_server.specs.declared.rule.Rule.TheVariants.{Fixed, Password, Answer}
 

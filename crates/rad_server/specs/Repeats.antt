@@ -5,12 +5,13 @@
 -- A source is what may answer a repeat: a reply that was kept before the history began, or an entry of it that got a reply and
 -- no earlier source covers. A source covers an entry that has its key and its octets, as long as the source lives, and if no
 -- entry between them has its key and other octets. Status-Servers are not counted.
-use Rattle.std.specs.Prelude.{◌≡◌, ℕ, ◌+◌, ◌==◌, ◌&&◌, ◌||◌, nat_lt, max, not, Bool, if◌then◌else◌, IsTrue, List, [], ◌∷◌, ◌++◌, Contains, filter, map, slice_index_or}
+use Rattle.std.specs.Prelude.{◌≡◌, ℕ, ◌+◌, ◌==◌, ◌&&◌, ◌||◌, max, not, Bool, if◌then◌else◌, IsTrue, List, [], ◌∷◌, ◌++◌, Contains, filter, map, slice_index_or}
 use Rattle.std.specs.List.{list_all, list_any}
 use lib.Pointwise.{pointwise}
 use Rattle.rad_packet.specs.Codes.{code_status_server}
 use Rattle.rad_config.specs.Configurations.{Configuration}
 use Rattle.rad_config.specs.Ranges.{IsConfiguration}
+use Rattle.rad_config.specs.Spans.{lasts}
 use Rattle.rad_pool.specs.Sessions.{cut}
 use Rattle.rad_recent.specs.Challenges.{cut_challenges}
 use Rattle.rad_recent.specs.Recent.{is_reply_to, same_key}
@@ -43,7 +44,7 @@ spares reply entry = not (same_key (entry_key entry) reply.key) || pointwise ◌
 
 -- whether a source would cover an entry with its key and its octets that came next, at this moment
 abbrev pub is_in_force : ℕ → ℕ → Source → Bool
-is_in_force window now source = nat_lt now (source.reply.made + window) && list_all (spares source.reply) source.later
+is_in_force window now source = lasts now source.reply.made window && list_all (spares source.reply) source.later
 
 -- whether a source covers the entry that comes next, at this moment
 abbrev pub covers : ℕ → ℕ → Entry → Source → Bool
@@ -81,8 +82,8 @@ pub record Exchange : Type 0 where
 -- a repeat gets the reply of its source, and changes no session and no challenge; those that no longer live go
 pub record IsAnsweredAgain (now : ℕ) (before : State) (exchange : Exchange) (source : Source) : Type 0 where
   pub answer : exchange.entry.answer ≡ Send source.reply.body
-  pub sessions : exchange.after.table ≡ cut now before.table
-  pub challenges : exchange.after.waiting ≡ cut_challenges now before.waiting
+  pub sessions : exchange.after.sessions ≡ cut now before.sessions
+  pub challenges : exchange.after.challenges ≡ cut_challenges now before.challenges
 
 -- What holds of the exchanges that follow a state, whose sources are given, when the latest moment so far was `clock`: what a
 -- source covers is answered again, and just the replies of the sources that are in force are kept.

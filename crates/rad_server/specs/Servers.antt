@@ -12,7 +12,7 @@ pub record Server : Type 0 where
 abbrev pub state_with : ℕ → Tables → State
 state_with clock tables = record {
   clock = clock;
-  table = tables.sessions.table;
-  replies = tables.recent.table;
-  waiting = tables.challenges.table;
+  sessions = tables.sessions.table;
+  replies = tables.replies.table;
+  challenges = tables.challenges.table;
 }

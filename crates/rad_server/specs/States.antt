@@ -3,9 +3,9 @@
 use Rattle.std.specs.Prelude.{ℕ, max}
 use Rattle.rad_config.specs.Configurations.{Configuration}
 use Rattle.rad_config.specs.Spans.{spans_of}
-use Rattle.rad_pool.specs.Sessions.{Table, cut}
+use Rattle.rad_pool.specs.Sessions.{Sessions, cut}
 use Rattle.rad_pool.specs.Sessions as sessions
-use Rattle.rad_recent.specs.Challenges.{Waiting, cut_challenges}
+use Rattle.rad_recent.specs.Challenges.{Challenges, cut_challenges}
 use Rattle.rad_recent.specs.Challenges as challenges
 use Rattle.rad_recent.specs.Recent.{Replies, cut_replies}
 use Rattle.rad_recent.specs.Recent as replies
@@ -14,25 +14,25 @@ use Rattle.rad_recent.specs.Recent as replies
 -- next one.
 pub record State : Type 0 where
   pub clock : ℕ
-  pub table : Table
+  pub sessions : Sessions
   pub replies : Replies
-  pub waiting : Waiting
+  pub challenges : Challenges
 
 -- the state before the first request
 abbrev pub opening : Configuration → State
 opening configuration = record {
   clock = 0;
-  table = sessions.opening (spans_of configuration);
+  sessions = sessions.opening (spans_of configuration);
   replies = replies.opening (spans_of configuration).window;
-  waiting = challenges.opening (spans_of configuration).hold;
+  challenges = challenges.opening (spans_of configuration).hold;
 }
 
 -- the state with only what is live by its clock
 abbrev pub without_expired : State → State
 without_expired state = record state {
-  table = cut state.clock state.table;
+  sessions = cut state.clock state.sessions;
   replies = cut_replies state.clock state.replies;
-  waiting = cut_challenges state.clock state.waiting;
+  challenges = cut_challenges state.clock state.challenges;
 }
 
 -- the state at a moment: the clock doesn't go back, and only what is live is left

@@ -22,24 +22,24 @@ state_for request now tables = without_reply request (live_state now tables)
 -- what plans rest on, which each lawful state has: no more replies than may be kept, which all can be sealed, and challenges of users
 -- of the configuration
 pub record AreUsable (configuration : Configuration) (tables : Tables) : Type 0 where
-  pub few : length tables.recent.table.kept ≤ kept_max
-  pub sealable : All (λ reply. IsReply reply.body) tables.recent.table.kept
+  pub few : length tables.replies.table.kept ≤ kept_max
+  pub sealable : All (λ reply. IsReply reply.body) tables.replies.table.kept
   pub users : All (λ challenge. challenge.user < length configuration.users) tables.challenges.table.challenges
 
 -- nothing in the tables is past its life
 pub record AreLive (now : ℕ) (tables : Tables) : Type 0 where
   pub sessions : cut now tables.sessions.table ≡ tables.sessions.table
-  pub replies : cut_replies now tables.recent.table ≡ tables.recent.table
+  pub replies : cut_replies now tables.replies.table ≡ tables.replies.table
   pub challenges : cut_challenges now tables.challenges.table ≡ tables.challenges.table
 
 -- memory that was ready still is
 pub record HaveRoomOf (old new : Tables) : Type 0 where
   pub sessions : old.sessions.has_room ≡ true → new.sessions.has_room ≡ true
-  pub replies : new.recent.ready ≡ old.recent.ready
+  pub replies : new.replies.ready ≡ old.replies.ready
   pub challenges : old.challenges.has_room ≡ true → new.challenges.has_room ≡ true
 
 -- the same rows and the same next numbers
 pub record AreTheSame (tables others : Tables) : Type 0 where
   pub sessions : AreSameSessions tables.sessions.table others.sessions.table
-  pub replies : tables.recent.table.kept ≡ others.recent.table.kept
+  pub replies : tables.replies.table.kept ≡ others.replies.table.kept
   pub challenges : AreSameChallenges tables.challenges.table others.challenges.table

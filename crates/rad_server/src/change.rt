@@ -105,7 +105,7 @@ pub(crate) fn make_change(
     requires ready { IsReadyFor change.now tables.old }
     ensures changed { state_with now tables.new
         ≡ changed_by request.now draw.now change.now (state_with now tables.old) }
-    ensures recent { tables.new.recent ≡ tables.old.recent }
+    ensures replies { tables.new.replies ≡ tables.old.replies }
 {
     let Tables {
         sessions,

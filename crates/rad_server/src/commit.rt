@@ -2,7 +2,7 @@
 ghost use Rattle.std.specs.Prelude.{◌≡◌, ◌≤◌, OnOk, option_copied, true};
 ghost use Rattle.rad_config.specs.Spans.{moment_max};
 ghost use Rattle.rad_recent.specs.Challenges.{cut_challenges};
-ghost use Rattle.rad_server.specs.Changes.{waiting_without};
+ghost use Rattle.rad_server.specs.Changes.{challenges_without};
 ghost use Rattle.rad_server.specs.Plans.{IsPlanOf, IsReadyForPlan, planned_answer};
 ghost use Rattle.rad_server.specs.TableStates.{live_state};
 ghost use Rattle.rad_server.specs.Servers.{state_with};
@@ -27,7 +27,7 @@ pub(crate) fn make_room(tables: &mut Tables, plan: &Plan) -> Result<(), AllocErr
     };
     let Tables {
         sessions,
-        recent,
+        replies,
         challenges,
     } = tables;
     match reply.change {
@@ -35,7 +35,7 @@ pub(crate) fn make_room(tables: &mut Tables, plan: &Plan) -> Result<(), AllocErr
         Change::Grant(_) => sessions.room()?,
         Change::Nothing | Change::Report(_) => {}
     }
-    recent.make_ready(&kept.key)
+    replies.make_ready(&kept.key)
 }
 
 /// Removes what is no longer live, does what is planned for a request, and gives the answer.
@@ -67,7 +67,7 @@ pub(crate) fn commit(
             } = reply;
             take_answered(&mut tables.challenges, now, request.client, answered);
             make_change(tables, now, request, draw, &change);
-            tables.recent.put(kept);
+            tables.replies.put(kept);
             Answer::Send(body)
         }
     }
@@ -78,7 +78,7 @@ fn take_answered(challenges: &mut Challenges, now: u64, client: u32, state: Opti
     requires moment { now ≤ moment_max }
     requires live { cut_challenges now challenges.old.table ≡ challenges.old.table }
     ensures left { challenges.new.table
-        ≡ waiting_without client (option_copied state.entry) challenges.old.table }
+        ≡ challenges_without client (option_copied state.entry) challenges.old.table }
     ensures live { cut_challenges now challenges.new.table ≡ challenges.new.table }
     ensures room { challenges.old.has_room ≡ true → challenges.new.has_room ≡ true }
 {

@@ -44,6 +44,7 @@ impl Denial {
     }
 }
 
+// A refusal says why there is no new session, and a denial what the Access-Reject says.
 impl From<Refusal> for Denial {
     ghost from_gives = { λ refusal denial. denial ≡ denial_of refusal };
 

@@ -23,7 +23,7 @@ pub struct Entry {
     pub moment: u64,
     /// The draw for the State of a challenge.
     pub draw: [u8; 16],
-    /// What the server did with it.
+    /// What the server did with it. The step would give it again, but a worker seals it after it has left the lock.
     pub answer: Answer,
 }
 

@@ -1,7 +1,7 @@
 //! The law of the state.
 ghost use Rattle.rad_server.specs.Lawful.{OpeningIsLawful, StepKeepsTheLaw};
 
-use rad_pool::lawful_tables;
+use rad_pool::lawful_sessions;
 use rad_recent::{lawful_challenges, lawful_replies};
 
 /// The state before the first request is lawful, and with a configuration in its ranges the step for a request that may be answered
@@ -12,7 +12,7 @@ pub fn lawful_steps()
     ensures opening { OpeningIsLawful }
     ensures step { StepKeepsTheLaw }
 {
-    lawful_tables();
+    lawful_sessions();
     lawful_replies();
     lawful_challenges();
 }

@@ -1,8 +1,6 @@
 //! How often an attribute occurs, for those that an Access-Request may have once.
 ghost use Rattle.std.specs.Prelude.{◌≡◌};
-ghost use Rattle.std.specs.List.{AllByRecursion};
 ghost use Rattle.rad_packet.specs.AttributeViews.{attribute_of};
-ghost use Rattle.rad_packet.specs.Attributes.{IsAttribute};
 ghost use Rattle.rad_server.specs.SentCredentials.{AreAccessAttributes, IsOneMore, occurrence_of, one_more};
 
 use rad_packet::attribute::{

@@ -87,10 +87,10 @@ pub(crate) fn plan_step<'a>(
         Told::Ruled(ruled) => ruled,
     };
     let key = key_of(request);
-    if let Some(kept) = tables.recent.look(&key, request.packet.octets(), now) {
+    if let Some(kept) = tables.replies.look(&key, request.packet.octets(), now) {
         return Ok(Plan::Unchanged(kept.copy()?));
     }
-    if is_full(&tables.recent, &key, now) {
+    if is_full(&tables.replies, &key, now) {
         return Ok(Plan::Busy);
     }
     let mut reply = plan_reply(alloc, tables, now, prepared, ruled, draw)?;
@@ -151,11 +151,11 @@ fn key_of(request: &Request) -> Key
 }
 
 // Whether a reply to a request with this key can't be kept, since too many others are.
-fn is_full(recent: &Recent, key: &Key, now: u64) -> bool
+fn is_full(replies: &Recent, key: &Key, now: u64) -> bool
     requires { now ≤ moment_max }
-    ensures { result ≡ is_full (beside key.now now recent.now.table) }
+    ensures { result ≡ is_full (beside key.now now replies.now.table) }
 {
-    recent.peek(key, now).is_err()
+    replies.peek(key, now).is_err()
 }
 
 // The reply by a rule.

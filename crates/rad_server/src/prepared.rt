@@ -1,4 +1,5 @@
-//! Requests that are prepared: what the configuration tells of them is known before the state is looked at.
+//! Requests that are prepared: what the configuration tells of them is known before the state is looked at. So passwords are compared
+//! side by side, and the lock is held for less time. A repeat is prepared too, since only the state tells that it is one.
 ghost use Rattle.std.specs.Prelude.{◌≡◌, ◌≤◌, length, map, All, IfSome};
 ghost use Rattle.rad_auth.specs.Admission.{HoldsAdmitted, IsAdmitted, IsAnswerable, proxy_states_max, proxy_states_size};
 ghost use Rattle.rad_server.specs.Prepared.{IsBodyOf, IsInquiryIn, IsTold, prepared_in, right_of};

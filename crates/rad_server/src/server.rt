@@ -100,21 +100,21 @@ impl<'c> Server<'c> {
 
     /// The sessions.
     pub fn sessions(&self) -> &Sessions
-        ensures { result.now.table ≡ self.now.state.table }
+        ensures { result.now.table ≡ self.now.state.sessions }
     {
         &self.tables.sessions
     }
 
     /// The kept replies.
-    pub fn recent(&self) -> &Recent
+    pub fn replies(&self) -> &Recent
         ensures { result.now.table ≡ self.now.state.replies }
     {
-        &self.tables.recent
+        &self.tables.replies
     }
 
     /// The challenges that wait for an answer.
     pub fn challenges(&self) -> &Challenges
-        ensures { result.now.table ≡ self.now.state.waiting }
+        ensures { result.now.table ≡ self.now.state.challenges }
     {
         &self.tables.challenges
     }

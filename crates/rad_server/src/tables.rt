@@ -1,9 +1,7 @@
 //! The tables of what the server remembers.
-ghost use Rattle.std.specs.Prelude.{◌≡◌, ◌≤◌, ◌↔◌, IfOk, IsTrue, true};
-ghost use Rattle.rad_config.specs.Spans.{moment_max, spans_of};
-ghost use Rattle.rad_pool.specs.Sessions.{AreSame as AreSameSessions, cut};
-ghost use Rattle.rad_recent.specs.Challenges.{AreSame as AreSameChallenges, cut_challenges};
-ghost use Rattle.rad_recent.specs.Recent.{cut_replies};
+ghost use Rattle.std.specs.Prelude.{◌≡◌, ◌≤◌, ◌↔◌, IfOk, IsTrue};
+ghost use Rattle.rad_config.specs.Spans.{moment_max};
+ghost use Rattle.rad_pool.specs.Sessions.{cut};
 ghost use Rattle.rad_server.specs.TableStates.{AreLive, AreTheSame, HaveRoomOf};
 ghost use Rattle.rad_server.specs.Servers.{state_with};
 ghost use Rattle.rad_server.specs.States.{opening, without_expired};
@@ -17,7 +15,7 @@ use std::alloc::{AllocError, Global};
 #[derive(Drop)]
 pub(crate) struct Tables {
     pub sessions: Sessions,
-    pub recent: Recent,
+    pub replies: Recent,
     pub challenges: Challenges,
 }
 
@@ -28,7 +26,7 @@ impl Tables {
     {
         Ok(Tables {
             sessions: Sessions::open(alloc, config)?,
-            recent: Recent::open(alloc, config)?,
+            replies: Recent::open(alloc, config)?,
             challenges: Challenges::open(alloc, config)?,
         })
     }
@@ -42,11 +40,11 @@ impl Tables {
     {
         let Tables {
             sessions,
-            recent,
+            replies,
             challenges,
         } = self;
         sessions.expire(now);
-        recent.expire(now);
+        replies.expire(now);
         challenges.expire(now);
     }
 
@@ -56,7 +54,7 @@ impl Tables {
     {
         Ok(Tables {
             sessions: self.sessions.copy()?,
-            recent: self.recent.copy()?,
+            replies: self.replies.copy()?,
             challenges: self.challenges.copy()?,
         })
     }
@@ -66,7 +64,7 @@ impl Tables {
         ensures { IsTrue result ↔ AreTheSame self.now other.now }
     {
         self.sessions.same(&other.sessions)
-            && self.recent.same(&other.recent)
+            && self.replies.same(&other.replies)
             && self.challenges.same(&other.challenges)
     }
 }

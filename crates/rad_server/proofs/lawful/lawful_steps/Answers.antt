@@ -3,14 +3,14 @@ use Rattle.rad_server.proofs.lawful.lawful_steps.Goals as goal
 
 pub returns-clause-opening : goal.returns-clause-opening
 returns-clause-opening c = opening_is_lawful (record {
-  sessions = c.lawful_tables.ensures.opening;
+  sessions = c.lawful_sessions.ensures.opening;
   replies = c.lawful_replies.ensures.opening;
   challenges = c.lawful_challenges.ensures.opening;
 })
 
 pub returns-clause-step : goal.returns-clause-step
 returns-clause-step c = λ configuration state request moment draw valid answerable within drawn lawful.
-    let sessions = c.lawful_tables.ensures in
+    let sessions = c.lawful_sessions.ensures in
     let replies = c.lawful_replies.ensures in
     let challenges = c.lawful_challenges.ensures in
     step_is_lawful (record {

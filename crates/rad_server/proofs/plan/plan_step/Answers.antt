@@ -17,7 +17,7 @@ returns-in-Some-clause-planned c =
 pub returns-in-Some-clause-sealable : goal.returns-in-Some-clause-sealable
 returns-in-Some-clause-sealable c =
     let current : State = live_state c.args.now c.args.tables.now in
-    let table = c.args.tables.now.recent.table in
+    let table = c.args.tables.now.replies.table in
     let found : option_map (λ reply. reply.body) (reply_kept c.args.prepared.now.request current) ≡ Some c.in_ok-copy.field-0 = search rules in
     subst (λ o. IfSome o IsReply) found
     (image_has IsReply (λ reply. reply.body) (reply_kept c.args.prepared.now.request current)
@@ -30,7 +30,7 @@ returns-then-is_full-clause-planned c =
     let none : option_map (λ reply. reply.body) (reply_kept c.args.prepared.now.request current) ≡ None = search rules in
     let full : is_full (without_key (key_of c.args.prepared.now.request) current.replies) ≡ true = search rules in
     let few : length current.replies.kept ≤ kept_max =
-    omega (arith, filter_short (is_reply_live c.args.tables.now.recent.table.window c.args.now) c.args.tables.now.recent.table.kept, c.requires.usable.few) in
+    omega (arith, filter_short (is_reply_live c.args.tables.now.replies.table.window c.args.now) c.args.tables.now.replies.table.kept, c.requires.usable.few) in
     no_answer c.args.prepared.now.configuration current c.args.prepared.now.request c.args.draw.now (search rules) none full few
 
 pub returns-in-Status-clause-planned : goal.returns-in-Status-clause-planned
