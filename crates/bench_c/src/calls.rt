@@ -2,7 +2,7 @@
 //!
 //! The export fills the tables and takes turns on them. In a turn one call is timed, made so many times; then as many rows go and come
 //! as are missing, so that the tables are as full as before.
-ghost use Rattle.std.specs.Prelude.{◌≡◌, ◌≤◌, ◌<◌, IfSome, length};
+ghost use Rattle.std.specs.Prelude.{◌≤◌, ◌<◌, IfSome, length};
 ghost use Rattle.rad_config.specs.Spans.{moment_max};
 
 use crate::clock;

@@ -3,7 +3,7 @@
 //! Each export takes messages, one in each slot of 256 octets, does its work over them as many times as asked, and
 //! writes what it made of them one after the other. A message is cut as a server cuts a packet: a header of 4 octets, an
 //! authenticator of 16, attributes, and a secret of 9.
-ghost use Rattle.std.specs.Prelude.{◌≡◌, ◌+◌, ◌-◌, ◌*◌, ◌<◌, ◌≤◌, ◌^◌, length};
+ghost use Rattle.std.specs.Prelude.{◌+◌, ◌-◌, ◌*◌, ◌<◌, ◌≤◌, ◌^◌, length};
 ghost use Rattle.rad_md5.specs.Pieces.{HasFreePiece, message};
 
 use crate::plain;

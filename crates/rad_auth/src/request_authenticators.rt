@@ -1,5 +1,5 @@
 //! The Authenticators and Message-Authenticators that eight requests must have, computed side by side.
-ghost use Rattle.std.specs.Prelude.{◌≡◌, ◌<◌, ◌^◌, ◌-◌, length, All};
+ghost use Rattle.std.specs.Prelude.{◌≡◌, ◌<◌, ◌-◌, length, All};
 ghost use Rattle.rad_hmac.specs.Hmac.{text_limit};
 ghost use Rattle.rad_md5.specs.Pieces.{HasFreePiece, message};
 ghost use Rattle.rad_auth.specs.Admission.{is_message_authenticator_checked};

@@ -1,5 +1,5 @@
 //! Sealing: the octets of replies, and of requests, under a secret.
-ghost use Rattle.std.specs.Prelude.{◌≡◌, ◌↔◌, ◌+◌, ◌<◌, ◌≤◌, ◌^◌, ◌-◌, length, IsOk, IfSome, OnOk, OnErr};
+ghost use Rattle.std.specs.Prelude.{◌≡◌, ◌↔◌, ◌+◌, ◌<◌, ◌≤◌, ◌-◌, length, IsOk, IfSome, OnOk, OnErr};
 ghost use Rattle.rad_hmac.specs.Hmac.{mac_under, text_limit};
 ghost use Rattle.rad_md5.specs.Pieces.{HasFreePiece, message};
 ghost use Rattle.rad_packet.specs.Bodies.{FitsPacket};

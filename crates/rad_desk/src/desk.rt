@@ -26,7 +26,7 @@ pub const PASSES_MAX: u64 = 8;
 /// One server that many threads ask, each with a pass.
 #[derive(Drop)]
 pub struct Desk<'c, L: Opened> {
-    // The server as it was when the desk opened.
+    // The server as it was when the desk opened: beside the lock, so that asking reads its configuration without the lock.
     opening: Server<'c>,
     lock: Mutex<Locked<'c, L>>,
     ghost opened: { opening ≡ L.opening },

@@ -1,5 +1,5 @@
 //! Whether the receipts of passes agree with a history.
-ghost use Rattle.std.specs.Prelude.{◌≡◌, ◌≤◌, length, IfErr, IfOk, IfSome, IfNone, IsTrue, OnOk, ◌↔◌};
+ghost use Rattle.std.specs.Prelude.{◌≡◌, IfErr, IfOk, IfSome, IfNone, IsTrue, OnOk, ◌↔◌};
 ghost use Rattle.rad_server.specs.Runs.{IsHistory};
 ghost use Rattle.rad_desk.specs.Settlements.{
   Agrees,
@@ -74,7 +74,7 @@ pub(crate) fn compare<L: Opened>(history: &[Entry], passes: &[Pass<L>]) -> Resul
     Ok(())
 }
 
-// Whether the passes have this many receipts.
+// Whether the passes have this many receipts. The ledger says so once all passes are back, but no type makes a caller bring all.
 fn has_receipts<L: Opened>(count: usize, passes: &[Pass<L>]) -> bool
     ensures { IsTrue result ↔ (receipt_count passes.now ≡ count) }
 {

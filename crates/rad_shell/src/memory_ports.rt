@@ -1,5 +1,5 @@
 //! Ports over memory.
-ghost use Rattle.std.specs.Prelude.{◌≡◌, ◌≤◌, ◌<◌, IsTrue};
+ghost use Rattle.std.specs.Prelude.{◌≤◌, ◌<◌, IsTrue};
 
 use crate::ports::{Got, PortFault, Ports, RECEIVED_MAX};
 use rad_auth::Door;
