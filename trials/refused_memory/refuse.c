@@ -1,6 +1,6 @@
 // Loaded before a program, refuses it allocations: that with the number in REFUSE, counted from 1, or each of them where REFUSE is
 // `all`. A program that takes marks is counted and refused only between them: two allocations of certain sizes, which crates/
-// refused_memory/src/trial.rt knows too. It is said to do so by MARKED. Says "refused" on standard error where it refused one.
+// trial_refused_memory/src/trial.rt knows too. It is said to do so by MARKED. Says "refused" on standard error where it refused one.
 #include <errno.h>
 #include <stdatomic.h>
 #include <stddef.h>

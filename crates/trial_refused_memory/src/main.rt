@@ -1,0 +1,266 @@
+//! What calls do where memory is refused. Each run of the table makes a call; a line says `right`, or `wrong` and why.
+//!
+//! Before and after its call a run takes a mark (`trial.rt`), so that only allocations of that call are refused. Whichever is, the
+//! lines stay the same. Without an argument all runs are made, with an argument the one of that name.
+#![tactic(auto)]
+
+mod clients;
+mod desks;
+mod moments;
+mod packets;
+mod prepared;
+mod replays;
+mod requests;
+mod rounds;
+mod servers;
+mod tables;
+mod trial;
+
+use crate::trial::Verdict;
+use std::alloc::AllocGlobal;
+use std::convert::AsStr;
+use std::rt::Env;
+use std::sync::Wait;
+use std::thread::Threads;
+use std::{env, io};
+
+/// What a run calls.
+#[derive(Clone, Copy)]
+enum Run {
+    /// A call of `rad_packet`.
+    Packet(packets::Call),
+    /// A call on clients or texts, or one that reads a configuration.
+    Client(clients::Call),
+    /// A call on sessions, kept replies or challenges.
+    Table(tables::Call),
+    /// A call that prepares a request.
+    Prepared(prepared::Call),
+    /// A call on a server or a book.
+    Server(servers::Call),
+    /// A call on claims or a desk.
+    Desk(desks::Call),
+    /// A call on a service or its ports.
+    Round(rounds::Call),
+    /// A call of `rad_replay`.
+    Replay(replays::Call),
+}
+
+/// The runs, each with its name: the call, and then what it is made on. A call `without memory` makes no allocation.
+const RUNS: &[(&str, Run)] = &[
+    ("Body::with_room", Run::Packet(packets::Call::WithRoom)),
+    ("Body::push", Run::Packet(packets::Call::Push)),
+    (
+        "Body::push on a shared body",
+        Run::Packet(packets::Call::PushShared),
+    ),
+    (
+        "Body::push into room, without memory",
+        Run::Packet(packets::Call::PushIntoRoom),
+    ),
+    ("Body::share", Run::Packet(packets::Call::Share)),
+    ("Body::copy", Run::Packet(packets::Call::Copy)),
+    (
+        "Body::copy of a shared body, without memory",
+        Run::Packet(packets::Call::CopyShared),
+    ),
+    ("Octets::of", Run::Packet(packets::Call::OctetsOf)),
+    ("Octets::share", Run::Packet(packets::Call::OctetsShare)),
+    ("Octets::copy", Run::Packet(packets::Call::OctetsCopy)),
+    ("Frame::new", Run::Packet(packets::Call::FrameNew)),
+    ("Clients::add", Run::Client(clients::Call::Add)),
+    ("Text::copy_of", Run::Client(clients::Call::TextCopy)),
+    ("Config::read", Run::Client(clients::Call::ConfigRead)),
+    (
+        "read_configuration",
+        Run::Client(clients::Call::ConfigurationRead),
+    ),
+    ("Sessions::open", Run::Table(tables::Call::SessionsOpen)),
+    ("Sessions::room", Run::Table(tables::Call::SessionsRoom)),
+    ("Sessions::grant", Run::Table(tables::Call::Grant)),
+    (
+        "Sessions::grant when a session expires",
+        Run::Table(tables::Call::GrantLater),
+    ),
+    (
+        "Sessions::grant after room, without memory",
+        Run::Table(tables::Call::GrantAfterRoom),
+    ),
+    ("Sessions::copy", Run::Table(tables::Call::SessionsCopy)),
+    (
+        "Recent::open, without memory",
+        Run::Table(tables::Call::RecentOpen),
+    ),
+    ("Recent::room", Run::Table(tables::Call::RecentRoom)),
+    ("Recent::make_ready", Run::Table(tables::Call::MakeReady)),
+    ("Recent::keep", Run::Table(tables::Call::Keep)),
+    (
+        "Recent::keep when a reply expires",
+        Run::Table(tables::Call::KeepLater),
+    ),
+    (
+        "Recent::keep after room, without memory",
+        Run::Table(tables::Call::KeepAfterRoom),
+    ),
+    ("Recent::keep_shared", Run::Table(tables::Call::KeepShared)),
+    ("Recent::copy", Run::Table(tables::Call::RecentCopy)),
+    ("Kept::copy", Run::Table(tables::Call::KeptCopy)),
+    (
+        "Challenges::open, without memory",
+        Run::Table(tables::Call::ChallengesOpen),
+    ),
+    ("Challenges::room", Run::Table(tables::Call::ChallengesRoom)),
+    ("Challenges::issue", Run::Table(tables::Call::Issue)),
+    (
+        "Challenges::issue when a challenge expires",
+        Run::Table(tables::Call::IssueLater),
+    ),
+    (
+        "Challenges::issue after room, without memory",
+        Run::Table(tables::Call::IssueAfterRoom),
+    ),
+    ("Challenges::copy", Run::Table(tables::Call::ChallengesCopy)),
+    (
+        "prepare8 of a log-in, without memory",
+        Run::Prepared(prepared::Call::LogIn),
+    ),
+    (
+        "prepare8 of an Access-Reject",
+        Run::Prepared(prepared::Call::Reject),
+    ),
+    (
+        "prepare8 of an Accounting-Response",
+        Run::Prepared(prepared::Call::Response),
+    ),
+    (
+        "prepare8 of a Status-Server",
+        Run::Prepared(prepared::Call::Status),
+    ),
+    ("Server::open", Run::Server(servers::Call::Open)),
+    ("Server::copy", Run::Server(servers::Call::Copy)),
+    (
+        "Server::step to an Access-Accept",
+        Run::Server(servers::Call::Accept),
+    ),
+    (
+        "Server::step to an Access-Accept, when all expires",
+        Run::Server(servers::Call::AcceptLater),
+    ),
+    (
+        "Server::step to an Access-Challenge",
+        Run::Server(servers::Call::Challenge),
+    ),
+    (
+        "Server::step to an Access-Challenge, when all expires",
+        Run::Server(servers::Call::ChallengeLater),
+    ),
+    (
+        "Server::step to an Access-Reject",
+        Run::Server(servers::Call::Reject),
+    ),
+    (
+        "Server::step to an Accounting-Response",
+        Run::Server(servers::Call::Response),
+    ),
+    (
+        "Server::step to an Accounting-Response, when all expires",
+        Run::Server(servers::Call::ResponseLater),
+    ),
+    (
+        "Server::step of a Status-Server",
+        Run::Server(servers::Call::Status),
+    ),
+    (
+        "Server::step of a repeat, without memory",
+        Run::Server(servers::Call::Repeat),
+    ),
+    (
+        "Server::step to Busy, without memory",
+        Run::Server(servers::Call::Busy),
+    ),
+    ("Answer::copy", Run::Server(servers::Call::AnswerCopy)),
+    ("Entry::copy", Run::Server(servers::Call::EntryCopy)),
+    ("Book::open", Run::Server(servers::Call::BookOpen)),
+    ("Book::exchange", Run::Server(servers::Call::Exchange)),
+    (
+        "Book::exchange when all expires",
+        Run::Server(servers::Call::ExchangeLater),
+    ),
+    ("Claims::open", Run::Desk(desks::Call::ClaimsOpen)),
+    ("Desk::open", Run::Desk(desks::Call::DeskOpen)),
+    ("Desk::ask", Run::Desk(desks::Call::Ask)),
+    ("Service::open", Run::Round(rounds::Call::Open)),
+    (
+        "Service::round by one worker",
+        Run::Round(rounds::Call::Round(1)),
+    ),
+    (
+        "Service::round by two workers",
+        Run::Round(rounds::Call::Round(2)),
+    ),
+    (
+        "Service::round by one worker, after a round",
+        Run::Round(rounds::Call::NextRound(1)),
+    ),
+    (
+        "Service::round by two workers, after a round",
+        Run::Round(rounds::Call::NextRound(2)),
+    ),
+    ("Service::reuse", Run::Round(rounds::Call::Reuse)),
+    ("Turns::open", Run::Round(rounds::Call::TurnsOpen)),
+    ("run_rounds in three turns", Run::Round(rounds::Call::Turns)),
+    ("MemoryPorts::arrive", Run::Round(rounds::Call::Arrive)),
+    ("read_text", Run::Replay(replays::Call::ReadText)),
+    ("run_replay", Run::Replay(replays::Call::Replay)),
+    (
+        "run_replay of a faulty configuration",
+        Run::Replay(replays::Call::Fault),
+    ),
+    ("Make::request", Run::Replay(replays::Call::Make)),
+];
+
+fn judge<R: Threads + Wait + Sync + AllocGlobal>(rt: &R, run: Run) -> Verdict {
+    match run {
+        Run::Packet(call) => packets::judge_call(rt.alloc(), call),
+        Run::Client(call) => clients::judge_call(rt.alloc(), call),
+        Run::Table(call) => tables::judge_call(rt.alloc(), call),
+        Run::Prepared(call) => prepared::judge_call(rt.alloc(), call),
+        Run::Server(call) => servers::judge_call(rt.alloc(), call),
+        Run::Desk(call) => desks::judge_call(rt, call),
+        Run::Round(call) => rounds::judge_call(rt, call),
+        Run::Replay(call) => replays::judge_call(rt.alloc(), call),
+    }
+}
+
+fn print_run<R: Threads + Wait + Sync + AllocGlobal + Print>(
+    rt: &R,
+    name: &str,
+    run: Run,
+) -> io::Result<()> {
+    println!(rt; "{name}: {}", judge(rt, run).text())
+}
+
+fn print_runs<R: Threads + Wait + Sync + AllocGlobal + Print>(
+    rt: &R,
+    wanted: Option<&str>,
+) -> io::Result<()> {
+    for (name, run) in RUNS.iter() {
+        if wanted.is_none() || wanted == Some(*name) {
+            print_run(rt, name, *run)?;
+        }
+    }
+    Ok(())
+}
+
+// The first argument.
+fn first_word<R: Env + AllocGlobal>(rt: &R) -> Option<String> {
+    let mut words = env::args(rt).ok()?;
+    words.next();
+    words.next()
+}
+
+fn main(rt: HostRuntime) -> io::Result<()> {
+    match first_word(&rt) {
+        Some(name) => print_runs(&rt, Some(name.as_str())),
+        None => print_runs(&rt, None),
+    }
+}
