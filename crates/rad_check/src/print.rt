@@ -41,14 +41,14 @@ fn is_open(mode: u32) -> bool
 
 fn warn_of_configuration<R: Eprint>(rt: &R, config: &Config) {
     if Warning::NoClient.applies(config) {
-        let _ = eprintln!(rt; "radpool: warning: no client, so each datagram is discarded");
+        let _ = eprintln!(rt; "radpool: warning: no clients: every datagram is discarded");
     }
     if Warning::NoUser.applies(config) {
-        let _ = eprintln!(rt; "radpool: warning: no user, so each log-in is rejected");
+        let _ = eprintln!(rt; "radpool: warning: no users: every log-in is rejected");
     }
     if Warning::ShortHold.applies(config) {
         let _ = eprintln!(rt;
-            "radpool: warning: hold is below {SHORT_HOLD} seconds: a session whose Start comes later has lost its address"
+            "radpool: warning: hold is below {SHORT_HOLD} seconds: a session whose Start comes later loses its address"
         );
     }
     for (place, pool) in config.pools().iter().enumerate() {
@@ -60,5 +60,5 @@ fn warn_of_configuration<R: Eprint>(rt: &R, config: &Config) {
 
 fn warn_of_pool<R: Eprint>(rt: &R, first: u32, last: u32) {
     let (first, last) = (Ipv4Addr::from_bits(first), Ipv4Addr::from_bits(last));
-    let _ = eprintln!(rt; "radpool: warning: no user has the pool from {first} to {last}");
+    let _ = eprintln!(rt; "radpool: warning: no user uses the pool from {first} to {last}");
 }

@@ -40,7 +40,7 @@ impl<'a> Unknown<'a> {
     // Where the key belongs, or which name may be meant.
     fn write_hint<W: fmt::Write>(&self, f: &mut fmt::Formatter<W>) -> fmt::Result {
         if is_of_top(self.part, self.name) {
-            return f.write_str(": it belongs to the top, before the first [[..]]");
+            return f.write_str(": it belongs at the top, before the first [[..]]");
         }
         match near_name(self.part, self.name) {
             Some(known) => write!(f, ": did you mean '{}'?", known.name()),

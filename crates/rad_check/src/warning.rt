@@ -5,15 +5,15 @@ ghost use Rattle.rad_check.specs.Warnings.{applies, has_pool, is_held_briefly};
 
 use rad_config::{Config, User};
 
-/// A `hold` below this, in seconds, is short where there are pools: a session whose Start comes later has lost its address.
+/// A `hold` below this, in seconds, is short where there are pools: a session whose Start comes later loses its address.
 pub const SHORT_HOLD: u32 = 120;
 
 /// What may be wrong with a configuration, though it can be served.
 #[derive(Clone, Copy, Debug, PartialEq, Eq)]
 pub enum Warning {
-    /// There is no client, so each datagram is discarded.
+    /// There are no clients: every datagram is discarded.
     NoClient,
-    /// There is no user, so each log-in is rejected.
+    /// There are no users: every log-in is rejected.
     NoUser,
     /// There are pools, and `hold` is below `SHORT_HOLD`.
     ShortHold,

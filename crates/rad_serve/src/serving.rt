@@ -10,9 +10,9 @@ use crate::writer::{Writing, write_files, write_lines};
 use crossbeam_channel::bounded;
 use rad_auth::Door;
 use rad_check::{warn, warn_of_file};
-use rad_config::Config;
-use rad_replay::{divide, read_configuration};
+use rad_config::{Config, read_configuration};
 use rad_shell::{Gate, OpenGate, Ports, Served, Service, Turns, Unwatched, Watch};
+use rad_text::lines::divide;
 use rad_watch::Watcher;
 use rand_chacha::ChaCha20Rng;
 use rand_core::{Rng, SeedableRng};
@@ -73,7 +73,7 @@ fn head_of<R: Eprint>(
     };
     if divide(&text).is_some() {
         let _ = eprintln!(rt;
-            "radpool: warning: {path} stays unwritten: the configuration has a line ---"
+            "radpool: warning: cannot record to {path}: the configuration has a line ---"
         );
         return Ok(None);
     }
@@ -173,7 +173,9 @@ fn serve_beside<
     thread::scope(thread::scope_env(), rt, |scope| {
         let printing = scope.spawn(move || write_lines(rt, &lines, progress));
         if printing.is_err() {
-            let _ = eprintln!(system; "radpool: warning: no thread for the log");
+            let _ = eprintln!(system;
+                "radpool: warning: cannot start a thread for the log: no lines are written"
+            );
         }
         match scope.spawn(move || serving.run(rt)) {
             Ok(server) => {
@@ -181,7 +183,9 @@ fn serve_beside<
                 server.join(rt)
             }
             Err(error) => {
-                let _ = eprintln!(system; "radpool: warning: no thread for the files");
+                let _ = eprintln!(system;
+                    "radpool: warning: cannot start a thread to serve on: no files are written"
+                );
                 (error.value)()
             }
         }
@@ -198,7 +202,8 @@ fn listen<'r, R: Net + Clock + Print + AllocGlobal>(
     Ok(ports)
 }
 
-// Calls of so many turns follow one another, on the same service; if the number of turns is given, the first call makes them all.
+// Calls of `Turns::run` follow one another, on the same service; if the number of turns is given, the first call makes them all. A call
+// counts turns in 32 bits, which last 50 days at 1,000 a second.
 fn serve_turns<R: Print + Threads + Wait + Sync, P: Ports, D: Rng, G: Gate + Sync, W: Watch + Drop>(
     rt: &R,
     options: &Options,

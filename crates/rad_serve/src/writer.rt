@@ -118,7 +118,7 @@ impl<'w> Replaced<'w> {
         };
         progress.count_unwritten();
         if !self.is_told {
-            let _ = eprintln!(rt; "radpool: warning: {path} can't be written: {error}");
+            let _ = eprintln!(rt; "radpool: warning: cannot write {path}: {error}");
         }
         self.is_told = true;
     }
@@ -142,7 +142,9 @@ impl<'w, R: Files + Eprint + AllocGlobal> ReportFiles<'w, R> {
             Text::Metrics(text) => self.metrics.replace(self.rt, text, self.progress),
             Text::Sessions(text) => self.sessions.replace(self.rt, text, self.progress),
             Text::Record(text) => self.record(text),
-            Text::RecordEnd => self.end_recording("more came than can be written"),
+            Text::RecordEnd => self.end_recording(
+                "datagrams came faster than they could be written, or memory was refused",
+            ),
         }
     }
 
@@ -173,7 +175,7 @@ impl<'w, R: Files + Eprint + AllocGlobal> ReportFiles<'w, R> {
         self.progress.end_recording();
         self.progress.count_unwritten();
         if let Some(path) = self.record {
-            let _ = eprintln!(self.rt; "radpool: warning: the recording {path} ends: {why}");
+            let _ = eprintln!(self.rt; "radpool: warning: recording to {path} stopped: {why}");
         }
     }
 }

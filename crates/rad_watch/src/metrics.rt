@@ -47,32 +47,32 @@ fn sum_rows(sums: &Sums, unwritten: u64) -> [Row; 7] {
         ),
         (
             "radpool_busy_total",
-            "Requests without a reply, since no more replies can be kept.",
+            "Requests that got no reply because no more replies could be kept.",
             sums.busy,
         ),
         (
             "radpool_nomemory_total",
-            "Requests without a reply, since memory was refused.",
+            "Requests that got no reply because memory was refused.",
             sums.nomemory,
         ),
         (
             "radpool_lost_turns_total",
-            "Turns lost with all their datagrams, since memory was refused.",
+            "Turns lost with all their datagrams because memory was refused.",
             sums.lost,
         ),
         (
             "radpool_socket_failures_total",
-            "Calls on sockets that failed.",
+            "Socket calls that failed.",
             sums.failures,
         ),
         (
             "radpool_log_lines_left_out_total",
-            "Lines that the log left out.",
+            "Log lines left out.",
             sums.left_out,
         ),
         (
             "radpool_unwritten_total",
-            "Texts that could not be written to standard error or to a file.",
+            "Writes to standard error or to a file that failed or were skipped.",
             unwritten,
         ),
     ]
@@ -82,23 +82,23 @@ fn state_rows(tally: &Tally) -> [Row; 5] {
     [
         (
             "radpool_sessions_limit",
-            "The most sessions, ended ones included.",
+            "Maximum number of sessions, ended ones included.",
             SESSIONS_MAX as u64,
         ),
         ("radpool_kept_replies", "Kept replies.", tally.replies),
         (
             "radpool_kept_replies_limit",
-            "The most kept replies.",
+            "Maximum number of kept replies.",
             KEPT_MAX as u64,
         ),
         (
             "radpool_challenges",
-            "Challenges that wait for an answer.",
+            "Challenges waiting for an answer.",
             tally.challenges,
         ),
         (
             "radpool_challenges_limit",
-            "The most challenges.",
+            "Maximum number of challenges.",
             CHALLENGES_MAX as u64,
         ),
     ]
@@ -128,7 +128,7 @@ fn write_rejects(text: &mut Vec<u8>, sums: &Sums) -> io::Result<()> {
         text,
         name,
         "counter",
-        "Access-Rejects made, by their Reply-Message.",
+        "Access-Rejects made, by Reply-Message.",
     )?;
     for (denial, sum) in DENIALS.iter().zip(&sums.rejects) {
         write_sample(text, name, "text", denial.text(), *sum)?;
@@ -155,7 +155,7 @@ fn write_sessions(text: &mut Vec<u8>, tally: &Tally) -> io::Result<()> {
 
 fn write_sizes(text: &mut Vec<u8>, config: &Config) -> io::Result<()> {
     let name = "radpool_pool_addresses";
-    write_head(text, name, "gauge", "Addresses of a pool.")?;
+    write_head(text, name, "gauge", "Addresses of the pool.")?;
     for pool in config.pools().iter() {
         let size = pool.last.saturating_sub(pool.first).saturating_add(1);
         write_pool_sample(text, name, pool, u64::from(size))?;
@@ -169,7 +169,7 @@ fn write_uses(text: &mut Vec<u8>, config: &Config, tally: &Tally) -> io::Result<
         text,
         name,
         "gauge",
-        "Addresses of a pool that a session has.",
+        "Addresses of the pool that belong to a session.",
     )?;
     for (pool, used) in config.pools().iter().zip(&tally.used) {
         write_pool_sample(text, name, pool, *used)?;
@@ -183,7 +183,7 @@ fn write_turns(text: &mut Vec<u8>, sums: &Sums) -> io::Result<()> {
         text,
         name,
         "histogram",
-        "Datagrams of each turn that had any.",
+        "Datagrams per turn, of turns that had any and were not lost.",
     )?;
     sums.sizes.write(text, name, sums.sizes.sum())?;
     let name = "radpool_turn_seconds";
@@ -191,7 +191,7 @@ fn write_turns(text: &mut Vec<u8>, sums: &Sums) -> io::Result<()> {
         text,
         name,
         "histogram",
-        "How long each of these turns took.",
+        "Seconds per turn, of turns that had datagrams and were not lost.",
     )?;
     sums.times
         .write(text, name, Seconds::of_millionths(sums.times.sum()))

@@ -1,10 +1,10 @@
 //! The command `check`: whether a configuration can be served, and what may be wrong with it.
 
-use crate::command::{Fault, report};
+use crate::fault::{Fault, report};
 use clap::{Arg, ArgMatches, Command};
 use rad_check::{detail_of, warn};
-use rad_config::Config;
-use rad_replay::{RunFault, read_configuration};
+use rad_config::{Config, read_configuration};
+use rad_replay::RunFault;
 use rad_serve::open_text;
 use std::alloc::{AllocError, AllocGlobal, Global};
 use std::fmt;
@@ -12,7 +12,7 @@ use std::process::ExitCode;
 use std::rt::Files;
 
 const CHECK_EXAMPLE: &str = "\
-It prints 'PATH: good: ..' and on standard error what may be wrong, or the first fault.
+It prints 'PATH: good: ..', with warnings on standard error, or the first fault.
 
 Example:
   radpool check radpool.toml";
@@ -71,7 +71,7 @@ impl fmt::Display for Counted {
 /// The command, with the file that it checks.
 pub fn check_command<'a>(alloc: Global) -> Result<Command<'a>, AllocError> {
     Command::new(alloc, "check")
-        .about("Checks a configuration, and says what may be wrong with it")
+        .about("Checks a configuration, and warns of likely mistakes")
         .after_help(CHECK_EXAMPLE)
         .arg(
             Arg::new(alloc, "path")

@@ -1,28 +1,21 @@
 //! The command line: what it may say, and what is then done.
 
 use crate::check_command::{check_command, path_in};
+use crate::fault::{Fault, error_of, report};
 use crate::options::{Absent, OCTET, TEXT, Valued, WORD, with_options};
 use crate::serve_command::{Serve, serve_command};
 use clap::builder::ValueParser;
 use clap::error::ErrorKind;
 use clap::{Arg, ArgAction, ArgMatches, Command};
-use rad_check::Detail;
-use rad_config::ConfigFault;
 use rad_replay::{KINDS, Kind, Make, MakeFault, RunFault, run_replay};
-use rad_serve::{Options, ServeError};
+use rad_serve::Options;
 use std::alloc::{AllocError, Global};
 use std::convert::AsStr;
 use std::process::ExitCode;
 use std::rt::Env;
 use std::{env, io};
 
-const VERSION: &str = "0.1.0";
-
-/// The status after a fault of the input, of a read or a write, or of memory.
-const RUN_FAULT: u8 = 1;
-
-/// The status after a fault of the command line.
-const COMMAND_FAULT: u8 = 2;
+const VERSION: &str = "1.0.0";
 
 const PROGRAM_EXAMPLES: &str = "\
 Examples:
@@ -31,10 +24,10 @@ Examples:
   radpool check radpool.toml
   radpool serve --config radpool.toml --seed radpool.seed
 
-'radpool COMMAND --help' says more of a command.";
+'radpool COMMAND --help' describes a command and its options.";
 
 const REPLAY_EXAMPLE: &str = "\
-The transcript has a configuration, a line '---', and a line for each datagram:
+A transcript is a configuration, the line '---', and one line per datagram:
 MOMENT DOOR ADDRESS:PORT OCTETS
 
 Example:
@@ -71,7 +64,7 @@ const MAKE_OPTIONS: &[Valued] = &[
     Valued {
         name: "random",
         value: "HEX",
-        help: "The Request Authenticator of kinds access and status",
+        help: "The Request Authenticator of kinds access and status, 32 hexadecimal digits",
         absent: Absent::Value("00000000000000000000000000000000"),
         parser: TEXT,
     },
@@ -92,7 +85,7 @@ const MAKE_OPTIONS: &[Valued] = &[
     Valued {
         name: "chap",
         value: "N",
-        help: "Sends the password by CHAP with this CHAP identifier, 0 to 255, instead of hiding it",
+        help: "Sends the password in a CHAP-Password with this identifier, 0 to 255, instead of a User-Password",
         absent: Absent::Nothing,
         parser: OCTET,
     },
@@ -106,7 +99,7 @@ const MAKE_OPTIONS: &[Valued] = &[
     Valued {
         name: "extra",
         value: "HEX",
-        help: "Attributes to put last, the octets of Type, Length and Value of each [default: none]",
+        help: "Attributes to append, each as Type, Length and Value in hexadecimal [default: none]",
         absent: Absent::Value(""),
         parser: TEXT,
     },
@@ -132,68 +125,11 @@ pub enum Next {
     Serve(Options),
 }
 
-/// Why a run ended without having done what was asked.
-#[derive(Drop)]
-pub enum Fault {
-    /// The words are no command, or ask for help or the version.
-    CommandLine(clap::Error),
-    /// A command came to its fault, or memory was refused.
-    Run(RunFault),
-    /// Serving came to its fault.
-    Serve(ServeError),
-    /// The configuration to check has a fault.
-    Config(ConfigFault, Detail),
-}
-
-impl From<clap::Error> for Fault {
-    fn from(error: clap::Error) -> Fault {
-        if error.kind() == ErrorKind::OutOfMemory {
-            Fault::Run(RunFault::NoMemory)
-        } else {
-            Fault::CommandLine(error)
-        }
-    }
-}
-
-impl From<AllocError> for Fault {
-    fn from(_error: AllocError) -> Fault {
-        Fault::Run(RunFault::NoMemory)
-    }
-}
-
-impl From<RunFault> for Fault {
-    fn from(fault: RunFault) -> Fault {
-        Fault::Run(fault)
-    }
-}
-
 /// Does what the words after the program's name ask for, except what takes files, which is left to the caller.
 pub fn run<R: Env + Input + Print + Eprint + AllocGlobal>(rt: &R) -> Next {
     match try_run(rt) {
         Ok(next) => next,
         Err(fault) => Next::End(report(rt, fault)),
-    }
-}
-
-/// Prints a fault on standard error, and returns the exit status.
-pub fn report<R: Eprint>(rt: &R, fault: Fault) -> ExitCode {
-    match fault {
-        Fault::CommandLine(error) => {
-            let _ = rt.eprint(&error);
-            ExitCode::from(COMMAND_FAULT)
-        }
-        Fault::Run(fault) => {
-            let _ = eprintln!(rt; "radpool: {fault}");
-            ExitCode::from(RUN_FAULT)
-        }
-        Fault::Serve(fault) => {
-            let _ = eprintln!(rt; "radpool: {fault}");
-            ExitCode::from(RUN_FAULT)
-        }
-        Fault::Config(fault, detail) => {
-            let _ = eprintln!(rt; "radpool: {fault}{detail}");
-            ExitCode::from(RUN_FAULT)
-        }
     }
 }
 
@@ -220,7 +156,7 @@ fn words<R: Env + AllocGlobal>(rt: &R) -> Result<Vec<String>, Fault> {
             Err(Fault::Run(RunFault::NoMemory))
         }
         Err(_) => {
-            let text = "a word of the command line is not UTF-8";
+            let text = "an argument is not valid UTF-8";
             let error = error_of(program(rt.alloc())?, ErrorKind::InvalidValue, text);
             Err(Fault::from(error?))
         }
@@ -255,12 +191,6 @@ fn unfit(alloc: Global, fault: MakeFault) -> Result<clap::Error, AllocError> {
     )
 }
 
-/// An error of a command, with this text.
-pub fn error_of(command: Command, kind: ErrorKind, text: &str) -> Result<clap::Error, AllocError> {
-    let mut command = command;
-    command.error(kind, text)
-}
-
 // What the words ask for.
 fn task_of<'a, S: AsStr>(alloc: Global, words: &'a [S]) -> Result<Task<'a>, clap::Error> {
     match task_in(&matches_of(alloc, words)?) {
@@ -268,7 +198,7 @@ fn task_of<'a, S: AsStr>(alloc: Global, words: &'a [S]) -> Result<Task<'a>, clap
         // Not reached: clap requires a command, and gives each option that is required or has a default its value.
         None => {
             let kind = ErrorKind::MissingSubcommand;
-            Err(error_of(program(alloc)?, kind, "a command would fit")?)
+            Err(error_of(program(alloc)?, kind, "expected a command")?)
         }
     }
 }
@@ -306,7 +236,7 @@ fn make_in<'a>(found: &ArgMatches<'a>) -> Option<Make<'a>> {
 // The whole command line.
 fn program<'a>(alloc: Global) -> Result<Command<'a>, AllocError> {
     Command::new(alloc, "radpool")
-        .about("A RADIUS server, which answers over UDP or from a transcript of datagrams")
+        .about("A RADIUS server that answers over UDP or replays a transcript of datagrams")
         .version(VERSION)
         .after_help(PROGRAM_EXAMPLES)
         .subcommand_required(true)
@@ -320,7 +250,9 @@ fn program<'a>(alloc: Global) -> Result<Command<'a>, AllocError> {
 
 fn replay_command<'a>(alloc: Global) -> Command<'a> {
     Command::new(alloc, "replay")
-        .about("Reads a transcript of datagrams from standard input, and prints a line for each")
+        .about(
+            "Answers the datagrams of a transcript on standard input, and prints one line for each",
+        )
         .after_help(REPLAY_EXAMPLE)
 }
 
@@ -332,6 +264,8 @@ fn make_command<'a>(alloc: Global) -> Result<Command<'a>, AllocError> {
         Arg::new(alloc, "mac")
             .long("mac")
             .action(ArgAction::SetTrue)
-            .help("Puts a Message-Authenticator first, in kind access; kind status always has one"),
+            .help(
+                "Begins an Access-Request with a Message-Authenticator; a Status-Server always has one",
+            ),
     )
 }

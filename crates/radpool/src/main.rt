@@ -4,6 +4,7 @@
 
 mod check_command;
 mod command;
+mod fault;
 mod options;
 mod serve_command;
 

@@ -1,6 +1,6 @@
 //! The command `serve`: its options, and its run.
 
-use crate::command::{Fault, error_of, report};
+use crate::fault::{Fault, error_of, report};
 use crate::options::{Absent, PORT, TEXT, Valued, with_options};
 use clap::builder::ValueParser;
 use clap::error::ErrorKind;
@@ -16,16 +16,16 @@ use std::thread::Threads;
 use std::time::Clock;
 
 const SERVE_EXAMPLE: &str = "\
-It prints 'listening ADDRESS AUTH ACCT', and after its last turn what the turns came to.
+It prints 'listening ADDRESS AUTH ACCT' and, after its last turn, a line of totals.
 
 Example:
   head -c 32 /dev/urandom > radpool.seed
   radpool serve --config radpool.toml --seed radpool.seed";
 
 const BAD_ADDRESS: &str =
-    "invalid value for '--bind <ADDRESS>': four numbers from 0 to 255, separated by points, would fit";
+    "invalid value for '--bind <ADDRESS>': expected an IPv4 address, such as 192.0.2.1";
 
-const BAD_WORKERS: &str = "invalid value for '--workers <N>': 1 to 8 would fit";
+const BAD_WORKERS: &str = "invalid value for '--workers <N>': expected 1 to 8";
 
 /// The options of `serve`: the files, where to listen, and how turns are made.
 const SERVE_OPTIONS: &[Valued] = &[
@@ -39,7 +39,7 @@ const SERVE_OPTIONS: &[Valued] = &[
     Valued {
         name: "seed",
         value: "PATH",
-        help: "A file of 32 random octets, from which the States of challenges are drawn",
+        help: "A file of exactly 32 random octets, the seed for the States of challenges",
         absent: Absent::Fault,
         parser: TEXT,
     },
@@ -67,42 +67,42 @@ const SERVE_OPTIONS: &[Valued] = &[
     Valued {
         name: "workers",
         value: "N",
-        help: "The most threads that answer at a time, 1 to 8",
+        help: "The maximum number of threads that answer a turn, 1 to 8",
         absent: Absent::Value("2"),
         parser: ValueParser::Unsigned(1, 8),
     },
     Valued {
         name: "rounds",
         value: "N",
-        help: "The turns to make, 1 to 4294967295, each of which waits a second at most [default: no end]",
+        help: "Exits after this many turns, 1 to 4294967295, each of which waits for at most a second [default: no end]",
         absent: Absent::Nothing,
         parser: ValueParser::Unsigned(1, 4_294_967_295),
     },
     Valued {
         name: "log",
         value: "LEVEL",
-        help: "Lines on standard error: of what is refused, or of all [default: none]",
+        help: "Logs to standard error what is refused, or everything [default: none]",
         absent: Absent::Nothing,
         parser: ValueParser::Names(LEVELS),
     },
     Valued {
         name: "metrics",
         value: "PATH",
-        help: "A file that gets the metrics every 10 seconds, in Prometheus' text format [default: none]",
+        help: "Writes metrics to this file every 10 seconds, in the Prometheus text format [default: none]",
         absent: Absent::Nothing,
         parser: TEXT,
     },
     Valued {
         name: "sessions",
         value: "PATH",
-        help: "A file that gets the sessions every 10 seconds, as a table [default: none]",
+        help: "Writes a table of sessions to this file every 10 seconds [default: none]",
         absent: Absent::Nothing,
         parser: TEXT,
     },
     Valued {
         name: "record",
         value: "PATH",
-        help: "A new file that gets the datagrams, as a transcript for 'replay' [default: none]",
+        help: "Records datagrams in this new file, as a transcript for 'replay' [default: none]",
         absent: Absent::Nothing,
         parser: TEXT,
     },
@@ -218,7 +218,7 @@ fn unfit_error(alloc: Global, text: &str) -> Result<clap::Error, AllocError> {
 /// The command, with its options.
 pub fn serve_command<'a>(alloc: Global) -> Result<Command<'a>, AllocError> {
     let command = Command::new(alloc, "serve")
-        .about("Answers requests that come to two UDP ports")
+        .about("Answers requests on two UDP ports")
         .after_help(SERVE_EXAMPLE);
     with_options(alloc, command, SERVE_OPTIONS)
 }

@@ -43,13 +43,13 @@ fn unknown_names_are_told_with_what_may_be_meant(rt: HostRuntime) {
             Part::User,
             "window",
             false,
-            "unknown key 'window' in user 3: it belongs to the top, before the first [[..]]",
+            "unknown key 'window' in user 3: it belongs at the top, before the first [[..]]",
         ),
         (
             Part::Client,
             "stale",
             true,
-            "unknown key 'stale' in client 3: it belongs to the top, before the first [[..]]",
+            "unknown key 'stale' in client 3: it belongs at the top, before the first [[..]]",
         ),
         (Part::User, "client", true, "unknown key 'client' in user 3"),
         (
