@@ -7,7 +7,7 @@ PROGRAM = crates/radpool/out/radpool
 try:
 	cd crates/radpool && rt try -- replay < ../../examples/requests.txt | diff ../../examples/requests.expected -
 	@cat examples/requests.expected
-	@echo "The output is that of examples/requests.expected. This was a trial run: nothing was proved."
+	@echo "The output matches examples/requests.expected. This was a trial run: nothing was proved."
 
 # Proves and builds radpool, runs it on the shipped transcript, and checks the shipped configuration.
 demo:
@@ -15,16 +15,16 @@ demo:
 	crates/radpool/out/radpool replay < examples/requests.txt | diff - examples/requests.expected
 	install -D -m 600 examples/radpool.toml out/radpool.toml
 	crates/radpool/out/radpool check out/radpool.toml
-	@echo "The output is that of examples/requests.expected. The program is crates/radpool/out/radpool."
+	@echo "The output matches examples/requests.expected. The program is crates/radpool/out/radpool."
 
 # Runs radpool with many command lines, and judges what each prints and its status. It needs Python 3.
 commands: demo
 	trials/command/run crates/radpool/out/radpool
 
-# Proves and builds refused_memory, and makes its runs and commands of radpool again and again, each time with another allocation
-# refused. It needs Python 3 and cc.
+# Proves and builds trial_refused_memory, and makes its runs and commands of radpool again and again, each time with another
+# allocation refused. It needs Python 3 and cc.
 refused-memory: demo
-	cd crates/refused_memory && rt run > /dev/null
+	cd crates/trial_refused_memory && rt run > /dev/null
 	trials/refused_memory/run
 
 # Serves over loopback with radpool, and judges what it answers and prints, also where the system refuses calls. It needs Python 3
@@ -33,8 +33,9 @@ udp: demo
 	trials/udp/run
 
 # Proves everything from nothing, tries the must-fail edits, and runs the tests and the programs. The run of radpool is the
-# example, and the list in docs/PROVED.md is the one that docs/definitions makes. Then the executables are tried: radpool with many
-# command lines and over UDP, and refused_memory and commands of radpool with each of their allocations refused in turn, and an installation.
+# example, and the list in docs/CLAUSES.md is the one that docs/definitions makes. Then the executables are tried: radpool with many
+# command lines and over UDP, trial_refused_memory and commands of radpool with each of their allocations refused in turn, and an
+# installation.
 test:
 	@cmp examples/requests.txt crates/radpool/stdin
 	@cmp examples/requests.expected crates/radpool/stdout
@@ -46,11 +47,11 @@ test:
 	@trials/install/run > /dev/null
 
 # Installs the executable of `make demo`, its man pages, a unit for systemd, room for receive buffers, the example configuration and
-# three documents, below PREFIX, which the installed texts name. Nothing in /etc is touched.
+# four documents, below PREFIX, which the installed texts name. Nothing in /etc is touched.
 to = $(DESTDIR)$(PREFIX)
 text = sed 's,/usr/local,$(PREFIX),g' $(1) | install -D -m 644 /dev/stdin "$(to)/$(2)"
 install:
-	@test -x "$(PROGRAM)" || { echo "There is no $(PROGRAM): run 'make demo' first." >&2; exit 1; }
+	@test -x "$(PROGRAM)" || { echo "$(PROGRAM) doesn't exist: run 'make demo' first." >&2; exit 1; }
 	install -D -m 755 "$(PROGRAM)" "$(to)/bin/radpool"
 	$(call text,man/radpool.8,share/man/man8/radpool.8)
 	$(call text,man/radpool.toml.5,share/man/man5/radpool.toml.5)
@@ -60,10 +61,11 @@ install:
 	$(call text,docs/OPERATING.md,share/doc/radpool/OPERATING.md)
 	$(call text,docs/FORMATS.md,share/doc/radpool/FORMATS.md)
 	$(call text,docs/TRYING.md,share/doc/radpool/TRYING.md)
+	$(call text,SECURITY.md,share/doc/radpool/SECURITY.md)
 
 # Removes what `install` installed, and the folder that only radpool uses.
 installed = bin/radpool share/man/man8/radpool.8 share/man/man5/radpool.toml.5 lib/systemd/system/radpool.service \
-	lib/sysctl.d/10-radpool.conf $(addprefix share/doc/radpool/,examples/radpool.toml OPERATING.md FORMATS.md TRYING.md)
+	lib/sysctl.d/10-radpool.conf $(addprefix share/doc/radpool/,examples/radpool.toml OPERATING.md FORMATS.md TRYING.md SECURITY.md)
 uninstall:
 	rm -f $(foreach file,$(installed),"$(to)/$(file)")
 	@test ! -d "$(to)/share/doc/radpool" || find "$(to)/share/doc/radpool" -type d -empty -delete
