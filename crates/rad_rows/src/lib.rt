@@ -14,6 +14,8 @@
 //! insert, and `push` fills the block in place: nothing leans on a reserve of the map. Now and then `room` takes out the blocks
 //! without rows.
 //!
+//! `HashKey` keys the hash of a map. The tables above have maps whose keys others choose; the map of blocks is none of them.
+//!
 //! Other crates rest on this: contracts see the rows as a list, and each call does to the list what its clauses say
 //! (`specs/Rows.antt`). Blocks and bounds are known to this crate alone.
 #![tactic(auto)]
@@ -21,12 +23,14 @@
 mod block;
 mod blocks;
 mod groups;
+mod hash_key;
 mod iter;
 mod live;
 mod plain;
 mod row;
 mod rows;
 
+pub use hash_key::HashKey;
 pub use iter::Iter;
 pub use row::{Change, Row, Tally};
 pub use rows::Rows;
