@@ -1,4 +1,4 @@
-use Rattle.std.proofs.Common.{◌≡◌, ℕ, ◌+◌, ◌-◌, ◌≤◌, ◌<◌, ◌^◌, Bool, true, false, cond, ◌&&◌, List, [], ◌∷◌, ◌++◌, Option, Some, None, refl, ap, ◌∙◌, sym, subst, eqb, ◌%◌, filter, find, map, length, is_some, unwrap_or, true≢false, arith, get_or, replicate}
+use Rattle.std.proofs.Common.{◌≡◌, ℕ, ◌+◌, ◌-◌, ◌≤◌, ◌<◌, ◌^◌, Bool, true, false, cond, ◌&&◌, List, [], ◌∷◌, ◌++◌, Option, Some, None, refl, ap, ◌∙◌, sym, subst, eqb, filter, find, map, length, is_some, unwrap_or, true≢false, arith, get_or, replicate}
 use Rattle.std.specs.List.{All, AllPairs, FoldsTo}
 use Rattle.std.specs.Option.{option_map}
 use Rattle.std.proofs.lemmas.Bool.{eq-eqb, eqb-true, ne_eqb}
@@ -7,15 +7,18 @@ use Rattle.std.proofs.lemmas.List.Elements.{All-head, All-tail}
 use Rattle.std.proofs.lemmas.List.Filters.{sum_by-filter_both}
 use Rattle.std.proofs.lemmas.List.Sums.{count_by-le-length, sum_by-append, sum_by-cons, sum_by_push}
 use Rattle.rad_config.specs.declared.spans.Spans.{Spans}
-use Rattle.rad_rows.specs.Rows.{IsBefore, Tells, has_number, is_dead}
+use Rattle.indexmap.specs.IndexMap.{IndexMap, spare}
+use Rattle.rad_rows.specs.Rows.{IsBefore, SeenRows, Tells, has_number, is_dead}
+use Rattle.rad_rows.specs.declared.hash_key.HashKey.{HashKey}
 use Rattle.rad_rows.proofs.OrderLemmas.{IsAfter, rest_after, rising_rest}
 use Rattle.rad_pool.specs.declared.counts.Counts.{Counts}
 use Rattle.rad_pool.specs.declared.session.Phase.{Phase}
 use Rattle.rad_pool.specs.declared.session.Phase.TheVariants.{Active, Ended, Pending}
 use Rattle.rad_pool.specs.declared.session.Session.{Session}
-use Rattle.rad_pool.specs.Counts.{Comes, CountsOpen, Ends, GainsOpen, HoldsCounts, Leaves, LosesOpen, found_open_by, group_of, is_open_by, one_open_by, open_by, source_groups, user_of}
+use Rattle.rad_pool.specs.Counts.{Comes, CountsOpen, CountsRows, CountsSources, Ends, GainsOpen, GainsSource, HoldsCounts, Leaves, LosesOpen, LosesSource, found_open_by, is_open_by, one_open_by, open_by, source_of, user_of}
 use Rattle.rad_pool.specs.Meant.{SentName, meant, is_meant}
 use Rattle.rad_pool.specs.Sessions.{if_numbered, is_live, is_open, live_sessions, session_ended, session_renewed, session_reset}
+use Rattle.rad_pool.specs.Sources.{HasNoZero, count_at}
 use Rattle.rad_pool.proofs.InsideLemmas.{inside_between, inside_changed, inside_copied, inside_gone, inside_granted}
 use Rattle.rad_pool.proofs.PlaceLemmas.{places_between, places_changed, places_copied, places_gone, places_granted}
 use Rattle.rad_pool.proofs.FindLemmas.{Means, find_false, find_none, find_true, none_passes}
@@ -28,46 +31,56 @@ count_cons key n x xs = sum_by-cons (one_open_by key n) x xs
 
 -- ---- sessions that go
 
--- of the counts by a key, which a session that leaves makes less
-module _ (key : Session → ℕ) (items : Counts → List ℕ) (loses : (old : Counts) (x : Session) (new : Counts) → Leaves old x new → LosesOpen key (Some x) (items old) (items new)) where
-  left_counts : (dead : List Session) (old new : Counts) → FoldsTo Leaves old dead new
-      → (length (items new) ≡ length (items old)) × ((n : ℕ) → n < length (items old) → get_or (items new) n 0 ≡ get_or (items old) n 0 - open_by key n dead)
-  left_counts [] old new h = (ap (λ c. length (items c)) (sym h), λ n lt. omega (arith, ap (λ c. get_or (items c) n 0) (sym h)))
-  left_counts (x ∷ dead) old new h =
-      let first = loses old x h.0 h.1 in
-      let rest = left_counts dead h.0 new h.2 in (
-        rest.0 ∙ first.len,
-        λ n lt. omega (arith, rest.1 n (omega (arith, lt, first.len)), first.is n lt, count_cons key n x dead),
-      )
+-- a count by a key, less those that have gone, counts those that are left
+gone_at : (key : Session → ℕ) (n : ℕ) (spans : Spans) (now : ℕ) (rows left : List Session) (old new : ℕ) → old ≡ open_by key n rows → left ≡ live_sessions spans now rows
+    → new ≡ old - open_by key n (filter (is_dead is_live spans now) rows) → new ≡ open_by key n left
+gone_at key n spans now rows left old new h is less =
+    omega (arith, less, h, ap (open_by key n) is, sum_by-filter_both (is_live spans now) (is_dead is_live spans now) (λ x. refl) (one_open_by key n) rows)
 
-  counts_left : (spans : Spans) (now : ℕ) (rows left : List Session) (old new : Counts) → CountsOpen key rows (items old) → left ≡ live_sessions spans now rows → Tells Leaves is_live spans now rows old new → CountsOpen key left (items new)
-  counts_left spans now rows left old new h is told =
-      let counts = left_counts (filter (is_dead is_live spans now) rows) old new told in
-      record {
-        is = λ n lt.
-            let before : n < length (items old) = omega (arith, lt, counts.0) in
-            omega (
-              arith,
-              counts.1 n before,
-              h.is n before,
-              ap (open_by key n) is,
-              sum_by-filter_both (is_live spans now) (is_dead is_live spans now) (λ x. refl) (one_open_by key n) rows,
-            );
-      }
+users_gone : (dead : List Session) (old new : Counts) → FoldsTo Leaves old dead new
+    → (length new.users.items ≡ length old.users.items) × ((n : ℕ) → n < length old.users.items → get_or new.users.items n 0 ≡ get_or old.users.items n 0 - open_by user_of n dead)
+users_gone [] old new h = (ap (λ (c : Counts). length c.users.items) (sym h), λ n lt. omega (arith, ap (λ (c : Counts). get_or c.users.items n 0) (sym h)))
+users_gone (x ∷ dead) old new h =
+    let first : Leaves old x h.0 = h.1 in
+    let rest = users_gone dead h.0 new h.2 in (
+      rest.0 ∙ first.users.len,
+      λ n lt. omega (arith, rest.1 n (omega (arith, lt, first.users.len)), first.users.is n lt, count_cons user_of n x dead),
+    )
 
-users_lose : (old : Counts) (x : Session) (new : Counts) → Leaves old x new → LosesOpen user_of (Some x) old.users.items new.users.items
-users_lose old x new leaves = leaves.users
+-- what sources that have gone leave of the map
+record LosesAll (dead : List Session) (old new : IndexMap ℕ ℕ HashKey) : Type 0 where
+  is : (n : ℕ) → count_at new.entries n ≡ count_at old.entries n - open_by source_of n dead
+  only : HasNoZero old.entries → HasNoZero new.entries
+  room : spare old ≤ spare new
 
-sources_lose : (old : Counts) (x : Session) (new : Counts) → Leaves old x new → LosesOpen group_of (Some x) old.sources.items new.sources.items
-sources_lose old x new leaves = leaves.sources
+sources_gone : (dead : List Session) (old new : Counts) → FoldsTo Leaves old dead new → LosesAll dead old.sources new.sources
+sources_gone [] old new h = subst (λ (c : Counts). LosesAll [] old.sources c.sources) h (record { is = λ n. omega arith; only = λ z. z; room = omega arith })
+sources_gone (x ∷ dead) old new h =
+    let first : Leaves old x h.0 = h.1 in
+    let rest : LosesAll dead h.0.sources new.sources = sources_gone dead h.0 new h.2 in
+    record {
+      is = λ n. omega (arith, rest.is n, first.sources.is n, count_cons source_of n x dead);
+      only = λ z. rest.only (first.sources.only z);
+      room = omega (arith, rest.room, first.sources.room);
+    }
 
 pub holds_left : (spans : Spans) (now : ℕ) (rows left : List Session) (old new : Counts) → HoldsCounts rows old → left ≡ live_sessions spans now rows → Tells Leaves is_live spans now rows old new → HoldsCounts left new
-holds_left spans now rows left old new h is told = record {
-  users = counts_left user_of (λ c. c.users.items) users_lose spans now rows left old new h.users is told;
-  sources = counts_left group_of (λ c. c.sources.items) sources_lose spans now rows left old new h.sources is told;
-  groups = (left_counts group_of (λ c. c.sources.items) sources_lose (filter (is_dead is_live spans now) rows) old new told).0 ∙ h.groups;
-  pools = places_gone spans now rows left old new h.pools is told;
-  inside = inside_gone spans now rows left old new h.inside is told;
+holds_left spans now rows left old new h is told =
+    let dead = filter (is_dead is_live spans now) rows in
+    let users = users_gone dead old new told in
+    let sources : LosesAll dead old.sources new.sources = sources_gone dead old new told in
+    record {
+      users = record { is = λ n lt. let before : n < length old.users.items = omega (arith, lt, users.0) in gone_at user_of n spans now rows left _ _ (h.users.is n before) is (users.1 n before) };
+      sources = record { is = λ n. gone_at source_of n spans now rows left _ _ (h.sources.is n) is (sources.is n); only = sources.only h.sources.only };
+      pools = places_gone spans now rows left old new h.pools is told;
+      inside = inside_gone spans now rows left old new h.inside is told;
+    }
+
+pub rows_left : (now : ℕ) (rows left : SeenRows Session Spans) (old new : Counts) → CountsRows rows old → left.rows ≡ live_sessions rows.spans now rows.rows → left.has_room ≡ rows.has_room
+    → Tells Leaves is_live rows.spans now rows.rows old new → CountsRows left new
+rows_left now rows left old new h is same told = record {
+  holds = holds_left rows.spans now rows.rows left.rows old new h.holds is told;
+  room = λ r. omega (arith, h.room (sym same ∙ r), (sources_gone (filter (is_dead is_live rows.spans now) rows.rows) old new told).room);
 }
 
 -- ---- sessions that change, and stay open or not
@@ -77,10 +90,8 @@ module _ (key : Session → ℕ) (change : Session → Session) (same : (n : ℕ
   open_changed n [] = refl
   open_changed n (x ∷ rows) = omega (arith, count_cons key n (change x) (map change rows), count_cons key n x rows, same n x, open_changed n rows)
 
-  counts_changed : (rows rows' : List Session) (counts : List ℕ) → CountsOpen key rows counts → rows' ≡ map change rows → CountsOpen key rows' counts
-  counts_changed rows rows' counts h changed = record {
-    is = λ n lt. h.is n lt ∙ sym (ap (open_by key n) changed ∙ open_changed n rows);
-  }
+  changed_at : (n : ℕ) (rows rows' : List Session) (count : ℕ) → count ≡ open_by key n rows → rows' ≡ map change rows → count ≡ open_by key n rows'
+  changed_at n rows rows' count h changed = h ∙ sym (ap (open_by key n) changed ∙ open_changed n rows)
 
 -- a session that is heard of
 module _ (key : Session → ℕ) (now : ℕ) (keeps : (x : Session) → key (record x { phase = Active; seen = now }) ≡ key x) where
@@ -95,19 +106,28 @@ module _ (key : Session → ℕ) (now : ℕ) (keeps : (x : Session) → key (rec
       by_number true = by_open (is_open x.phase) refl
       by_number false = refl
 
-pub holds_renewed : (number now : ℕ) (rows rows' : List Session) (counts : Counts) → HoldsCounts rows counts → rows' ≡ map (if_numbered (session_renewed now) number) rows → HoldsCounts rows' counts
+holds_renewed : (number now : ℕ) (rows rows' : List Session) (counts : Counts) → HoldsCounts rows counts → rows' ≡ map (if_numbered (session_renewed now) number) rows → HoldsCounts rows' counts
 holds_renewed number now rows rows' counts h changed = record {
-  users = counts_changed user_of (if_numbered (session_renewed now) number) (one_renewed user_of now (λ x. refl) number) rows rows' counts.users.items h.users changed;
-  sources = counts_changed group_of (if_numbered (session_renewed now) number) (one_renewed group_of now (λ x. refl) number) rows rows' counts.sources.items h.sources changed;
-  groups = h.groups;
-  pools = places_changed (if_numbered (session_renewed now) number) rows rows' counts counts (λ x. address_kept (eqb x.number number) (is_open x.phase) x) h.pools changed refl;
-  inside = inside_changed (if_numbered (session_renewed now) number) rows rows' counts counts (λ x. address_kept (eqb x.number number) (is_open x.phase) x) h.inside changed refl refl;
+  users = record { is = λ n lt. changed_at user_of change (one_renewed user_of now (λ x. refl) number) n rows rows' _ (h.users.is n lt) changed };
+  sources = record { is = λ n. changed_at source_of change (one_renewed source_of now (λ x. refl) number) n rows rows' _ (h.sources.is n) changed; only = h.sources.only };
+  pools = places_changed change rows rows' counts counts (λ x. address_kept (eqb x.number number) (is_open x.phase) x) h.pools changed refl;
+  inside = inside_changed change rows rows' counts counts (λ x. address_kept (eqb x.number number) (is_open x.phase) x) h.inside changed refl refl;
 }
   where
+    change : Session → Session
+    change = if_numbered (session_renewed now) number
+
     address_kept : (a b : Bool) (x : Session) → Session.address (cond a (cond b (record x { phase = Active; seen = now }) x) x) ≡ x.address
     address_kept true true x = refl
     address_kept true false x = refl
     address_kept false b x = refl
+
+pub rows_renewed : (number now : ℕ) (rows rows' : SeenRows Session Spans) (counts : Counts) → CountsRows rows counts → rows'.rows ≡ map (if_numbered (session_renewed now) number) rows.rows
+    → rows'.has_room ≡ rows.has_room → CountsRows rows' counts
+rows_renewed number now rows rows' counts h changed same = record {
+  holds = holds_renewed number now rows.rows rows'.rows counts h.holds changed;
+  room = λ r. h.room (sym same ∙ r);
+}
 
 -- ---- a session that stops
 
@@ -137,20 +157,16 @@ module _ (key : Session → ℕ) where
       by_test false e more =
           rw (e) (omega (arith, count_cons key k row (map (if_numbered session_ended n) rows), count_cons key k row rows, more))
 
-  counts_stopped : (n : ℕ) (rows rows' : List Session) (found : Option Session) (old new : List ℕ) → CountsOpen key rows old → AllPairs (IsBefore num) rows → found ≡ find (has_number num n) rows → rows' ≡ map (if_numbered session_ended n) rows
-      → LosesOpen key found old new → CountsOpen key rows' new
-  counts_stopped n rows rows' found old new h rising is changed loses = record {
-    is = λ k lt.
-        let before : k < length old = omega (arith, lt, loses.len) in
-        omega (arith, loses.is k before, h.is k before, stop_count k n rows rising, ap (found_open_by key k) is, ap (open_by key k) changed);
-  }
+  stopped_at : (k n : ℕ) (rows rows' : List Session) (found : Option Session) (old new : ℕ) → old ≡ open_by key k rows → AllPairs (IsBefore num) rows → found ≡ find (has_number num n) rows → rows' ≡ map (if_numbered session_ended n) rows
+      → new ≡ old - found_open_by key k found → new ≡ open_by key k rows'
+  stopped_at k n rows rows' found old new h rising is changed less =
+      omega (arith, less, h, stop_count k n rows rising, ap (found_open_by key k) is, ap (open_by key k) changed)
 
-pub holds_stopped : (n : ℕ) (rows rows' : List Session) (found : Option Session) (old new : Counts) → HoldsCounts rows old → AllPairs (IsBefore num) rows → found ≡ find (has_number num n) rows → rows' ≡ map (if_numbered session_ended n) rows
+holds_stopped : (n : ℕ) (rows rows' : List Session) (found : Option Session) (old new : Counts) → HoldsCounts rows old → AllPairs (IsBefore num) rows → found ≡ find (has_number num n) rows → rows' ≡ map (if_numbered session_ended n) rows
     → Ends old found new → HoldsCounts rows' new
 holds_stopped n rows rows' found old new h rising is changed ends = record {
-  users = counts_stopped user_of n rows rows' found old.users.items new.users.items h.users rising is changed ends.users;
-  sources = counts_stopped group_of n rows rows' found old.sources.items new.sources.items h.sources rising is changed ends.sources;
-  groups = ends.sources.len ∙ h.groups;
+  users = record { is = λ k lt. let before : k < length old.users.items = omega (arith, lt, ends.users.len) in stopped_at user_of k n rows rows' found _ _ (h.users.is k before) rising is changed (ends.users.is k before) };
+  sources = record { is = λ k. stopped_at source_of k n rows rows' found _ _ (h.sources.is k) rising is changed (ends.sources.is k); only = ends.sources.only h.sources.only };
   pools = places_changed (if_numbered session_ended n) rows rows' old new (λ x. address_kept (eqb x.number n) x) h.pools changed ends.pools;
   inside = inside_changed (if_numbered session_ended n) rows rows' old new (λ x. address_kept (eqb x.number n) x) h.inside changed ends.pools ends.outside;
 }
@@ -159,115 +175,133 @@ holds_stopped n rows rows' found old new h rising is changed ends = record {
     address_kept true x = refl
     address_kept false x = refl
 
+pub rows_stopped : (n : ℕ) (rows rows' : SeenRows Session Spans) (found : Option Session) (old new : Counts) → CountsRows rows old → AllPairs (IsBefore num) rows.rows → found ≡ find (has_number num n) rows.rows
+    → rows'.rows ≡ map (if_numbered session_ended n) rows.rows → rows'.has_room ≡ rows.has_room → Ends old found new → CountsRows rows' new
+rows_stopped n rows rows' found old new h rising is changed same ends = record {
+  holds = holds_stopped n rows.rows rows'.rows found old new h.holds rising is changed ends;
+  room = λ r. omega (arith, h.room (sym same ∙ r), ends.sources.room);
+}
+
 -- ---- the sessions of a source, which end one after the other
 
-module _ (key : Session → ℕ) where
-  counts_between : (before rest : List Session) (x : Session) (old new : List ℕ) → CountsOpen key (before ++ x ∷ rest) old → LosesOpen key (Some x) old new → CountsOpen key (before ++ session_ended x ∷ rest) new
-  counts_between before rest x old new h loses = record {
-    is = λ n lt.
-        let within : n < length old = omega (arith, lt, loses.len) in
-        let one : Session → ℕ = one_open_by key n in
-        omega (
-          arith,
-          loses.is n within,
-          h.is n within,
-          sum_by-append one before (x ∷ rest),
-          sum_by-append one before (session_ended x ∷ rest),
-          count_cons key n x rest,
-          count_cons key n (session_ended x) rest,
-          none_ended key n x,
-        );
-  }
+ended_at : (key : Session → ℕ) (n : ℕ) (before rest : List Session) (x : Session) (old new : ℕ) → old ≡ open_by key n (before ++ x ∷ rest) → new ≡ old - one_open_by key n x → new ≡ open_by key n (before ++ session_ended x ∷ rest)
+ended_at key n before rest x old new h less =
+    let one : Session → ℕ = one_open_by key n in
+    omega (arith, less, h, sum_by-append one before (x ∷ rest), sum_by-append one before (session_ended x ∷ rest), count_cons key n x rest, count_cons key n (session_ended x) rest, none_ended key n x)
 
 holds_between : (before rest : List Session) (x : Session) (old new : Counts) → HoldsCounts (before ++ x ∷ rest) old → Ends old (Some x) new → HoldsCounts (before ++ session_ended x ∷ rest) new
 holds_between before rest x old new h ends = record {
-  users = counts_between user_of before rest x old.users.items new.users.items h.users ends.users;
-  sources = counts_between group_of before rest x old.sources.items new.sources.items h.sources ends.sources;
-  groups = ends.sources.len ∙ h.groups;
+  users = record { is = λ n lt. let within : n < length old.users.items = omega (arith, lt, ends.users.len) in ended_at user_of n before rest x _ _ (h.users.is n within) (ends.users.is n within) };
+  sources = record { is = λ n. ended_at source_of n before rest x _ _ (h.sources.is n) (ends.sources.is n); only = ends.sources.only h.sources.only };
   pools = places_between before rest x old new h.pools ends.pools;
   inside = inside_between before rest x old new h.inside ends.pools ends.outside;
 }
 
--- those before `rest` have ended, if they are of the source
-pub record IsResetTo (source : ℕ) (rows rest : List Session) (counts : Counts) : Type 0 where
+-- those before `rest` have ended, if they are of the source; the map of sources has as much room as at the start
+pub record IsResetTo (source : ℕ) (rows rest : List Session) (start counts : Counts) : Type 0 where
   before : List Session
   split : rows ≡ before ++ rest
   holds : HoldsCounts (map (session_reset source) before ++ rest) counts
+  pub room : spare start.sources ≤ spare counts.sources
 
-pub reset_start : (source : ℕ) (rows : List Session) (counts : Counts) → HoldsCounts rows counts → IsResetTo source rows rows counts
-reset_start source rows counts h = record { before = []; split = refl; holds = h }
+pub reset_start : (source : ℕ) (rows : List Session) (counts : Counts) → HoldsCounts rows counts → IsResetTo source rows rows counts counts
+reset_start source rows counts h = record { before = []; split = refl; holds = h; room = omega arith }
 
--- one more
-reset_more : (source : ℕ) (rows rest : List Session) (x : Session) (old new : Counts) (told : IsResetTo source rows (x ∷ rest) old)
-    → HoldsCounts (map (session_reset source) told.before ++ session_reset source x ∷ rest) new → IsResetTo source rows rest new
-reset_more source rows rest x old new told h =
-    let before = told.before in
-    record {
-      before = before ++ x ∷ [];
-      split = told.split ∙ sym (append_assoc before (x ∷ []) rest);
-      holds = subst (λ xs. HoldsCounts xs new)
-          (sym (append_assoc (map (session_reset source) before) (session_reset source x ∷ []) rest) ∙ ap (λ xs. xs ++ rest) (sym (map-append (session_reset source) before (x ∷ []))))
-          h;
-    }
+module _ (source : ℕ) (rows rest : List Session) (x : Session) (start old new : Counts) (told : IsResetTo source rows (x ∷ rest) start old) where
+  -- one more
+  reset_more : HoldsCounts (map (session_reset source) told.before ++ session_reset source x ∷ rest) new → spare old.sources ≤ spare new.sources → IsResetTo source rows rest start new
+  reset_more h room =
+      let before = told.before in
+      record {
+        before = before ++ x ∷ [];
+        split = told.split ∙ sym (append_assoc before (x ∷ []) rest);
+        holds = subst (λ xs. HoldsCounts xs new)
+            (sym (append_assoc (map (session_reset source) before) (session_reset source x ∷ []) rest) ∙ ap (λ xs. xs ++ rest) (sym (map-append (session_reset source) before (x ∷ []))))
+            h;
+        room = omega (arith, told.room, room);
+      }
 
-pub reset_ended : (source : ℕ) (rows rest : List Session) (x : Session) (old new : Counts) → x.source ≡ source → IsResetTo source rows (x ∷ rest) old → Ends old (Some x) new → IsResetTo source rows rest new
-reset_ended source rows rest x old new same told ends =
-    reset_more source rows rest x old new told
-    (subst (λ (y : Session). HoldsCounts (map (session_reset source) told.before ++ y ∷ rest) new) (sym (ap (λ b. cond b (session_ended x) x) (eq-eqb x.source source same)))
-    (holds_between (map (session_reset source) told.before) rest x old new told.holds ends))
+  pub reset_ended : x.source ≡ source → Ends old (Some x) new → IsResetTo source rows rest start new
+  reset_ended same ends =
+      reset_more
+      (subst (λ (y : Session). HoldsCounts (map (session_reset source) told.before ++ y ∷ rest) new) (sym (ap (λ b. cond b (session_ended x) x) (eq-eqb x.source source same)))
+      (holds_between (map (session_reset source) told.before) rest x old new told.holds ends))
+      ends.sources.room
 
-pub reset_passed : (source : ℕ) (rows rest : List Session) (x : Session) (counts : Counts) → (x.source ≡ source → ⊥) → IsResetTo source rows (x ∷ rest) counts → IsResetTo source rows rest counts
-reset_passed source rows rest x counts other told =
-    reset_more source rows rest x counts counts told
+pub reset_passed : (source : ℕ) (rows rest : List Session) (x : Session) (start counts : Counts) → (x.source ≡ source → ⊥) → IsResetTo source rows (x ∷ rest) start counts → IsResetTo source rows rest start counts
+reset_passed source rows rest x start counts other told =
+    reset_more source rows rest x start counts counts told
     (subst (λ (y : Session). HoldsCounts (map (session_reset source) told.before ++ y ∷ rest) counts) (sym (ap (λ b. cond b (session_ended x) x) (ne_eqb x.source source other))) told.holds)
+    (omega arith)
 
-pub reset_all : (source : ℕ) (rows rest : List Session) (counts : Counts) → rest ≡ [] → IsResetTo source rows rest counts → HoldsCounts (map (session_reset source) rows) counts
-reset_all source rows rest counts none told =
+pub reset_all : (source : ℕ) (rows rest : List Session) (start counts : Counts) → rest ≡ [] → IsResetTo source rows rest start counts → HoldsCounts (map (session_reset source) rows) counts
+reset_all source rows rest start counts none told =
     let before = told.before in
     let whole : rows ≡ before = told.split ∙ ap (λ xs. before ++ xs) none ∙ append-nil before in
     subst (λ xs. HoldsCounts xs counts)
     (ap (λ xs. map (session_reset source) before ++ xs) none ∙ append-nil (map (session_reset source) before) ∙ ap (map (session_reset source)) (sym whole))
     told.holds
 
--- where a group has no open session, the sessions of its sources have ended
-pub reset_nothing : (source : ℕ) (rows : List Session) → open_by group_of (source % source_groups) rows ≡ 0 → map (session_reset source) rows ≡ rows
+-- where a source has no open session, its sessions have ended
+pub reset_nothing : (source : ℕ) (rows : List Session) → open_by source_of source rows ≡ 0 → map (session_reset source) rows ≡ rows
 reset_nothing source [] none = refl
 reset_nothing source (x ∷ rows) none =
-    let both = count_cons group_of (source % source_groups) x rows in
+    let both = count_cons source_of source x rows in
     ap (λ y. y ∷ map (session_reset source) rows) (by_test (eqb x.source source) refl (omega (arith, both, none))) ∙ ap (λ xs. x ∷ xs) (reset_nothing source rows (omega (arith, both, none)))
   where
-    by_phase : (phase : Phase) → x.phase ≡ phase → eqb (group_of x) (source % source_groups) ≡ true → one_open_by group_of (source % source_groups) x ≡ 0 → session_ended x ≡ x
+    by_phase : (phase : Phase) → x.phase ≡ phase → eqb x.source source ≡ true → one_open_by source_of source x ≡ 0 → session_ended x ≡ x
     by_phase Ended is same zero = ap (λ (phase : Phase). record x { phase = phase }) (sym is)
     by_phase Pending is same zero = absurd (omega (arith, zero, ap (λ b. cond {A = ℕ} (b && is_open x.phase) 1 0) same, ap (λ phase. cond {A = ℕ} (is_open phase) 1 0) is))
     by_phase Active is same zero = absurd (omega (arith, zero, ap (λ b. cond {A = ℕ} (b && is_open x.phase) 1 0) same, ap (λ phase. cond {A = ℕ} (is_open phase) 1 0) is))
 
-    by_test : (b : Bool) → eqb x.source source ≡ b → one_open_by group_of (source % source_groups) x ≡ 0 → cond b (session_ended x) x ≡ x
-    by_test true is zero = by_phase x.phase refl (ap (λ s. eqb (s % source_groups) (source % source_groups)) (eqb-true x.source source is) ∙ eq-eqb (source % source_groups) (source % source_groups) refl) zero
+    by_test : (b : Bool) → eqb x.source source ≡ b → one_open_by source_of source x ≡ 0 → cond b (session_ended x) x ≡ x
+    by_test true is zero = by_phase x.phase refl is zero
     by_test false is zero = refl
+
+pub rows_reset : (source : ℕ) (rows rows' : SeenRows Session Spans) (old new : Counts) → CountsRows rows old → HoldsCounts (map (session_reset source) rows.rows) new → spare old.sources ≤ spare new.sources
+    → rows'.rows ≡ map (session_reset source) rows.rows → rows'.has_room ≡ rows.has_room → CountsRows rows' new
+rows_reset source rows rows' old new h holds room changed same = record {
+  holds = subst (λ xs. HoldsCounts xs new) (sym changed) holds;
+  room = λ r. omega (arith, h.room (sym same ∙ r), room);
+}
 
 -- ---- a session that comes
 
 module _ (key : Session → ℕ) where
-  counts_granted : (rows rows' : List Session) (session : Session) (old new : List ℕ) → CountsOpen key rows old → is_open session.phase ≡ true → length rows + 1 < 2 ^ 64 → rows' ≡ rows ++ session ∷ [] → GainsOpen (key session) old new → CountsOpen key rows' new
-  counts_granted rows rows' session old new h open' few is gains = record {
-    is = λ n lt.
-        let before : n < length old = omega (arith, lt, gains.len) in
-        let one : one_open_by key n session ≡ cond {A = ℕ} (eqb (key session) n) 1 0 = ap (λ (b : Bool). cond {A = ℕ} b 1 0) (opened (eqb (key session) n) (is_open session.phase) open') in
-        let bound : get_or old n 0 + 1 < 2 ^ 64 = omega (arith, h.is n before, count_by-le-length (is_open_by key n) rows, few) in
-        omega (arith, gains.is n before bound, h.is n before, sum_by_push (one_open_by key n) rows session, ap (open_by key n) is, one);
-  }
+  -- one more can be counted
+  low_count : (n : ℕ) (rows : List Session) (old : ℕ) → old ≡ open_by key n rows → length rows + 1 < 2 ^ 64 → old + 1 < 2 ^ 64
+  low_count n rows old h few = omega (arith, h, count_by-le-length (is_open_by key n) rows, few)
+
+  granted_at : (n : ℕ) (rows rows' : List Session) (session : Session) (old new : ℕ) → old ≡ open_by key n rows → is_open session.phase ≡ true → rows' ≡ rows ++ session ∷ []
+      → new ≡ old + cond (eqb (key session) n) 1 0 → new ≡ open_by key n rows'
+  granted_at n rows rows' session old new h open' is more =
+      let one : one_open_by key n session ≡ cond {A = ℕ} (eqb (key session) n) 1 0 = ap (λ (b : Bool). cond {A = ℕ} b 1 0) (opened (eqb (key session) n) (is_open session.phase) open') in
+      omega (arith, more, h, sum_by_push (one_open_by key n) rows session, ap (open_by key n) is, one)
     where
       opened : (a b : Bool) → b ≡ true → (a && b) ≡ a
       opened true b e = e
       opened false b e = refl
 
-pub holds_granted : (rows rows' : List Session) (session : Session) (old new : Counts) → HoldsCounts rows old → is_open session.phase ≡ true → length rows + 1 < 2 ^ 64 → rows' ≡ rows ++ session ∷ [] → Comes old session new → HoldsCounts rows' new
+holds_granted : (rows rows' : List Session) (session : Session) (old new : Counts) → HoldsCounts rows old → is_open session.phase ≡ true → length rows + 1 < 2 ^ 64 → rows' ≡ rows ++ session ∷ [] → Comes old session new → HoldsCounts rows' new
 holds_granted rows rows' session old new h open' few is comes = record {
-  users = counts_granted user_of rows rows' session old.users.items new.users.items h.users open' few is comes.users;
-  sources = counts_granted group_of rows rows' session old.sources.items new.sources.items h.sources open' few is comes.sources;
-  groups = comes.sources.len ∙ h.groups;
+  users = record {
+    is = λ n lt.
+        let before : n < length old.users.items = omega (arith, lt, comes.users.len) in
+        granted_at user_of n rows rows' session _ _ (h.users.is n before) open' is (comes.users.is n before (low_count user_of n rows _ (h.users.is n before) few));
+  };
+  sources = record {
+    is = λ n. granted_at source_of n rows rows' session _ _ (h.sources.is n) open' is (comes.sources.is n (low_count source_of session.source rows _ (h.sources.is session.source) few));
+    only = comes.sources.only h.sources.only;
+  };
   pools = places_granted rows rows' session old new h.pools is comes.pools;
   inside = inside_granted rows rows' session old new h.inside is comes.pools comes.outside;
+}
+
+pub rows_granted : (rows rows' : SeenRows Session Spans) (session : Session) (old new : Counts) → CountsRows rows old → is_open session.phase ≡ true → length rows.rows + 1 < 2 ^ 64
+    → rows'.rows ≡ rows.rows ++ session ∷ [] → rows'.has_room ≡ false → Comes old session new → CountsRows rows' new
+rows_granted rows rows' session old new h open' few is none comes = record {
+  holds = holds_granted rows.rows rows'.rows session old new h.holds open' few is comes;
+  room = λ r. absurd (true≢false (sym r ∙ none));
 }
 
 -- ---- a session by its number
@@ -325,15 +359,22 @@ none_open key counts count is = record {
   is = λ n lt. ap (λ cs. get_or cs n 0) is ∙ get_or-replicate count n 0 0 (omega (arith, lt, ap length is, length-replicate {A = ℕ} count 0));
 }
 
--- equal counts of equal sessions
-counts_copied : (key : Session → ℕ) (rows rows' : List Session) (old new : List ℕ) → CountsOpen key rows old → rows' ≡ rows → new ≡ old → CountsOpen key rows' new
-counts_copied key rows rows' old new h is same = subst (λ xs. CountsOpen key xs new) (sym is) (subst (CountsOpen key rows) (sym same) h)
+-- no source yet
+pub no_source : (counts : List (ℕ × ℕ)) → counts ≡ [] → CountsSources [] counts
+no_source counts is = subst (CountsSources []) (sym is) (record { is = λ source. refl; only = record { only = λ source zero. refl } })
 
-pub holds_copied : (rows rows' : List Session) (old new : Counts) → HoldsCounts rows old → rows' ≡ rows → new.users.items ≡ old.users.items → new.sources.items ≡ old.sources.items → new.pools.items ≡ old.pools.items → new.outside ≡ old.outside → HoldsCounts rows' new
+-- equal counts of equal sessions
+holds_copied : (rows rows' : List Session) (old new : Counts) → HoldsCounts rows old → rows' ≡ rows → new.users.items ≡ old.users.items → new.sources.entries ≡ old.sources.entries → new.pools.items ≡ old.pools.items → new.outside ≡ old.outside → HoldsCounts rows' new
 holds_copied rows rows' old new h is users sources places outside = record {
-  users = counts_copied user_of rows rows' old.users.items new.users.items h.users is users;
-  sources = counts_copied group_of rows rows' old.sources.items new.sources.items h.sources is sources;
-  groups = ap length sources ∙ h.groups;
+  users = subst (λ xs. CountsOpen user_of xs new.users.items) (sym is) (subst (CountsOpen user_of rows) (sym users) h.users);
+  sources = subst (λ xs. CountsSources xs new.sources.entries) (sym is) (subst (CountsSources rows) (sym sources) h.sources);
   pools = places_copied rows rows' old new h.pools is places;
   inside = inside_copied rows rows' old new h.inside is places outside;
+}
+
+pub rows_copied : (rows rows' : SeenRows Session Spans) (old new : Counts) → CountsRows rows old → rows'.rows ≡ rows.rows → new.users.items ≡ old.users.items → new.sources.entries ≡ old.sources.entries
+    → new.pools.items ≡ old.pools.items → new.outside ≡ old.outside → (rows'.has_room ≡ true → 0 < spare new.sources) → CountsRows rows' new
+rows_copied rows rows' old new h is users sources places outside room = record {
+  holds = holds_copied rows.rows rows'.rows old new h.holds is users sources places outside;
+  room = room;
 }

@@ -1,26 +1,27 @@
--- Counts of sessions: of the open ones of each user and of each group of sources, and of those that have each address of a pool;
--- and whether some session may have another address.
-use Rattle.std.specs.Prelude.{◌≡◌, ℕ, ◌+◌, ◌-◌, ◌<◌, ◌^◌, ◌==◌, ◌%◌, ◌&&◌, ◌||◌, not, Bool, true, false, List, length, slice_index, cond, count_by, map, All, Option, None, Some}
+-- Counts of sessions: of the open ones of each user and of each source, and of those that have each address of a pool; and whether
+-- some session may have another address.
+use Rattle.std.specs.Prelude.{◌≡◌, ℕ, ◌+◌, ◌-◌, ◌<◌, ◌≤◌, ◌^◌, ◌==◌, ◌&&◌, ◌||◌, not, Bool, true, false, List, length, slice_index, cond, count_by, map, All, Option, None, Some}
 use Rattle.std.specs.List.{list_any}
+use Rattle.indexmap.specs.IndexMap.{IndexMap, spare}
 use Rattle.rad_places.specs.Places.{SeenPlaces, is_inside, place_of, uses_at, with_note, with_use, without_use}
 use Rattle.rad_pool.specs.Grants.{has_address}
+use Rattle.rad_config.specs.declared.spans.Spans.{Spans}
+use Rattle.rad_rows.specs.Rows.{SeenRows}
+use Rattle.rad_rows.specs.declared.hash_key.HashKey.{HashKey}
 use Rattle.rad_pool.specs.Sessions.{is_open}
+use Rattle.rad_pool.specs.Sources.{HasNoZero, count_at}
 use Rattle.rad_pool.specs.declared.counts.Counts.{Counts}
 use Rattle.rad_pool.specs.declared.session.Phase.{Phase}
 use Rattle.rad_pool.specs.declared.session.Session.{Session}
 
 -- ---- open sessions by a key
 
--- how many groups of sources there are: a prime, so that neighbours have groups of their own
-abbrev pub source_groups : ℕ
-source_groups = 4093
-
--- the keys: a session's user, and the group of its source
+-- the keys: a session's user, and its source
 abbrev pub user_of : Session → ℕ
 user_of session = session.user
 
-abbrev pub group_of : Session → ℕ
-group_of session = session.source % source_groups
+abbrev pub source_of : Session → ℕ
+source_of session = session.source
 
 -- whether a session is open and its key is this one
 abbrev pub is_open_by : (Session → ℕ) → ℕ → Session → Bool
@@ -45,6 +46,11 @@ open_by key n sessions = count_by (is_open_by key n) sessions
 pub record CountsOpen (key : Session → ℕ) (sessions : List Session) (counts : List ℕ) : Type 0 where
   pub is : (n : ℕ) → n < length counts → slice_index counts n ≡ open_by key n sessions
 
+-- as many for each source as it has open sessions, and nothing for a source that has none
+pub record CountsSources (sessions : List Session) (counts : List (ℕ × ℕ)) : Type 0 where
+  pub is : (source : ℕ) → count_at counts source ≡ open_by source_of source sessions
+  pub only : HasNoZero counts
+
 -- as many uses of each address of a pool as sessions have it
 pub record IsCounted (sessions : List Session) (places : SeenPlaces) : Type 0 where
   pub uses : (place : ℕ) → place < length places.uses → uses_at place places ≡ count_by (has_address (places.first + place)) sessions
@@ -58,13 +64,17 @@ is_outside pools (Some address) = not (list_any (is_inside address) pools)
 pub record IsInside (sessions : List Session) (pools : List SeenPlaces) : Type 0 where
   pub none : (address : ℕ) → is_outside pools (Some address) ≡ true → count_by (has_address address) sessions ≡ 0
 
--- the counts of all groups, and of the users and the pools that there are counts for
+-- the counts of all sources, and of the users and the pools that there are counts for
 pub record HoldsCounts (sessions : List Session) (counts : Counts) : Type 0 where
   pub users : CountsOpen user_of sessions counts.users.items
-  pub sources : CountsOpen group_of sessions counts.sources.items
-  pub groups : length counts.sources.items ≡ source_groups
+  pub sources : CountsSources sessions counts.sources.entries
   pub pools : All (IsCounted sessions) counts.pools.items
   pub inside : counts.outside ≡ false → IsInside sessions counts.pools.items
+
+-- the counts of rows, and room for one source more where there is room for one row more
+pub record CountsRows (rows : SeenRows Session Spans) (counts : Counts) : Type 0 where
+  pub holds : HoldsCounts rows.rows counts
+  pub room : rows.has_room ≡ true → 0 < spare counts.sources
 
 -- one use more of each address can be counted
 pub record HasLowUses (places : SeenPlaces) : Type 0 where
@@ -111,23 +121,34 @@ pub record LosesOpen (key : Session → ℕ) (found : Option Session) (old new :
   pub len : length new ≡ length old
   pub is : (n : ℕ) → n < length old → slice_index new n ≡ slice_index old n - found_open_by key n found
 
+-- one more of a source, where one more can be counted
+pub record GainsSource (source : ℕ) (old new : List (ℕ × ℕ)) : Type 0 where
+  pub is : (n : ℕ) → count_at old source + 1 < 2 ^ 64 → count_at new n ≡ count_at old n + cond (source == n) 1 0
+  pub only : HasNoZero old → HasNoZero new
+
+-- one less of the source of a session, if one was found and was open; its memory is ready for another
+pub record LosesSource (found : Option Session) (old new : IndexMap ℕ ℕ HashKey) : Type 0 where
+  pub is : (n : ℕ) → count_at new.entries n ≡ count_at old.entries n - found_open_by source_of n found
+  pub only : HasNoZero old.entries → HasNoZero new.entries
+  pub room : spare old ≤ spare new
+
 -- a session comes, Pending
 pub record Comes (old : Counts) (session : Session) (new : Counts) : Type 0 where
   pub users : GainsOpen (user_of session) old.users.items new.users.items
-  pub sources : GainsOpen (group_of session) old.sources.items new.sources.items
+  pub sources : GainsSource session.source old.sources.entries new.sources.entries
   pub pools : new.pools.items ≡ map (places_come session.address session.number) old.pools.items
   pub outside : new.outside ≡ (old.outside || is_outside old.pools.items session.address)
 
 -- a session goes
 pub record Leaves (old : Counts) (session : Session) (new : Counts) : Type 0 where
   pub users : LosesOpen user_of (Some session) old.users.items new.users.items
-  pub sources : LosesOpen group_of (Some session) old.sources.items new.sources.items
+  pub sources : LosesSource (Some session) old.sources new.sources
   pub pools : new.pools.items ≡ map (places_left session.address) old.pools.items
   pub outside : new.outside ≡ old.outside
 
 -- a session that was perhaps found ends, and keeps its address
 pub record Ends (old : Counts) (found : Option Session) (new : Counts) : Type 0 where
   pub users : LosesOpen user_of found old.users.items new.users.items
-  pub sources : LosesOpen group_of found old.sources.items new.sources.items
+  pub sources : LosesSource found old.sources new.sources
   pub pools : new.pools.items ≡ old.pools.items
   pub outside : new.outside ≡ old.outside

@@ -5,3 +5,4 @@ pub mod Lawful
 pub mod Meant
 pub mod Reports
 pub mod Sessions
+pub mod Sources

@@ -1,6 +1,7 @@
 //! Changes of the sessions that their counts follow.
-ghost use Rattle.std.specs.Prelude.{◌≡◌, ◌+◌, ◌++◌, ◌∷◌, [], map, true};
-ghost use Rattle.rad_pool.specs.Counts.{HoldsCounts};
+ghost use Rattle.std.specs.Prelude.{◌≡◌, ◌≤◌, ◌+◌, ◌++◌, ◌∷◌, [], map, true};
+ghost use Rattle.indexmap.specs.IndexMap.{spare};
+ghost use Rattle.rad_pool.specs.Counts.{CountsRows, HoldsCounts};
 ghost use Rattle.rad_pool.specs.Sessions.{if_numbered, is_open, session_ended, session_reset};
 
 use crate::counts::Counts;
@@ -11,11 +12,11 @@ use rad_rows::Rows;
 
 /// Puts an open session last, with the next number.
 pub(crate) fn add(rows: &mut Rows<Session, Spans>, counts: &mut Counts, session: Session)
-    requires counts { HoldsCounts rows.old.rows counts.old }
+    requires counts { CountsRows rows.old counts.old }
     requires room { rows.old.has_room ≡ true }
     requires number { session.number ≡ rows.old.last + 1 }
     requires phase { is_open session.phase ≡ true }
-    ensures counts { HoldsCounts rows.new.rows counts.new }
+    ensures counts { CountsRows rows.new counts.new }
     ensures rows { rows.new.rows ≡ rows.old.rows ++ session ∷ [] }
     ensures last { rows.new.last ≡ rows.old.last + 1 }
     ensures spans { rows.new.spans ≡ rows.old.spans }
@@ -27,8 +28,8 @@ pub(crate) fn add(rows: &mut Rows<Session, Spans>, counts: &mut Counts, session:
 
 /// The session of this number has ended.
 pub(crate) fn stop(rows: &mut Rows<Session, Spans>, counts: &mut Counts, number: u64)
-    requires { HoldsCounts rows.old.rows counts.old }
-    ensures counts { HoldsCounts rows.new.rows counts.new }
+    requires { CountsRows rows.old counts.old }
+    ensures counts { CountsRows rows.new counts.new }
     ensures rows { rows.new.rows ≡ map (if_numbered session_ended number) rows.old.rows }
     ensures last { rows.new.last ≡ rows.old.last }
     ensures spans { rows.new.spans ≡ rows.old.spans }
@@ -42,8 +43,8 @@ pub(crate) fn stop(rows: &mut Rows<Session, Spans>, counts: &mut Counts, number:
 
 /// Each session of this source has ended.
 pub(crate) fn reset(rows: &mut Rows<Session, Spans>, counts: &mut Counts, source: u32)
-    requires { HoldsCounts rows.old.rows counts.old }
-    ensures counts { HoldsCounts rows.new.rows counts.new }
+    requires { CountsRows rows.old counts.old }
+    ensures counts { CountsRows rows.new counts.new }
     ensures rows { rows.new.rows ≡ map (session_reset source) rows.old.rows }
     ensures last { rows.new.last ≡ rows.old.last }
     ensures spans { rows.new.spans ≡ rows.old.spans }
@@ -59,7 +60,8 @@ pub(crate) fn reset(rows: &mut Rows<Session, Spans>, counts: &mut Counts, source
 // The counts follow before the sessions change.
 fn end_all(rows: &Rows<Session, Spans>, counts: &mut Counts, source: u32)
     requires { HoldsCounts rows.now.rows counts.old }
-    ensures { HoldsCounts (map (session_reset source) rows.now.rows) counts.new }
+    ensures counts { HoldsCounts (map (session_reset source) rows.now.rows) counts.new }
+    ensures room { spare counts.old.sources ≤ spare counts.new.sources }
 {
     for session in rows.iter() {
         if session.source == source {

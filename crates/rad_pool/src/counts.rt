@@ -1,24 +1,25 @@
-//! How many open sessions each user and each group of sources has, and how many sessions have each address of a pool.
-ghost use Rattle.std.specs.Prelude.{◌≡◌, ◌%◌, ◌==◌, ◌<◌, [], All, IfOk, length, map, replicate, slice_index};
+//! How many open sessions each user and each source has, and how many sessions have each address of a pool.
+ghost use Rattle.std.specs.Prelude.{◌≡◌, ◌==◌, ◌<◌, [], All, IfOk, map, replicate};
+ghost use Rattle.indexmap.specs.IndexMap.{hasher_of, spare};
 ghost use Rattle.rad_config.specs.Ranges.{IsPool};
-ghost use Rattle.rad_pool.specs.Counts.{Comes, Ends, GainsOpen, HasLowUses, HoldsCounts, IsCounted, Leaves, LosesAt, is_outside, places_come, places_left, source_groups};
+ghost use Rattle.rad_pool.specs.Counts.{Comes, Ends, GainsOpen, HasLowUses, HoldsCounts, IsCounted, Leaves, LosesAt, is_outside, places_come, places_left};
+ghost use Rattle.rad_pool.specs.Sources.{HasNoZero, count_at};
 
 use crate::session::{Phase, Session};
+use crate::sources;
+use indexmap::IndexMap;
 use rad_config::{Config, Pool};
 use rad_places::Places;
-use rad_rows::Tally;
+use rad_rows::{HashKey, Tally};
 use std::alloc::{AllocError, Global};
 
-// How many groups of sources there are: a prime, so that neighbours have groups of their own.
-const SOURCE_GROUPS: usize = 4_093;
-
-/// Counts for the groups of sources, and for the users and the pools of the configuration that the table was opened with.
+/// Counts for the sources, and for the users and the pools of the configuration that the table was opened with.
 #[derive(Drop)]
 pub(crate) struct Counts {
     /// How many Pending and Active sessions each user has.
     pub(crate) users: Vec<u64>,
-    /// How many Pending and Active sessions each group of sources has.
-    pub(crate) sources: Vec<u64>,
+    /// How many Pending and Active sessions each source has. A source that has none is not there.
+    pub(crate) sources: IndexMap<u32, u64, HashKey>,
     /// How many sessions, ended ones included, have each address, and the number of the one that got it last.
     pub(crate) pools: Vec<Places>,
     /// Whether a session came whose address is of none of the pools.
@@ -26,16 +27,16 @@ pub(crate) struct Counts {
 }
 
 impl Counts {
-    /// The counts of no sessions.
-    pub(crate) fn open(alloc: Global, config: &Config) -> Result<Counts, AllocError>
-        ensures { IfOk result (HoldsCounts []) }
+    /// The counts of no sessions. The key is for the sources, which come from the network.
+    pub(crate) fn open(alloc: Global, config: &Config, key: HashKey) -> Result<Counts, AllocError>
+        ensures counts { IfOk result (HoldsCounts []) }
+        ensures key { IfOk result (λ counts. hasher_of counts.sources ≡ key) }
     {
         let users = zeros(alloc, config.users().len())?;
-        let sources = zeros(alloc, SOURCE_GROUPS)?;
         let pools = open_pools(alloc, config.pools())?;
         Ok(Counts {
             users,
-            sources,
+            sources: IndexMap::with_hasher(alloc, key),
             pools,
             outside: false,
         })
@@ -44,7 +45,7 @@ impl Counts {
     /// Equal counts.
     pub(crate) fn copy(&self) -> Result<Counts, AllocError>
         ensures users { IfOk result (λ copy. copy.users.items ≡ self.now.users.items) }
-        ensures sources { IfOk result (λ copy. copy.sources.items ≡ self.now.sources.items) }
+        ensures sources { IfOk result (λ copy. copy.sources.entries ≡ self.now.sources.entries) }
         ensures pools { IfOk result (λ copy. copy.pools.items ≡ self.now.pools.items) }
         ensures outside { IfOk result (λ copy. copy.outside ≡ self.now.outside) }
     {
@@ -59,13 +60,14 @@ impl Counts {
         })
     }
 
-    /// A session comes, which is Pending.
+    /// A session comes, which is Pending. Memory was made ready for its source.
     pub(crate) fn come(&mut self, session: &Session)
-        requires { All HasLowUses self.old.pools.items }
+        requires room { 0 < spare self.old.sources }
+        requires pools { All HasLowUses self.old.pools.items }
         ensures { Comes self.old session.now self.new }
     {
         add_open(&mut self.users, session.user as usize);
-        add_open(&mut self.sources, group_of(session.source));
+        sources::add_open(&mut self.sources, session.source);
         self.outside = self.outside || is_outside(&self.pools, session.address);
         come_to_pools(&mut self.pools, session.address, session.number);
     }
@@ -76,16 +78,16 @@ impl Counts {
     {
         if let Some(session) = found {
             remove_open(&mut self.users, session.user as usize, session.phase);
-            remove_open(&mut self.sources, group_of(session.source), session.phase);
+            sources::remove_open(&mut self.sources, session.source, session.phase);
         }
     }
 
-    /// Whether no session of a group of sources is open: that of this source, and perhaps of others.
+    /// Whether no session of a source is open.
     pub(crate) fn none_open(&self, source: u32) -> bool
-        requires { length self.now.sources.items ≡ source_groups }
-        ensures { result ≡ (slice_index self.now.sources.items (source % source_groups) == 0) }
+        requires { HasNoZero self.now.sources.entries }
+        ensures { result ≡ (count_at self.now.sources.entries source == 0) }
     {
-        self.sources[group_of(source)] == 0
+        !self.sources.contains_key(&source)
     }
 }
 
@@ -95,7 +97,7 @@ impl Tally<Session> for Counts {
 
     fn leave(&mut self, session: &Session) {
         remove_open(&mut self.users, session.user as usize, session.phase);
-        remove_open(&mut self.sources, group_of(session.source), session.phase);
+        sources::remove_open(&mut self.sources, session.source, session.phase);
         leave_pools(&mut self.pools, session.address);
     }
 }
@@ -104,14 +106,6 @@ fn zeros(alloc: Global, len: usize) -> Result<Vec<u64>, AllocError>
     ensures { IfOk result (λ counts. counts.items ≡ replicate len 0) }
 {
     vec![in alloc; 0; len]
-}
-
-// The group of a source.
-fn group_of(source: u32) -> usize
-    ensures is { result ≡ source % source_groups }
-    ensures within { result < source_groups }
-{
-    source as usize % SOURCE_GROUPS
 }
 
 // One open session more at a place.

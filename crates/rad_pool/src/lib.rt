@@ -8,8 +8,8 @@
 //! Other crates rest on this: what each call does to the list is what `specs/Sessions.antt`, `specs/Grants.antt` and
 //! `specs/Meant.antt` say. `lawful_sessions` says what these calls keep true of a lawful table (`specs/Lawful.antt`).
 //!
-//! `rad_rows` has the sessions under their numbers. How many open sessions a user has and which addresses are in use is counted
-//! beside it, with `rad_places`. Both are known to this crate alone.
+//! `rad_rows` has the sessions under their numbers. How many open sessions each user and each source has and which addresses are in
+//! use is counted beside it, with `indexmap` and `rad_places`. All of that is known to this crate alone.
 #![tactic(auto)]
 
 mod changes;
@@ -22,6 +22,7 @@ mod report;
 mod row;
 mod session;
 mod sessions;
+mod sources;
 mod users;
 mod walk;
 

@@ -12,7 +12,7 @@ use crate::report::Report;
 use crate::session::{Phase, Session};
 use crate::{changes, found, free, users};
 use rad_config::{Config, Spans};
-use rad_rows::Iter;
+use rad_rows::{HashKey, Iter};
 use std::alloc::{AllocError, Global};
 use std::marker::Model;
 
@@ -31,7 +31,7 @@ pub struct Sessions {
 
 impl Model for Sessions {
     ghost use Rattle.std.specs.Prelude.{◌+◌};
-    ghost use Rattle.rad_pool.specs.Counts.{HoldsCounts};
+    ghost use Rattle.rad_pool.specs.Counts.{CountsRows};
     ghost use Rattle.rad_pool.specs.Sessions.{SeenSessions};
 
     ghost Value = { SeenSessions };
@@ -45,16 +45,26 @@ impl Model for Sessions {
       has_room = sessions.rows.has_room;
     } };
 
-    ghost invariant = { λ sessions. HoldsCounts sessions.rows.rows sessions.counts };
+    ghost invariant = { λ sessions. CountsRows sessions.rows sessions.counts };
 }
 
 impl Sessions {
     /// No sessions yet. The configuration says how long they will be remembered.
+    ///
+    /// Sources are hashed by a key that everybody knows: who chooses them can make calls slow. A server takes `open_keyed`.
     pub fn open(alloc: Global, config: &Config) -> Result<Sessions, AllocError>
         ensures table { IfOk result (λ sessions. sessions.table ≡ opening (spans_of config.now)) }
         ensures room { IfOk result (λ sessions. sessions.has_room ≡ false) }
     {
-        let counts = Counts::open(alloc, config)?;
+        Sessions::open_keyed(alloc, config, HashKey::KNOWN)
+    }
+
+    /// No sessions yet, with the key of the hash of their sources, which come from the network.
+    pub fn open_keyed(alloc: Global, config: &Config, key: HashKey) -> Result<Sessions, AllocError>
+        ensures table { IfOk result (λ sessions. sessions.table ≡ opening (spans_of config.now)) }
+        ensures room { IfOk result (λ sessions. sessions.has_room ≡ false) }
+    {
+        let counts = Counts::open(alloc, config, key)?;
         let rows = rad_rows::Rows::open(alloc, config.spans());
         Ok(Sessions { rows, counts })
     }
@@ -118,6 +128,7 @@ impl Sessions {
         ensures ready { OnOk result (self.new.has_room ≡ true) }
         ensures kept { self.old.has_room ≡ true → IsOk result }
     {
+        self.counts.sources.reserve(1)?;
         self.rows.room()
     }
 
@@ -208,7 +219,7 @@ impl Sessions {
     /// An Accounting-On or an Accounting-Off was reported: each session whose Access-Request came from this address has ended.
     ///
     /// Only the address counts, not the client. The sessions keep their addresses as after a Stop. Where no open session is of that
-    /// address nothing changes, and mostly none is looked at. Source: RFC 2866, section 5.1.
+    /// address there is nothing to look for, and nothing changes; else it goes over all sessions. Source: RFC 2866, section 5.1.
     pub fn end_source(&mut self, source: u32)
         ensures reset { self.new.table ≡ source_reset source self.old.table }
         ensures room { self.old.has_room ≡ true → self.new.has_room ≡ true }
@@ -240,7 +251,7 @@ impl Sessions {
     }
 
     /// An equal table, for which no memory is ready.
-    #[tactic(auto, using(crate::proofs::CountLemmas::holds_copied))]
+    #[tactic(auto, using(crate::proofs::CountLemmas::rows_copied))]
     pub fn copy(&self) -> Result<Sessions, AllocError>
         ensures table { IfOk result (λ copy. copy.table ≡ self.now.table) }
         ensures room { IfOk result (λ copy. copy.has_room ≡ false) }

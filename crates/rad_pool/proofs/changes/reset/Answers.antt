@@ -1,11 +1,12 @@
-use Rattle.std.proofs.Common.{◌%◌, ◌∙◌, arith, sym}
+use Rattle.std.proofs.Common.{◌∙◌, sym}
 use Rattle.std.proofs.lemmas.Bool.{eqb-true}
-use Rattle.rad_pool.specs.Counts.{source_groups}
-use Rattle.rad_pool.proofs.CountLemmas.{reset_nothing}
+use Rattle.rad_pool.proofs.CountLemmas.{reset_nothing, rows_reset}
 use Rattle.rad_pool.proofs.changes.reset.Goals as goal
 
 pub returns-then-none_open-clause-rows : goal.returns-then-none_open-clause-rows
 returns-then-none_open-clause-rows c =
-    let group = c.args.source % source_groups in
-    sym (reset_nothing c.args.source c.args.rows.now.rows
-    (sym (c.requires.sources.is group (omega (arith, c.requires.groups))) ∙ eqb-true _ 0 (sym c.none_open.ensures ∙ c.if-none_open.true)))
+    sym (reset_nothing c.args.source c.args.rows.now.rows (sym (c.requires.holds.sources.is c.args.source) ∙ eqb-true _ 0 (sym c.none_open.ensures ∙ c.if-none_open.true)))
+
+pub returns-clause-counts : goal.returns-clause-counts
+returns-clause-counts c =
+    rows_reset c.args.source c.args.rows.now c.change_all.new.self c.args.counts.now c.end_all.new.counts c.requires c.end_all.ensures.counts c.end_all.ensures.room c.change_all.ensures.rows c.change_all.ensures.room
