@@ -11,7 +11,7 @@ use Rattle.rad_rows.specs.Rows.{IsBefore, IsGiven}
 use Rattle.rad_rows.specs.Rows.{IsRising}
 use Rattle.rad_rows.proofs.OrderLemmas.{IsAfter, rest_after, rising_rest}
 use Rattle.indexmap.specs.IndexMap.{IndexMap}
-use Rattle.std.proofs.Common.{BuildHasherDefault, FoldHasher}
+use Rattle.rad_rows.specs.declared.hash_key.HashKey.{HashKey}
 use Rattle.rad_recent.specs.declared.index.Index.{Index}
 use Rattle.rad_recent.specs.declared.kept.Kept.{Kept}
 use Rattle.rad_recent.specs.declared.key.Key.{Key}
@@ -304,7 +304,7 @@ not_full true h = absurd (h refl)
 not_full false h = refl
 
 -- a copy, for which no memory is ready
-pub copied_is : (rows rows' : List Numbered) (last last' : ℕ) (room room' : Bool) (index : Index) (map : IndexMap Key ℕ (BuildHasherDefault FoldHasher)) → HoldsIndex rows last room index → rows' ≡ rows → last' ≡ last → map.entries ≡ index.map.entries
+pub copied_is : (rows rows' : List Numbered) (last last' : ℕ) (room room' : Bool) (index : Index) (map : IndexMap Key ℕ HashKey) → HoldsIndex rows last room index → rows' ≡ rows → last' ≡ last → map.entries ≡ index.map.entries
     → HoldsIndex rows' last' room' (record { map = map; ready = None })
 copied_is rows rows' last last' room room' index map h a b same = record {
   indexed = subst (λ es. All (IsIndexed es) rows') (sym same) (subst (All (IsIndexed index.map.entries)) (sym a) h.indexed);

@@ -5,13 +5,17 @@ ghost use Rattle.rad_recent.specs.Recent.{same_key};
 
 use crate::key::Key;
 use indexmap::IndexMap;
+use rad_rows::HashKey;
 use std::alloc::AllocError;
+
+/// The number of each key's row. Who sends requests chooses their keys, so the hash is keyed.
+pub(crate) type NumberMap = IndexMap<Key, u64, HashKey>;
 
 /// The number of each key's row, and the key for which memory is ready.
 #[derive(Drop)]
 pub(crate) struct Index {
     // The key for which memory is ready may have a number without a row.
-    pub(crate) map: IndexMap<Key, u64>,
+    pub(crate) map: NumberMap,
     pub(crate) ready: Option<Key>,
 }
 
@@ -28,14 +32,14 @@ impl Index {
 }
 
 /// The number that a key has.
-pub(crate) fn find(map: &IndexMap<Key, u64>, key: &Key) -> Option<u64>
+pub(crate) fn find(map: &NumberMap, key: &Key) -> Option<u64>
     ensures { result ≡ number_at map.now.entries key.now }
 {
     map.get(key).copied()
 }
 
 /// Gives a key this number.
-pub(crate) fn note(map: &mut IndexMap<Key, u64>, key: Key, number: u64) -> Result<(), AllocError>
+pub(crate) fn note(map: &mut NumberMap, key: Key, number: u64) -> Result<(), AllocError>
     ensures noted { OnOk result ((other : Key) → number_at map.new.entries other
         ≡ cond (same_key key other) (Some number) (number_at map.old.entries other)) }
     ensures same { OnErr result (map.new.entries ≡ map.old.entries) }
@@ -48,7 +52,7 @@ pub(crate) fn note(map: &mut IndexMap<Key, u64>, key: Key, number: u64) -> Resul
 }
 
 /// Takes a key out.
-pub(crate) fn forget(map: &mut IndexMap<Key, u64>, key: &Key)
+pub(crate) fn forget(map: &mut NumberMap, key: &Key)
     ensures { (other : Key) → number_at map.new.entries other
         ≡ cond (same_key key.now other) None (number_at map.old.entries other) }
 {

@@ -4,16 +4,15 @@ ghost use Rattle.rad_config.specs.Spans.{moment_max};
 ghost use Rattle.rad_recent.specs.Index.{IsIndexed, replies_of};
 ghost use Rattle.rad_recent.specs.Recent.{is_reply_live, same_key};
 
-use crate::index;
+use crate::index::{self, NumberMap};
 use crate::key::Key;
 use crate::numbered::{self, Numbered};
-use indexmap::IndexMap;
 use rad_rows::Rows;
 
 /// Whether there are at least so many live replies to requests with another key.
 pub(crate) fn are_many(
     rows: &Rows<Numbered, u64>,
-    map: &IndexMap<Key, u64>,
+    map: &NumberMap,
     now: u64,
     key: &Key,
     most: usize,
@@ -30,7 +29,7 @@ pub(crate) fn are_many(
 }
 
 // How many live replies there are to requests with another key.
-fn count(rows: &Rows<Numbered, u64>, map: &IndexMap<Key, u64>, now: u64, key: &Key) -> usize
+fn count(rows: &Rows<Numbered, u64>, map: &NumberMap, now: u64, key: &Key) -> usize
     requires moment { now ≤ moment_max }
     requires indexed { All (IsIndexed map.now.entries) rows.now.rows }
     ensures { result ≡ length (filter (λ reply. not (same_key key.now reply.key))

@@ -13,7 +13,7 @@ use crate::{indexed, others};
 use indexmap::IndexMap;
 use rad_config::Config;
 use rad_packet::{Body, Octets};
-use rad_rows::{Iter, Rows};
+use rad_rows::{HashKey, Iter, Rows};
 use std::alloc::{AllocError, Global};
 use std::marker::Model;
 use thiserror::Error;
@@ -65,13 +65,21 @@ impl Recent {
         ensures table { IfOk result (λ recent. recent.table ≡ opening (spans_of config.now).window) }
         ensures ready { IfOk result (λ recent. recent.ready ≡ None) }
     {
-        Ok(Recent {
+        Ok(Recent::open_keyed(alloc, config, HashKey::KNOWN))
+    }
+
+    /// The same table, with a key for the hash of its index. Contracts don't see the key.
+    pub fn open_keyed(alloc: Global, config: &Config, key: HashKey) -> Recent
+        ensures table { result.table ≡ opening (spans_of config.now).window }
+        ensures ready { result.ready ≡ None }
+    {
+        Recent {
             rows: Rows::open(alloc, config.spans().window),
             index: Index {
-                map: IndexMap::new(alloc),
+                map: IndexMap::with_hasher(alloc, key),
                 ready: None,
             },
-        })
+        }
     }
 
     /// The kept replies, oldest first; also those that are no longer live but not removed yet.
