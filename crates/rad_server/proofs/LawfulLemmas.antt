@@ -79,6 +79,12 @@ pub record TableLaws : Type 0 where
   pub replies : ReplyLaws
   pub challenges : ChallengeLaws
 
+-- what expiry keeps of each table's law
+pub record ExpiryLaws : Type 0 where
+  pub sessions : ExpiryKeepsTheLaw
+  pub replies : ExpiryLeavesLawfulReplies
+  pub challenges : ExpiryLeavesLawfulChallenges
+
 -- ---- lists
 
 -- what holds of each element holds of the one that is found
@@ -152,7 +158,7 @@ opening_is_lawful laws configuration = record {
 }
 
 -- a lawful state is lawful at each later moment
-at_moment_is_lawful : TableLaws → (configuration : Configuration) (state : State) (moment : ℕ) → IsConfiguration configuration → moment ≤ moment_max
+pub at_moment_is_lawful : ExpiryLaws → (configuration : Configuration) (state : State) (moment : ℕ) → IsConfiguration configuration → moment ≤ moment_max
     → IsLawful configuration state → IsLawful configuration (at_moment moment state)
 at_moment_is_lawful laws configuration state moment valid within lawful =
     let now : ℕ = max state.clock moment in
@@ -166,11 +172,11 @@ at_moment_is_lawful laws configuration state moment valid within lawful =
       spans = lawful.spans;
       window = lawful.window;
       hold = lawful.hold;
-      sessions = laws.sessions.expiry configuration state.clock now state.sessions later lawful.sessions;
-      replies = laws.replies.expiry state.clock now state.replies later lawful.replies;
+      sessions = laws.sessions configuration state.clock now state.sessions later lawful.sessions;
+      replies = laws.replies state.clock now state.replies later lawful.replies;
       repeatable = All-filter (is_reply_live state.replies.window now) IsRepeatable state.replies.kept lawful.repeatable;
       addresses = addresses_live now state.sessions state.replies same outlast seen lawful.addresses;
-      challenges = laws.challenges.expiry state.clock now state.challenges later lawful.challenges;
+      challenges = laws.challenges state.clock now state.challenges later lawful.challenges;
       configured = All-filter (is_challenge_live state.challenges.hold now) (IsChallengeOf configuration) state.challenges.challenges lawful.configured;
     }
 
@@ -571,5 +577,6 @@ pub step_is_lawful : TableLaws → (configuration : Configuration) (state : Stat
     → IsGiven configuration request draw → moment ≤ moment_max → IsLawful configuration state
     → IsLawful configuration (step configuration state request moment draw).1
 step_is_lawful laws configuration state request moment draw given within lawful =
-    let now = at_moment_is_lawful laws configuration state moment given.valid within lawful in
+    let expiry : ExpiryLaws = record { sessions = laws.sessions.expiry; replies = laws.replies.expiry; challenges = laws.challenges.expiry } in
+    let now = at_moment_is_lawful expiry configuration state moment given.valid within lawful in
     answer_is_lawful laws configuration (at_moment moment state) request draw given now

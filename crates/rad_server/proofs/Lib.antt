@@ -2,6 +2,7 @@ mod AddressLemmas
 mod DecisionLemmas
 mod LawfulLemmas
 mod OccurrenceLemmas
+mod PassingLemmas
 mod PlanLemmas
 mod RepeatLemmas
 mod ReplyLemmas

@@ -16,6 +16,13 @@ run_goes_on configuration before [] state entry after same exchange =
 run_goes_on configuration before (first ∷ rest) state entry after run exchange =
     (run.0, run.1, run_goes_on configuration run.0 rest state entry after run.2 exchange)
 
+-- a run, and one after it
+pub run_append : (configuration : Configuration) (before : State) (first rest : List Entry) (middle after : State)
+    → Run configuration before first middle → Run configuration middle rest after → Run configuration before (first ++ rest) after
+run_append configuration before [] rest middle after is run = subst (λ state. Run configuration state rest after) (sym is) run
+run_append configuration before (entry ∷ more) rest middle after run next =
+    (run.0, run.1, run_append configuration run.0 more rest middle after run.2 next)
+
 -- a run leads from a lawful state to a lawful one
 pub run_is_lawful : AdmittedAreAnswerable → StepKeepsTheLaw → (configuration : Configuration) (before : State) (history : List Entry) (after : State)
     → IsConfiguration configuration → IsLawful configuration before → Run configuration before history after → IsLawful configuration after

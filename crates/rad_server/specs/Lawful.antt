@@ -20,7 +20,7 @@ use Rattle.rad_recent.specs.declared.challenge.Challenge.{Challenge}
 use Rattle.rad_recent.specs.declared.kept.Kept.{Kept}
 use Rattle.rad_server.specs.Access.{user_at}
 use Rattle.rad_server.specs.Replies.{class_value, four_octets}
-use Rattle.rad_server.specs.States.{State, opening}
+use Rattle.rad_server.specs.States.{State, at_moment, opening}
 use Rattle.rad_server.specs.Steps.{step}
 
 -- ---- kept replies
@@ -90,3 +90,8 @@ StepKeepsTheLaw = (configuration : Configuration) (state : State) (request : Req
     → IsConfiguration configuration → IsAnswerable configuration.clients request
     → moment ≤ moment_max → length draw ≡ length sixteen_zeros
     → IsLawful configuration state → IsLawful configuration (step configuration state request moment draw).1
+
+-- time that passes, up to the last moment
+abbrev pub PassingKeepsTheLaw : Type 0
+PassingKeepsTheLaw = (configuration : Configuration) (state : State) (moment : ℕ)
+    → IsConfiguration configuration → moment ≤ moment_max → IsLawful configuration state → IsLawful configuration (at_moment moment state)

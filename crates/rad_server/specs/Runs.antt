@@ -1,5 +1,5 @@
 -- Histories: what a server of one thread answers to requests that come one after another.
-use Rattle.std.specs.Prelude.{◌≡◌, ℕ, ◌≤◌, List, [], ◌∷◌, ◌++◌, length}
+use Rattle.std.specs.Prelude.{◌≡◌, ℕ, ◌≤◌, max, List, [], ◌∷◌, ◌++◌, length, IfSome, Option, Some, None}
 use Rattle.rad_auth.specs.Admission.{IsAdmitted, own_datagram}
 use Rattle.rad_auth.specs.Authenticators.{sixteen_zeros}
 use Rattle.rad_auth.specs.Clients.{Client}
@@ -10,7 +10,7 @@ use Rattle.rad_config.specs.Ranges.{IsConfiguration}
 use Rattle.rad_config.specs.Spans.{moment_max}
 use Rattle.rad_server.specs.Lawful.{IsLawful}
 use Rattle.rad_server.specs.Servers.{Server}
-use Rattle.rad_server.specs.States.{State}
+use Rattle.rad_server.specs.States.{State, at_moment, when_passed}
 use Rattle.rad_server.specs.Steps.{step}
 use Rattle.rad_server.specs.declared.entry.Entry.{Entry}
 
@@ -53,6 +53,21 @@ pub record IsHistory (opening : Server) (history : List Entry) (server : Server)
   pub configuration : server.configuration ≡ opening.configuration
   pub run : Run opening.configuration opening.state history server.state
 
+-- The same where time may have passed since the last entry. What is no longer live is gone then, and no later step can tell.
+pub record LeadsTo (opening : Server) (history : List Entry) (server : Server) : Type 0 where
+  pub state : State
+  pub passed : Option ℕ
+  pub configuration : server.configuration ≡ opening.configuration
+  pub run : Run opening.configuration opening.state history state
+  pub within : IfSome passed (λ moment. moment ≤ moment_max)
+  pub now : server.state ≡ when_passed passed state
+
+-- a history whose first entry doesn't come before a moment: it counts from then
+abbrev pub not_before : Option ℕ → List Entry → List Entry
+not_before None history = history
+not_before (Some moment) [] = []
+not_before (Some moment) (entry ∷ rest) = record entry { moment = max moment entry.moment } ∷ rest
+
 -- a history that leads to one server, made longer, leads from the same opening to another
 abbrev pub GoesOn : List Entry → Server → List Entry → Server → Type 0
 GoesOn history before longer after = (opening : Server) → IsHistory opening history before → IsHistory opening longer after
@@ -70,3 +85,15 @@ IsLawfulThroughout configuration before history =
 abbrev pub RunsAreLawful : Type 0
 RunsAreLawful = (configuration : Configuration) (before : State) (history : List Entry)
     → IsConfiguration configuration → IsLawful configuration before → IsLawfulThroughout configuration before history
+
+-- ---- time that passes
+
+-- no step can tell whether time passed before it: it is the step at the later of both moments
+abbrev pub StepsAfterTime : Type 0
+StepsAfterTime = (configuration : Configuration) (state : State) (request : Request) (passed moment : ℕ) (draw : List ℕ)
+    → step configuration (at_moment passed state) request moment draw ≡ step configuration state request (max passed moment) draw
+
+-- after a history, and perhaps some time, a second one and perhaps some more: together one history leads to where they lead
+abbrev pub HistoriesAfterTime : Type 0
+HistoriesAfterTime = (opening middle after : Server) (first rest : List Entry) (leads : LeadsTo opening first middle)
+    → LeadsTo middle rest after → LeadsTo opening (first ++ not_before leads.passed rest) after

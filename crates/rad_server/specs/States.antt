@@ -1,6 +1,6 @@
 -- What the server remembers: the sessions, the replies that repeated requests get again (RFC 5080, section 2.2.2), and the
 -- challenges that wait for an answer (RFC 2865, section 4.4). Moments and spans are in milliseconds.
-use Rattle.std.specs.Prelude.{ℕ, max}
+use Rattle.std.specs.Prelude.{ℕ, max, Option, Some, None}
 use Rattle.rad_config.specs.Configurations.{Configuration}
 use Rattle.rad_config.specs.Spans.{spans_of}
 use Rattle.rad_pool.specs.Sessions.{Sessions, cut}
@@ -38,3 +38,8 @@ without_expired state = record state {
 -- the state at a moment: the clock doesn't go back, and only what is live is left
 abbrev pub at_moment : ℕ → State → State
 at_moment moment state = without_expired (record state { clock = max state.clock moment })
+
+-- the state, or if time has passed up to a moment in which nothing came, the state at that moment
+abbrev pub when_passed : Option ℕ → State → State
+when_passed None state = state
+when_passed (Some moment) state = at_moment moment state

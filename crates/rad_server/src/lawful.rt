@@ -1,16 +1,17 @@
 //! The law of the state.
-ghost use Rattle.rad_server.specs.Lawful.{OpeningIsLawful, StepKeepsTheLaw};
+ghost use Rattle.rad_server.specs.Lawful.{OpeningIsLawful, PassingKeepsTheLaw, StepKeepsTheLaw};
 
 use rad_pool::lawful_sessions;
 use rad_recent::{lawful_challenges, lawful_replies};
 
 /// The state before the first request is lawful, and with a configuration in its ranges the step for a request that may be answered
-/// leads from a lawful state to a lawful one, at any moment up to `MOMENT_MAX` and with any draw of 16 octets.
+/// leads from a lawful state to a lawful one, at any moment up to `MOMENT_MAX` and with any draw of 16 octets. So does time that passes.
 ///
 /// The call costs nothing: it does nothing at run time. A proof about many steps calls it to use the law.
 pub fn lawful_steps()
     ensures opening { OpeningIsLawful }
     ensures step { StepKeepsTheLaw }
+    ensures passing { PassingKeepsTheLaw }
 {
     lawful_sessions();
     lawful_replies();

@@ -45,5 +45,6 @@ pub use entry::Entry;
 pub use history::exchange;
 pub use lawful::lawful_steps;
 pub use prepared::{Prepared, prepare8};
-pub use runs::{runs_are_lawful, runs_repeat};
+pub use rad_rows::HashKey;
+pub use runs::{runs_are_lawful, runs_repeat, time_passes_unseen};
 pub use server::Server;

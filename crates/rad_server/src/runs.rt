@@ -1,6 +1,6 @@
 //! The laws of histories.
 ghost use Rattle.rad_server.specs.Repeats.{RunsRepeat};
-ghost use Rattle.rad_server.specs.Runs.{RunsAreLawful};
+ghost use Rattle.rad_server.specs.Runs.{HistoriesAfterTime, RunsAreLawful, StepsAfterTime};
 
 use crate::lawful::lawful_steps;
 use rad_auth::admitted_are_answerable;
@@ -21,3 +21,11 @@ pub fn runs_are_lawful()
     admitted_are_answerable();
     lawful_steps();
 }
+
+/// No step can tell whether time passed before it, so histories with time between them are one history.
+///
+/// The call costs nothing: it does nothing at run time.
+pub fn time_passes_unseen()
+    ensures steps { StepsAfterTime }
+    ensures histories { HistoriesAfterTime }
+{}

@@ -5,7 +5,7 @@ ghost use Rattle.rad_auth.specs.Admission.{IsAdmitted};
 ghost use Rattle.rad_config.specs.Ranges.{IsConfiguration};
 ghost use Rattle.rad_config.specs.Spans.{moment_max};
 ghost use Rattle.rad_server.specs.Lawful.{IsLawful};
-ghost use Rattle.rad_server.specs.States.{opening};
+ghost use Rattle.rad_server.specs.States.{at_moment, opening};
 ghost use Rattle.rad_server.specs.Steps.{IsSealable, step};
 
 use crate::answer::Answer;
@@ -19,6 +19,7 @@ use rad_config::Config;
 use rad_packet::Octets;
 use rad_pool::Sessions;
 use rad_recent::{Challenges, Recent};
+use rad_rows::HashKey;
 use std::alloc::{AllocError, Global};
 use std::marker::Model;
 
@@ -66,11 +67,23 @@ impl<'c> Server<'c> {
         ensures configuration { IfOk result (λ server. server.configuration ≡ config.now) }
         ensures state { IfOk result (λ server. server.state ≡ opening config.now) }
     {
+        Server::open_keyed(alloc, config, HashKey::KNOWN)
+    }
+
+    /// The same server, with a key for the hashes of its tables, which those who send requests shouldn't know. Contracts don't see it.
+    pub fn open_keyed(
+        alloc: Global,
+        config: &'c Config,
+        key: HashKey,
+    ) -> Result<Server<'c>, AllocError>
+        ensures configuration { IfOk result (λ server. server.configuration ≡ config.now) }
+        ensures state { IfOk result (λ server. server.state ≡ opening config.now) }
+    {
         Ok(Server {
             alloc,
             config,
             clock: 0,
-            tables: Tables::open(alloc, config)?,
+            tables: Tables::open(alloc, config, key)?,
         })
     }
 
@@ -182,6 +195,22 @@ impl<'c> Server<'c> {
         *clock = now;
         let answer = commit(config, tables, now, request, draw, plan);
         Ok((answer, copy))
+    }
+
+    /// Lets time pass up to a moment, in which no request came: the clock goes on, and what is no longer live is removed.
+    ///
+    /// The moment is in milliseconds, at most `MOMENT_MAX`; one before the clock leaves the clock. It takes no memory, and gives back
+    /// that of what is removed, also where every step is refused memory. No later step can tell (`time_passes_unseen`).
+    pub fn pass(&mut self, moment: u64)
+        requires { moment ≤ moment_max }
+        ensures configuration { self.new.configuration ≡ self.old.configuration }
+        ensures state { self.new.state ≡ at_moment moment self.old.state }
+    {
+        self.state_is_lawful();
+        lawful_steps();
+        let now = self.clock.max(moment);
+        self.clock = now;
+        self.tables.expire(now);
     }
 
     /// An equal server over the same configuration.

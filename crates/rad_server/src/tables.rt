@@ -9,6 +9,7 @@ ghost use Rattle.rad_server.specs.States.{opening, without_expired};
 use rad_config::Config;
 use rad_pool::Sessions;
 use rad_recent::{Challenges, Recent};
+use rad_rows::HashKey;
 use std::alloc::{AllocError, Global};
 
 /// The tables of what the server remembers.
@@ -20,13 +21,13 @@ pub(crate) struct Tables {
 }
 
 impl Tables {
-    /// Nothing is remembered yet.
-    pub fn open(alloc: Global, config: &Config) -> Result<Tables, AllocError>
+    /// Nothing is remembered yet. The key is that of the hashes.
+    pub fn open(alloc: Global, config: &Config, key: HashKey) -> Result<Tables, AllocError>
         ensures { IfOk result (λ tables. state_with 0 tables ≡ opening config.now) }
     {
         Ok(Tables {
-            sessions: Sessions::open(alloc, config)?,
-            replies: Recent::open(alloc, config)?,
+            sessions: Sessions::open_keyed(alloc, config, key)?,
+            replies: Recent::open_keyed(alloc, config, key),
             challenges: Challenges::open(alloc, config)?,
         })
     }

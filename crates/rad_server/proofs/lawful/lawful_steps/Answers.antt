@@ -1,4 +1,4 @@
-use Rattle.rad_server.proofs.LawfulLemmas.{opening_is_lawful, step_is_lawful}
+use Rattle.rad_server.proofs.LawfulLemmas.{at_moment_is_lawful, opening_is_lawful, step_is_lawful}
 use Rattle.rad_server.proofs.lawful.lawful_steps.Goals as goal
 
 pub returns-clause-opening : goal.returns-clause-opening
@@ -18,3 +18,10 @@ returns-clause-step c = λ configuration state request moment draw valid answera
       replies = record { expiry = replies.expiry; removal = replies.removal; keeping = replies.keeping };
       challenges = record { expiry = challenges.expiry; answer = challenges.answer; issue = challenges.issue };
     }) configuration state request moment draw (record { valid = valid; answerable = answerable; drawn = drawn }) within lawful
+
+pub returns-clause-passing : goal.returns-clause-passing
+returns-clause-passing c = at_moment_is_lawful (record {
+  sessions = c.lawful_sessions.ensures.expiry;
+  replies = c.lawful_replies.ensures.expiry;
+  challenges = c.lawful_challenges.ensures.expiry;
+})
