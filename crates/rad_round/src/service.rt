@@ -3,7 +3,8 @@ ghost use Rattle.std.specs.Prelude.{◌≡◌, ◌≢◌, ◌≤◌, length, Err
 ghost use Rattle.rad_desk.specs.declared.mismatch.Mismatch.{Mismatch};
 ghost use Rattle.rad_server.specs.Repeats.{Repeat};
 ghost use Rattle.rad_server.specs.Runs.{IsLawfulThroughout};
-ghost use Rattle.rad_server.specs.States.{opening};
+ghost use Rattle.rad_config.specs.Spans.{moment_max};
+ghost use Rattle.rad_server.specs.States.{at_moment, opening};
 ghost use Rattle.rad_round.specs.Rounds.{AreMoments, Round, arrivals_max, workers_max};
 ghost use Rattle.rad_round.specs.declared.round_fault.RoundFault.{RoundFault};
 
@@ -16,7 +17,7 @@ use crate::round::run_round;
 use crate::round_fault::RoundFault;
 use crate::timed::Timed;
 use rad_config::Config;
-use rad_server::{Server, runs_are_lawful, runs_repeat};
+use rad_server::{HashKey, Server, runs_are_lawful, runs_repeat};
 use std::alloc::{AllocError, Global};
 use std::marker::Model;
 use std::sync::Wait;
@@ -55,7 +56,20 @@ impl<'c> Service<'c> {
         ensures configuration { IfOk result (λ service. service.configuration ≡ config.now) }
         ensures state { IfOk result (λ service. service.state ≡ opening config.now) }
     {
-        let server = Server::open(alloc, config)?;
+        Service::open_keyed(alloc, config, HashKey::KNOWN)
+    }
+
+    /// The same service, with a key for the hashes of its server's tables, which those who send requests shouldn't know. Contracts
+    /// don't see it.
+    pub fn open_keyed(
+        alloc: Global,
+        config: &'c Config,
+        key: HashKey,
+    ) -> Result<Service<'c>, AllocError>
+        ensures configuration { IfOk result (λ service. service.configuration ≡ config.now) }
+        ensures state { IfOk result (λ service. service.state ≡ opening config.now) }
+    {
+        let server = Server::open_keyed(alloc, config, key)?;
         Ok(Service {
             alloc,
             server: Some(server),
@@ -63,7 +77,7 @@ impl<'c> Service<'c> {
         })
     }
 
-    /// The server as it was opened, or as it was after the last round that returned Ok.
+    /// The server as it was opened, or as it was after the last round that returned Ok, and perhaps later.
     pub fn server(&self) -> &Server<'c>
         ensures { result.now ≡ self.now }
     {
@@ -148,6 +162,20 @@ impl<'c> Service<'c> {
                 Err(RoundFault::NoMemory)
             }
         }
+    }
+
+    /// Lets time pass for the server up to a moment, in which no datagram came: what is no longer live is removed. It takes no memory.
+    ///
+    /// The moment is in milliseconds, at most `MOMENT_MAX`. No later round can tell (`rad_server::time_passes_unseen`).
+    pub fn pass(&mut self, moment: u64)
+        requires { moment ≤ moment_max }
+        ensures configuration { self.new.configuration ≡ self.old.configuration }
+        ensures state { self.new.state ≡ at_moment moment self.old.state }
+    {
+        let Some(server) = &mut self.server else {
+            unreachable!()
+        };
+        server.pass(moment);
     }
 
     /// Takes back what a round made, once its replies are sent. The frames serve the replies of later rounds.

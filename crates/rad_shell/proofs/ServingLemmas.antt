@@ -1,5 +1,5 @@
 -- Serving: a round has an entry for each outcome of an exchange, and turns go on from one another.
-use Rattle.std.proofs.Common.{◌≡◌, ◌≢◌, ◌<◌, ◌≤◌, ℕ, zero, suc, ◌+◌, Bool, true, false, cond, List, [], ◌∷◌, ◌++◌, length, take, drop, filter, get_or, Some, Ok, Err, slice_get, arith, refl, sym, ap, subst, ◌∙◌}
+use Rattle.std.proofs.Common.{◌≡◌, ◌≢◌, ◌<◌, ◌≤◌, ℕ, zero, suc, ◌+◌, Bool, true, false, cond, List, [], ◌∷◌, ◌++◌, length, take, drop, filter, get_or, Option, Some, None, Ok, Err, slice_get, arith, refl, sym, ap, subst, ◌∙◌}
 use lib.ListN.{length-append}
 use Rattle.std.proofs.lemmas.Option.{get_or_from_slice_get, none-some, slice_get-get_or, slice_get_within}
 use Rattle.std.proofs.lemmas.List.{take_all}
@@ -8,11 +8,12 @@ use Rattle.std.proofs.lemmas.List.Sums.{length-filter, sum_by-cons, sum_by-drop_
 use Rattle.rad_auth.specs.Clients.{Client}
 use Rattle.rad_config.specs.Configurations.{Configuration}
 use Rattle.rad_config.specs.Ranges.{IsConfiguration}
+use Rattle.rad_config.specs.Spans.{moment_max}
 use Rattle.rad_server.specs.Lawful.{IsLawful}
 use Rattle.rad_server.specs.Repeats.{RunsRepeat}
-use Rattle.rad_server.specs.Runs.{IsHistory, Run, RunsAreLawful}
+use Rattle.rad_server.specs.Runs.{HistoriesAfterTime, IsHistory, LeadsTo, RunsAreLawful, not_before}
 use Rattle.rad_server.specs.Servers.{Server}
-use Rattle.rad_server.specs.States.{State}
+use Rattle.rad_server.specs.States.{at_moment}
 use Rattle.rad_server.specs.declared.entry.Entry.{Entry}
 use Rattle.rad_round.specs.Rounds.{HasArrival, HasEntry, HaveOwnTags, IsEntryOf, IsOutcome, Round, arrivals_max}
 use Rattle.rad_shell.specs.Serving.{AddTurn, AddUp, HasServed, IsRoundMade, IsServed, IsTurn, exchange_count, is_exchanged, is_replied, is_reply, octet_count, replied_count, reply_count}
@@ -274,20 +275,27 @@ counted_in_round is_counted counts counted before arrivals outcomes history afte
 no_exchange : (server : Server) → IsHistory server [] server
 no_exchange server = record { configuration = refl; run = refl }
 
--- a run, and one after it
-run_append : (configuration : Configuration) (before : State) (first rest : List Entry) (middle after : State)
-    → Run configuration before first middle → Run configuration middle rest after → Run configuration before (first ++ rest) after
-run_append configuration before [] rest middle after is run = subst (λ state. Run configuration state rest after) (sym is) run
-run_append configuration before (entry ∷ more) rest middle after run next =
-    (run.0, run.1, run_append configuration run.0 more rest middle after run.2 next)
-
-history_append : (before : Server) (first : List Entry) (middle : Server) (rest : List Entry) (after : Server)
-    → IsHistory before first middle → IsHistory middle rest after → IsHistory before (first ++ rest) after
-history_append before first middle rest after one two = record {
-  configuration = two.configuration ∙ one.configuration;
-  run = run_append before.configuration before.state first rest middle.state after.state one.run
-      (subst (λ configuration. Run configuration middle.state rest after.state) one.configuration two.run);
+-- a history is one after which no time has passed
+in_time : (before : Server) (history : List Entry) (after : Server) → IsHistory before history after → LeadsTo before history after
+in_time before history after is = record {
+  state = after.state;
+  passed = None;
+  configuration = is.configuration;
+  run = is.run;
+  within = tt;
+  now = refl;
 }
+
+-- entries that don't come before a moment are as many, and have as many replies
+as_many : (passed : Option ℕ) (history : List Entry) → length (not_before passed history) ≡ length history
+as_many None history = refl
+as_many (Some moment) [] = refl
+as_many (Some moment) (entry ∷ rest) = refl
+
+as_many_replies : (passed : Option ℕ) (history : List Entry) → reply_count (not_before passed history) ≡ reply_count history
+as_many_replies None history = refl
+as_many_replies (Some moment) [] = refl
+as_many_replies (Some moment) (entry ∷ rest) = refl
 
 -- a round was made
 pub round_made : (before : Server) (arrivals : List Timed) (outcomes : List Outcome) (history : List Entry) (after : Server)
@@ -301,17 +309,17 @@ round_made before arrivals outcomes history after few round = record {
 }
 
 -- a turn whose round is lost
-pub lost_turn : (before : Server) (served : Served) (after : Server) (served_after : Served)
-    → after ≡ before → AddTurn 0 0 served served_after → IsTurn before served (Ok tt) after served_after
-lost_turn before served after served_after is sums = record {
+pub lost_turn : {A : Type 0} (before : Server) (served : Served) (result : A) (after : Server) (served_after : Served)
+    → after ≡ before → AddTurn 0 0 served served_after → IsTurn before served (Ok result) after served_after
+lost_turn before served result after served_after is sums = record {
   history = [];
   run = subst (IsHistory before []) (sym is) (no_exchange before);
   sums = sums;
 }
 
 -- a turn whose round isn't made
-pub failed_turn : (before : Server) (served : Served) (fault : ServeFault) (after : Server) (served_after : Served)
-    → after ≡ before → IsTurn before served (Err fault) after served_after
+pub failed_turn : {A : Type 0} (before : Server) (served : Served) (fault : ServeFault) (after : Server) (served_after : Served)
+    → after ≡ before → IsTurn {A = A} before served (Err fault) after served_after
 failed_turn before served fault after served_after is = record {
   history = [];
   run = subst (IsHistory before []) (sym is) (no_exchange before);
@@ -319,9 +327,9 @@ failed_turn before served fault after served_after is = record {
 }
 
 -- a turn whose round is made
-pub made_turn : (before : Server) (served : Served) (outcomes : List Outcome) (after : Server) (served_after : Served)
-    → IsRoundMade before outcomes after → AddTurn (exchange_count outcomes) (replied_count outcomes) served served_after → IsTurn before served (Ok tt) after served_after
-made_turn before served outcomes after served_after made sums = record {
+pub made_turn : {A : Type 0} (before : Server) (served : Served) (outcomes : List Outcome) (result : A) (after : Server) (served_after : Served)
+    → IsRoundMade before outcomes after → AddTurn (exchange_count outcomes) (replied_count outcomes) served served_after → IsTurn before served (Ok result) after served_after
+made_turn before served outcomes result after served_after made sums = record {
   history = made.history;
   run = made.run;
   sums = subst (λ n. AddTurn n (reply_count made.history) served served_after) (sym made.exchanged)
@@ -329,8 +337,8 @@ made_turn before served outcomes after served_after made sums = record {
 }
 
 -- a turn whose round is made, but whose replies aren't all sent
-pub unsent_turn : (before : Server) (served : Served) (outcomes : List Outcome) (fault : ServeFault) (after : Server) (served_after : Served)
-    → IsRoundMade before outcomes after → IsTurn before served (Err fault) after served_after
+pub unsent_turn : {A : Type 0} (before : Server) (served : Served) (outcomes : List Outcome) (fault : ServeFault) (after : Server) (served_after : Served)
+    → IsRoundMade before outcomes after → IsTurn {A = A} before served (Err fault) after served_after
 unsent_turn before served outcomes fault after served_after made = record {
   history = made.history;
   run = made.run;
@@ -341,20 +349,50 @@ unsent_turn before served outcomes fault after served_after made = record {
 pub nothing_served : (server : Server) (served : Served) → served.replies + served.busy ≡ 0 → HasServed server served server
 nothing_served server served none = record {
   history = [];
-  run = no_exchange server;
+  run = in_time server [] server (no_exchange server);
   replied = omega (arith, none);
   exchanged = none;
 }
 
+-- what was served, and a history after it
+served_and : HistoriesAfterTime → (before : Server) (served : Served) (middle : Server) (history : List Entry) (after : Server) (served_after : Served)
+    → HasServed before served middle → LeadsTo middle history after → served_after.replies ≡ served.replies + reply_count history
+    → served_after.replies + served_after.busy ≡ served.replies + served.busy + length history → HasServed before served_after after
+served_and joins before served middle history after served_after so_far leads replied exchanged =
+    let more : List Entry = not_before so_far.run.passed history in record {
+      history = so_far.history ++ more;
+      run = joins before middle after so_far.history history so_far.run leads;
+      replied = omega (arith, replied, so_far.replied, as_many_replies so_far.run.passed history, count_append (λ entry. is_reply entry.answer) so_far.history more);
+      exchanged = omega (arith, exchanged, so_far.exchanged, as_many so_far.run.passed history, length-append so_far.history more);
+    }
+
 -- one more turn
-pub one_more_turn : (before : Server) (served : Served) (middle : Server) (after : Server) (served_after : Served)
-    → HasServed before served middle → IsTurn middle served (Ok tt) after served_after → HasServed before served_after after
-one_more_turn before served middle after served_after so_far turn = record {
-  history = so_far.history ++ turn.history;
-  run = history_append before so_far.history middle turn.history after so_far.run turn.run;
-  replied = omega (arith, turn.sums.replied, so_far.replied, count_append (λ entry. is_reply entry.answer) so_far.history turn.history);
-  exchanged = omega (arith, turn.sums.exchanged, so_far.exchanged, length-append so_far.history turn.history);
+pub one_more_turn : {A : Type 0} (before : Server) (served : Served) (middle : Server) (result : A) (after : Server) (served_after : Served) → HistoriesAfterTime
+    → HasServed before served middle → IsTurn middle served (Ok result) after served_after → HasServed before served_after after
+one_more_turn before served middle result after served_after joins so_far turn =
+    served_and joins before served middle turn.history after served_after so_far (in_time middle turn.history after turn.run) turn.sums.replied turn.sums.exchanged
+
+-- time that passes
+pub time_passed : (before : Server) (served : Served) (middle after : Server) → HistoriesAfterTime
+    → HasServed before served middle → LeadsTo middle [] after → HasServed before served after
+time_passed before served middle after joins so_far leads =
+    served_and joins before served middle [] after served so_far leads (omega arith) (omega arith)
+
+-- a service for which time passes
+pub passed_to : (before after : Server) (moment : ℕ) → moment ≤ moment_max → after.configuration ≡ before.configuration
+    → after.state ≡ at_moment moment before.state → LeadsTo before [] after
+passed_to before after moment small same is = record {
+  state = before.state;
+  passed = Some moment;
+  configuration = same;
+  run = refl;
+  within = small;
+  now = is;
 }
+
+-- a service for which none does
+pub not_passed : (before after : Server) → after ≡ before → LeadsTo before [] after
+not_passed before after is = subst (LeadsTo before []) (sym is) (in_time before [] before (no_exchange before))
 
 -- all turns
 pub served_all : (turns : ℕ) (before : Server) (served : Served) (after : Server) → RunsRepeat → RunsAreLawful
@@ -369,13 +407,13 @@ served_all turns before served after repeats laws valid lawful so_far sums round
 }
 
 -- turns until a fault
-pub served_until : (turns : ℕ) (before : Server) (served : Served) (middle : Server) (fault reported : ServeFault) (after : Server) (served_after : Served)
-    → RunsRepeat → RunsAreLawful → IsConfiguration before.configuration → IsLawful before.configuration before.state
-    → HasServed before served middle → IsTurn middle served (Err fault) after served_after → IsServed turns before (Err reported) after
-served_until turns before served middle fault reported after served_after repeats laws valid lawful so_far turn =
-    let history = so_far.history ++ turn.history in record {
+pub served_until : {A : Type 0} (turns : ℕ) (before : Server) (served : Served) (middle : Server) (fault reported : ServeFault) (after : Server) (served_after : Served)
+    → RunsRepeat → RunsAreLawful → HistoriesAfterTime → IsConfiguration before.configuration → IsLawful before.configuration before.state
+    → HasServed before served middle → IsTurn {A = A} middle served (Err fault) after served_after → IsServed turns before (Err reported) after
+served_until turns before served middle fault reported after served_after repeats laws joins valid lawful so_far turn =
+    let history = so_far.history ++ not_before so_far.run.passed turn.history in record {
       history = history;
-      run = history_append before so_far.history middle turn.history after so_far.run turn.run;
+      run = joins before middle after so_far.history turn.history so_far.run (in_time middle turn.history after turn.run);
       repeat = repeats before.configuration before.state history valid lawful;
       lawful = laws before.configuration before.state history valid lawful;
       sums = tt;

@@ -1,13 +1,13 @@
 -- Serving: turns, in each of which datagrams are received, answered in a round, and their replies sent.
 --
 -- A turn receives until no datagram waits or a round is full. A round for which memory is refused is lost: its datagrams are counted,
--- and the server is as it was.
+-- and the server is as it was. After a turn that was refused memory or received nothing, time passes for the server.
 use Rattle.std.specs.Prelude.{◌≡◌, ℕ, ◌+◌, ◌-◌, ◌*◌, ◌^◌, min, ◌≤◌, ◌<◌, Bool, true, false, List, length, filter, Result, IfOk, OnOk}
 use Rattle.std.specs.List.{sum_by}
 use Rattle.rad_config.specs.Spans.{moment_max}
 use Rattle.rad_packet.specs.Packets.{length_max}
 use Rattle.rad_server.specs.Repeats.{Repeat}
-use Rattle.rad_server.specs.Runs.{IsHistory, IsLawfulThroughout}
+use Rattle.rad_server.specs.Runs.{IsHistory, IsLawfulThroughout, LeadsTo}
 use Rattle.rad_server.specs.Servers.{Server}
 use Rattle.rad_server.specs.declared.answer.Answer.{Answer}
 use Rattle.rad_server.specs.declared.answer.Answer.TheVariants as answers
@@ -81,11 +81,12 @@ pub record AreSums (turns : ℕ) (history : List Entry) (served : Served) : Type
   pub exchanged : served.replies + served.busy ≡ length history
   pub datagrams : served.failed ≡ 0 → served.datagrams ≡ outcome_count served
 
--- What so many turns make of a server, however they end: exchanges lead from the server before to the one after, each repeat is
--- answered again, and every state on the way is lawful. If no fault ended them, their sums count these exchanges.
+-- What so many turns make of a server, however they end: exchanges lead from the server before to the one after, but for time that may
+-- have passed since; each repeat is answered again, and every state on the way is lawful. If no fault ended them, their sums count these
+-- exchanges.
 pub record IsServed (turns : ℕ) (before : Server) (result : Result Served ServeFault) (after : Server) : Type 0 where
   pub history : List Entry
-  pub run : IsHistory before history after
+  pub run : LeadsTo before history after
   pub repeat : Repeat before.configuration before.state history
   pub lawful : IsLawfulThroughout before.configuration before.state history
   pub sums : IfOk result (AreSums turns history)
@@ -147,15 +148,15 @@ pub record IsRoundMade (before : Server) (outcomes : List Outcome) (after : Serv
   pub few : length outcomes ≤ arrivals_max
 
 -- what a turn makes of a server and of sums: exchanges lead from one server to another, and without a fault they are counted
-pub record IsTurn (before : Server) (served : Served) (result : Result (Unit {0}) ServeFault) (after : Server) (served_after : Served)
+pub record IsTurn {A : Type 0} (before : Server) (served : Served) (result : Result A ServeFault) (after : Server) (served_after : Served)
     : Type 0 where
   pub history : List Entry
   pub run : IsHistory before history after
   pub sums : OnOk result (AddTurn (length history) (reply_count history) served served_after)
 
--- what turns without a fault made of a server: exchanges lead from one server to another, and the sums count them
+-- what turns without a fault, and time that passed, made of a server: exchanges lead from one server to another, and the sums count them
 pub record HasServed (before : Server) (served : Served) (after : Server) : Type 0 where
   pub history : List Entry
-  pub run : IsHistory before history after
+  pub run : LeadsTo before history after
   pub replied : served.replies ≡ reply_count history
   pub exchanged : served.replies + served.busy ≡ length history

@@ -37,6 +37,7 @@ pub struct MemoryPorts {
     calls: u64,
     failing: u64,
     faults: u64,
+    clock: Option<u64>,
 }
 
 impl MemoryPorts {
@@ -52,6 +53,7 @@ impl MemoryPorts {
             calls: 0,
             failing: 0,
             faults: 0,
+            clock: None,
         }
     }
 
@@ -66,6 +68,11 @@ impl MemoryPorts {
     /// Lets the call of `receive` or `send` with this number fail, once. They are counted together, from 1.
     pub fn fail_at(&mut self, call: u64) {
         self.failing = call;
+    }
+
+    /// Sets the clock to a moment, in milliseconds. Before that there is none.
+    pub fn set_clock(&mut self, moment: u64) {
+        self.clock = Some(moment);
     }
 
     /// The datagrams that were sent, in order.
@@ -159,5 +166,12 @@ impl Ports for MemoryPorts {
 
     fn faults(&self) -> u64 {
         self.faults
+    }
+
+    fn moment(&self) -> Option<u64> {
+        match self.clock {
+            Some(moment) => Some(moment.min(MOMENT_MAX)),
+            None => None,
+        }
     }
 }

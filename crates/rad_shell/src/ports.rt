@@ -1,5 +1,6 @@
 //! Ports: where datagrams come in and go out.
 ghost use Rattle.std.specs.Prelude.{◌≡◌, ◌≤◌, ◌<◌, ℕ, IfErr, IfOk, IfSome};
+ghost use Rattle.rad_config.specs.Spans.{moment_max};
 ghost use Rattle.rad_shell.specs.Serving.{IsReceived};
 
 use rad_auth::Door;
@@ -64,4 +65,11 @@ pub trait Ports {
     /// The failures so far.
     fn faults(&self) -> u64
         ensures { result ≡ failures self.now };
+
+    /// The moment now, in milliseconds, at most `MOMENT_MAX`, by the clock that tells when datagrams come. Ports needn't have one.
+    fn moment(&self) -> Option<u64>
+        ensures { IfSome result (λ moment. moment ≤ moment_max) }
+    {
+        None
+    }
 }

@@ -1,6 +1,7 @@
 //! Turns: in each, datagrams are received, answered in a round, and their replies sent.
-ghost use Rattle.std.specs.Prelude.{◌≡◌, ◌≤◌, ◌<◌, IfErr, IfNone, IfOk, IfSome, IsSome, vec_len};
+ghost use Rattle.std.specs.Prelude.{◌≡◌, ◌≤◌, ◌<◌, [], IfErr, IfNone, IfOk, IfSome, IsSome, vec_len};
 ghost use Rattle.rad_round.specs.Rounds.{workers_max};
+ghost use Rattle.rad_server.specs.Runs.{LeadsTo};
 ghost use Rattle.rad_shell.specs.Serving.{AddUp, HasCause, IsRoundMade, IsServed, IsTurn, turns_max};
 
 use crate::ports::Ports;
@@ -8,8 +9,8 @@ use crate::received::Received;
 use crate::serve_fault::ServeFault;
 use crate::served::Served;
 use crate::watch::{Turn, Watch};
-use rad_round::{Done, Gate, Service, Timed};
-use rad_server::{runs_are_lawful, runs_repeat};
+use rad_round::{Done, Gate, Outcome, Service, Timed};
+use rad_server::{runs_are_lawful, runs_repeat, time_passes_unseen};
 use rand_core::Rng;
 use std::alloc::{AllocError, Global};
 use std::sync::Wait;
@@ -17,6 +18,14 @@ use std::thread::Threads;
 
 /// The fewest datagrams of a turn whose round takes two workers less time than one. More than two workers never pay.
 const TWO_WORKERS_FROM: usize = 512;
+
+/// What a turn leaves to be done before the next one.
+#[derive(Clone, Copy, PartialEq, Eq)]
+enum Left {
+    Nothing,
+    /// Time is to pass for the server, since no request brought it a moment: none came, or memory was refused.
+    Time,
+}
 
 /// What turns have besides a service and its ports: the source of their draws, the gate of their rounds, who watches them, and room for
 /// the datagrams of a turn, which each turn uses again.
@@ -67,9 +76,10 @@ impl<'a, D: Rng, G: Gate + Sync, W: Watch + Drop> Turns<'a, D, G, W> {
     ///
     /// A turn waits, receives until no datagram waits or there are `ARRIVALS_MAX`, takes 16 octets of the source for each datagram, in
     /// order of arrival, makes a round of them, and sends the replies in that order. If memory is refused for a round, its datagrams
-    /// are lost, and after a pause the next turn goes on with the server as it was. A fault ends the turns: `ServeFault::Receive` or
-    /// `ServeFault::Send`, if a port failed. `ServeFault::Mismatch` never comes. The call may wait.
-    #[tactic(auto, using(crate::proofs::ServingLemmas::nothing_served, crate::proofs::ServingLemmas::one_more_turn, crate::proofs::ServingLemmas::served_all))]
+    /// are lost, and after a pause the next turn goes on with the server as it was. After a turn without datagrams, or one that was
+    /// refused memory, time passes for the server, so that what has expired gives its memory back. A fault ends the turns:
+    /// `ServeFault::Receive` or `ServeFault::Send`, if a port failed. `ServeFault::Mismatch` never comes. The call may wait.
+    #[tactic(auto, using(crate::proofs::ServingLemmas::nothing_served, crate::proofs::ServingLemmas::one_more_turn, crate::proofs::ServingLemmas::time_passed, crate::proofs::ServingLemmas::served_all))]
     pub fn run<R: Threads + Wait + Sync, P: Ports>(
         &mut self,
         rt: &R,
@@ -86,9 +96,13 @@ impl<'a, D: Rng, G: Gate + Sync, W: Watch + Drop> Turns<'a, D, G, W> {
         service.server().state_is_lawful();
         runs_repeat();
         runs_are_lawful();
+        time_passes_unseen();
         let mut served = Served::nothing();
         for _ in 0..rounds {
-            self.make_turn(rt, service, ports, workers, &mut served)?;
+            match self.make_turn(rt, service, ports, workers, &mut served)? {
+                Left::Nothing => {}
+                Left::Time => pass_time(service, ports),
+            }
         }
         Ok(served)
     }
@@ -102,7 +116,7 @@ impl<'a, D: Rng, G: Gate + Sync, W: Watch + Drop> Turns<'a, D, G, W> {
         ports: &mut P,
         workers: u64,
         served: &mut Served,
-    ) -> Result<(), ServeFault>
+    ) -> Result<Left, ServeFault>
         requires workers { (1 ≤ workers) × (workers ≤ workers_max) }
         requires sums { AddUp served.old }
         requires turns { served.old.rounds < turns_max }
@@ -124,7 +138,7 @@ impl<'a, D: Rng, G: Gate + Sync, W: Watch + Drop> Turns<'a, D, G, W> {
             served.add_lost(0);
             watch.lost(service, 0);
             ports.pause();
-            return Ok(());
+            return Ok(Left::Time);
         };
         if received.receive(ports).is_err() {
             return Err(ServeFault::Receive);
@@ -135,7 +149,7 @@ impl<'a, D: Rng, G: Gate + Sync, W: Watch + Drop> Turns<'a, D, G, W> {
             served.add_lost(received.len());
             watch.lost(service, received.len());
             ports.pause();
-            return Ok(());
+            return Ok(Left::Time);
         };
         served.add_outcomes(&done.outcomes);
         let sent = received.reply(ports, &done.outcomes);
@@ -148,8 +162,31 @@ impl<'a, D: Rng, G: Gate + Sync, W: Watch + Drop> Turns<'a, D, G, W> {
         if sent.is_err() {
             return Err(ServeFault::Send);
         }
+        let left = left_by(&done.outcomes);
         service.reuse(done);
-        Ok(())
+        Ok(left)
+    }
+}
+
+// What a turn with these outcomes leaves to be done.
+fn left_by(outcomes: &[Outcome]) -> Left {
+    let is_refused = outcomes
+        .iter()
+        .any(|outcome| matches!(outcome, Outcome::NoMemory));
+    if outcomes.is_empty() || is_refused {
+        Left::Time
+    } else {
+        Left::Nothing
+    }
+}
+
+// Lets time pass for the server up to now, if the ports have a clock.
+#[tactic(auto, using(crate::proofs::ServingLemmas::passed_to, crate::proofs::ServingLemmas::not_passed))]
+fn pass_time<P: Ports>(service: &mut Service, ports: &P)
+    ensures { LeadsTo service.old [] service.new }
+{
+    if let Some(moment) = ports.moment() {
+        service.pass(moment);
     }
 }
 

@@ -21,6 +21,10 @@ type Cut = (u32, u32, u64, &'static str);
 /// A call of `receive` or `send` that fails, what it ends with, how many replies went out before, and what it is.
 type Failing = (u64, Result<(), ServeFault>, usize, &'static str);
 
+/// What the clock of the ports shows in a turn without datagrams after one that kept a reply at 0, how many replies are kept then, and
+/// what it is.
+type Idle = (Option<u64>, usize, &'static str);
+
 /// What is tried.
 #[derive(Clone, Copy)]
 enum Trial<'a> {
@@ -38,6 +42,8 @@ enum Trial<'a> {
     Doors,
     /// A turn over ports that fail.
     Fault(&'a Failing),
+    /// A turn without datagrams.
+    Idle(&'a Idle),
 }
 
 #[test]
@@ -115,6 +121,20 @@ fn a_port_that_fails_ends_the_turns(rt: HostRuntime) {
     }
 }
 
+#[test]
+fn time_passes_in_an_idle_turn(rt: HostRuntime) {
+    const ROWS: &[Idle] = &[
+        (None, 1, "no clock"),
+        (Some(0), 1, "the same moment"),
+        (Some(29_999), 1, "the last moment of the window"),
+        (Some(30_000), 0, "the end of the window"),
+        (Some(u64::MAX), 0, "the end of time"),
+    ];
+    for row in ROWS.iter() {
+        holds(&rt, is_right(&rt, rt.alloc(), Trial::Idle(row)), row.2);
+    }
+}
+
 // Whether a service that remembers nothing yet does what a trial wants.
 fn is_right<R: Threads + Wait + Sync>(rt: &R, alloc: Global, trial: Trial) -> bool {
     match Config::read(alloc, CAMPUS) {
@@ -149,6 +169,7 @@ fn is_right_by<R: Threads + Wait + Sync>(
         Trial::Many => answers_many(rt, alloc, service),
         Trial::Doors => answers_each(rt, alloc, service),
         Trial::Fault(row) => fails(rt, alloc, service, row),
+        Trial::Idle(row) => is_left_idle(rt, alloc, service, row),
     }
 }
 
@@ -190,6 +211,24 @@ fn is_replied<R: Threads + Wait + Sync>(
 ) -> bool {
     comes(alloc, ports, moment, &Access(0, b"kay", b"pw"))
         && is_sum(serve(rt, service, ports, random, 1), 1, 1, 1, 0)
+}
+
+// Whether a turn without datagrams leaves so many replies.
+fn is_left_idle<R: Threads + Wait + Sync>(
+    rt: &R,
+    alloc: Global,
+    service: &mut Service,
+    row: &Idle,
+) -> bool {
+    let (clock, kept, _) = *row;
+    let mut ports = MemoryPorts::new(alloc);
+    let mut random = random();
+    let is_replied = is_replied(rt, alloc, service, &mut ports, &mut random, 0);
+    if let Some(moment) = clock {
+        ports.set_clock(moment);
+    }
+    let ended = serve(rt, service, &mut ports, &mut random, 1);
+    is_replied && is_sum(ended, 1, 0, 0, 0) && service.server().replies().rows().count() == kept
 }
 
 // The same by turns that have their room from the beginning, and a watcher.

@@ -12,6 +12,6 @@ returns-in_err-make_turn-clause-served g c =
     let valid = subst (λ server. IsConfiguration server.configuration) c.server.ensures c.state_is_lawful.ensures.configuration in
     let lawful = subst (λ server. IsLawful server.configuration server.state) c.server.ensures c.state_is_lawful.ensures.state in
     let served = served_until c.args.rounds c.args.service.now c.loop.served c.loop.service c.in_err-make_turn.field-0.0 reported.0
-    c.make_turn.new.service c.make_turn.new.served c.runs_repeat.ensures c.runs_are_lawful.ensures valid lawful c.loop.invariant.so_far
+    c.make_turn.new.service c.make_turn.new.served c.runs_repeat.ensures c.runs_are_lawful.ensures c.time_passes_unseen.ensures.histories valid lawful c.loop.invariant.so_far
     c.in_err-make_turn.ensures.turn in
     subst (λ result. IsServed c.args.rounds c.args.service.now result c.make_turn.new.service) (sym reported.1) served
