@@ -11,6 +11,7 @@ use crossbeam_channel::bounded;
 use rad_auth::Door;
 use rad_check::{warn, warn_of_file};
 use rad_config::{Config, read_configuration};
+use rad_server::HashKey;
 use rad_shell::{Gate, OpenGate, Ports, Served, Service, Turns, Unwatched, Watch};
 use rad_text::lines::divide;
 use rad_watch::Watcher;
@@ -53,12 +54,21 @@ fn serve_users<R: Files + Net + Clock + Print + Eprint + Threads + Wait + Sync +
     text: Vec<u8>,
 ) -> Result<(), ServeError> {
     let head = head_of(rt, options, text)?;
-    let seed = open_seed(rt, &options.seed)?;
-    let mut service = Service::open(rt.alloc(), config)?;
+    let mut random = ChaCha20Rng::from_seed(open_seed(rt, &options.seed)?);
+    let key = hash_key(&mut random);
+    let mut service = Service::open_keyed(rt.alloc(), config, key)?;
     if options.reports.are_none() {
-        return serve_unwatched(rt, options, &mut service, seed);
+        return serve_unwatched(rt, options, &mut service, &mut random);
     }
-    serve_reporting(rt, options, &mut service, seed, head)
+    serve_reporting(rt, options, &mut service, &mut random, head)
+}
+
+// The key of the tables' hashes: the first 16 octets of the random source.
+fn hash_key(random: &mut ChaCha20Rng) -> HashKey {
+    HashKey {
+        low: random.next_u64(),
+        high: random.next_u64(),
+    }
 }
 
 // With what a recording begins, if there is to be one: the text of the configuration, and the line that ends it. A text that has such
@@ -86,10 +96,9 @@ fn serve_unwatched<R: Net + Clock + Print + Threads + Wait + Sync + AllocGlobal>
     rt: &R,
     options: &Options,
     service: &mut Service,
-    seed: [u8; 32],
+    random: &mut ChaCha20Rng,
 ) -> Result<(), ServeError> {
-    let mut random = ChaCha20Rng::from_seed(seed);
-    let mut turns = Turns::open(rt.alloc(), &mut random, &OpenGate, Unwatched)?;
+    let mut turns = Turns::open(rt.alloc(), random, &OpenGate, Unwatched)?;
     let mut ports = listen(rt, options)?;
     serve_turns(rt, options, service, &mut turns, &mut ports)
 }
@@ -98,7 +107,7 @@ fn serve_reporting<R: Files + Net + Clock + Print + Eprint + Threads + Wait + Sy
     rt: &R,
     options: &Options,
     service: &mut Service,
-    seed: [u8; 32],
+    random: &mut ChaCha20Rng,
     head: Option<Vec<u8>>,
 ) -> Result<(), ServeError> {
     let reports = &options.reports;
@@ -113,19 +122,18 @@ fn serve_reporting<R: Files + Net + Clock + Print + Eprint + Threads + Wait + Sy
         reports,
         progress: &progress,
     };
-    serve_reported(rt, options, service, seed, reporter, writing)
+    serve_reported(rt, options, service, random, reporter, writing)
 }
 
 fn serve_reported<R: Files + Net + Clock + Print + Eprint + Threads + Wait + Sync + AllocGlobal>(
     rt: &R,
     options: &Options,
     service: &mut Service,
-    seed: [u8; 32],
+    random: &mut ChaCha20Rng,
     reporter: Reporter<R>,
     writing: Writing,
 ) -> Result<(), ServeError> {
-    let mut random = ChaCha20Rng::from_seed(seed);
-    let turns = Turns::open(rt.alloc(), &mut random, &OpenGate, reporter)?;
+    let turns = Turns::open(rt.alloc(), random, &OpenGate, reporter)?;
     let ports = listen(rt, options)?;
     let serving = Serving {
         options,
