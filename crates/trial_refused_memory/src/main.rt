@@ -75,6 +75,10 @@ const RUNS: &[(&str, Run)] = &[
         Run::Client(clients::Call::ConfigurationRead),
     ),
     ("Sessions::open", Run::Table(tables::Call::SessionsOpen)),
+    (
+        "Sessions::open_keyed",
+        Run::Table(tables::Call::SessionsOpenKeyed),
+    ),
     ("Sessions::room", Run::Table(tables::Call::SessionsRoom)),
     ("Sessions::grant", Run::Table(tables::Call::Grant)),
     (
@@ -136,6 +140,7 @@ const RUNS: &[(&str, Run)] = &[
         Run::Prepared(prepared::Call::Status),
     ),
     ("Server::open", Run::Server(servers::Call::Open)),
+    ("Server::open_keyed", Run::Server(servers::Call::OpenKeyed)),
     ("Server::copy", Run::Server(servers::Call::Copy)),
     (
         "Server::step to an Access-Accept",
@@ -177,6 +182,10 @@ const RUNS: &[(&str, Run)] = &[
         "Server::step to Busy, without memory",
         Run::Server(servers::Call::Busy),
     ),
+    (
+        "Server::pass when all expires, without memory",
+        Run::Server(servers::Call::Pass),
+    ),
     ("Answer::copy", Run::Server(servers::Call::AnswerCopy)),
     ("Entry::copy", Run::Server(servers::Call::EntryCopy)),
     ("Book::open", Run::Server(servers::Call::BookOpen)),
@@ -189,6 +198,7 @@ const RUNS: &[(&str, Run)] = &[
     ("Desk::open", Run::Desk(desks::Call::DeskOpen)),
     ("Desk::ask", Run::Desk(desks::Call::Ask)),
     ("Service::open", Run::Round(rounds::Call::Open)),
+    ("Service::open_keyed", Run::Round(rounds::Call::OpenKeyed)),
     (
         "Service::round by one worker",
         Run::Round(rounds::Call::Round(1)),

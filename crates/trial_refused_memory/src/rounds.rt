@@ -1,11 +1,11 @@
 //! Calls on a service, its turns and ports over memory.
 
 use crate::requests::NEMO;
-use crate::trial::{Called, Trial, Verdict, are_alike, begin, end, judge, keep};
+use crate::trial::{Called, KEY, Trial, Verdict, are_alike, begin, end, judge, keep};
 use rad_auth::{Arrival, Door};
 use rad_config::Config;
 use rad_packet::code::{ACCESS_ACCEPT, ACCESS_REJECT};
-use rad_server::Server;
+use rad_server::{HashKey, Server};
 use rad_shell::{
     Datagram, Done, MemoryPorts, OpenGate, Outcome, Ports, RECEIVED_MAX, RoundFault, Served,
     Service, Timed, Turns, Unwatched, run_rounds,
@@ -20,6 +20,7 @@ use test_common::{CAMPUS, CLIENT};
 #[derive(Clone, Copy)]
 pub(crate) enum Call {
     Open,
+    OpenKeyed,
     /// By so many workers.
     Round(u64),
     /// The same with the frames that another round left.
@@ -103,7 +104,8 @@ fn judge_with<R: Threads + Wait + Sync>(
     call: Call,
 ) -> Verdict {
     match call {
-        Call::Open => judge(alloc, Some(OpenTrial::new(alloc, config))),
+        Call::Open => judge(alloc, Some(OpenTrial::new(alloc, config, None))),
+        Call::OpenKeyed => judge(alloc, Some(OpenTrial::new(alloc, config, Some(KEY)))),
         Call::TurnsOpen => judge_open_turns(alloc),
         Call::Arrive => judge_arrival(alloc),
         _ => judge_over(rt, alloc, config, call),
@@ -141,14 +143,16 @@ fn judge_service<R: Threads + Wait + Sync>(
 struct OpenTrial<'c> {
     alloc: Global,
     config: &'c Config,
+    key: Option<HashKey>,
     given: Option<Service<'c>>,
 }
 
 impl<'c> OpenTrial<'c> {
-    fn new(alloc: Global, config: &'c Config) -> OpenTrial<'c> {
+    fn new(alloc: Global, config: &'c Config, key: Option<HashKey>) -> OpenTrial<'c> {
         OpenTrial {
             alloc,
             config,
+            key,
             given: None,
         }
     }
@@ -156,7 +160,7 @@ impl<'c> OpenTrial<'c> {
 
 impl<'c> Trial for OpenTrial<'c> {
     fn copy(&self) -> Option<OpenTrial<'c>> {
-        Some(OpenTrial::new(self.alloc, self.config))
+        Some(OpenTrial::new(self.alloc, self.config, self.key))
     }
 
     fn is_like(&self, other: &OpenTrial) -> bool {
@@ -166,7 +170,11 @@ impl<'c> Trial for OpenTrial<'c> {
     }
 
     fn call(&mut self) -> Called {
-        keep(&mut self.given, Service::open(self.alloc, self.config))
+        let service = match self.key {
+            None => Service::open(self.alloc, self.config),
+            Some(key) => Service::open_keyed(self.alloc, self.config, key),
+        };
+        keep(&mut self.given, service)
     }
 }
 

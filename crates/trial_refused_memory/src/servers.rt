@@ -4,7 +4,7 @@ ghost use Rattle.rad_config.specs.Spans.{moment_max};
 
 use crate::moments::{ROWS, moment_at};
 use crate::requests::{KAY, NEMO, NOBODY, START, STATUS, Sent, admit};
-use crate::trial::{Called, Trial, Verdict, are_alike, judge, keep};
+use crate::trial::{Called, KEY, Trial, Verdict, are_alike, judge, keep};
 use rad_auth::Door;
 use rad_config::Config;
 use rad_packet::attribute::USER_NAME;
@@ -17,6 +17,7 @@ use test_common::{CAMPUS, CLIENT, DRAW};
 #[derive(Clone, Copy)]
 pub(crate) enum Call {
     Open,
+    OpenKeyed,
     Copy,
     Accept,
     AcceptLater,
@@ -28,6 +29,7 @@ pub(crate) enum Call {
     Status,
     Repeat,
     Busy,
+    Pass,
     AnswerCopy,
     EntryCopy,
     BookOpen,
@@ -40,9 +42,11 @@ fn moment(call: Call) -> u64
     ensures { result ≤ moment_max }
 {
     match call {
-        Call::AcceptLater | Call::ChallengeLater | Call::ResponseLater | Call::ExchangeLater => {
-            moment_at(ROWS)
-        }
+        Call::AcceptLater
+        | Call::ChallengeLater
+        | Call::ResponseLater
+        | Call::ExchangeLater
+        | Call::Pass => moment_at(ROWS),
         _ => 0,
     }
 }
@@ -100,9 +104,11 @@ fn make_ready(server: &mut Server, call: Call) -> bool {
     match call {
         Call::Copy => answers(server, NEMO, 0) && answers(server, KAY, 0),
         Call::Repeat => answers(server, NEMO, 0),
-        Call::AcceptLater | Call::ChallengeLater | Call::ResponseLater | Call::ExchangeLater => {
-            answers_each(server, sent_by(call))
-        }
+        Call::AcceptLater
+        | Call::ChallengeLater
+        | Call::ResponseLater
+        | Call::ExchangeLater
+        | Call::Pass => answers_each(server, sent_by(call)),
         Call::Busy => is_filled(server),
         _ => true,
     }
@@ -187,7 +193,15 @@ impl<'c> Trial for ServerTrial<'c> {
     fn call(&mut self) -> Called {
         match self.call {
             Call::Open => keep(&mut self.given, Server::open(self.alloc, self.config)),
+            Call::OpenKeyed => keep(
+                &mut self.given,
+                Server::open_keyed(self.alloc, self.config, KEY),
+            ),
             Call::Copy => keep(&mut self.given, self.server.copy()),
+            Call::Pass => {
+                self.server.pass(moment(self.call));
+                Called::Done
+            }
             _ => match step(&mut self.server, sent_by(self.call), moment(self.call)) {
                 Some(result) => keep(&mut self.answer, result),
                 None => Called::Failed,

@@ -3,7 +3,7 @@ ghost use Rattle.std.specs.Prelude.{◌≤◌};
 ghost use Rattle.rad_config.specs.Spans.{moment_max};
 
 use crate::moments::{ROWS, moment_at};
-use crate::trial::{Called, Trial, Verdict, are_alike, judge, keep};
+use crate::trial::{Called, KEY, Trial, Verdict, are_alike, judge, keep};
 use rad_auth::Door;
 use rad_config::Config;
 use rad_packet::attribute::USER_NAME;
@@ -17,6 +17,7 @@ use test_common::{CAMPUS, CLIENT, DRAW};
 #[derive(Clone, Copy)]
 pub(crate) enum Call {
     SessionsOpen,
+    SessionsOpenKeyed,
     SessionsRoom,
     Grant,
     GrantLater,
@@ -56,6 +57,7 @@ pub(crate) fn judge_call(alloc: Global, call: Call) -> Verdict {
 fn judge_with(alloc: Global, config: &Config, call: Call) -> Verdict {
     match call {
         Call::SessionsOpen
+        | Call::SessionsOpenKeyed
         | Call::SessionsRoom
         | Call::Grant
         | Call::GrantLater
@@ -163,6 +165,10 @@ impl<'c> Trial for SessionsTrial<'c> {
     fn call(&mut self) -> Called {
         match self.call {
             Call::SessionsOpen => keep(&mut self.given, Sessions::open(self.alloc, self.config)),
+            Call::SessionsOpenKeyed => keep(
+                &mut self.given,
+                Sessions::open_keyed(self.alloc, self.config, KEY),
+            ),
             Call::SessionsRoom => Called::by(self.sessions.room().is_ok()),
             Call::SessionsCopy => keep(&mut self.given, self.sessions.copy()),
             _ => match grant(&mut self.sessions, self.config, moment(self.call)) {
