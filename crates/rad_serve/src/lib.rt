@@ -17,6 +17,7 @@ mod recording;
 mod reporter;
 mod serve_error;
 mod serving;
+mod shares;
 mod udp_ports;
 mod writer;
 

@@ -1,10 +1,12 @@
 //! The authentication port and the accounting port as UDP sockets.
-ghost use Rattle.std.specs.Prelude.{◌≡◌, ◌≤◌, ◌<◌, IfErr, IfOk, IfSome, IsTrue, true};
+ghost use Rattle.std.specs.Prelude.{◌≡◌, ◌≤◌, ◌<◌, IfErr, IfOk, IfSome, IsTrue};
 ghost use Rattle.rad_config.specs.Spans.{moment_max};
+ghost use Rattle.rad_serve.specs.Shares.{with_one};
 ghost use Rattle.rad_shell.specs.Serving.{IsReceived};
 
 use crate::failure::{Failure, receive_failure, send_failure};
 use crate::receive_buffer::ask_for_room;
+use crate::shares::Shares;
 use mio::net::UdpSocket;
 use mio::{Events, Interest, Poll, Token};
 use rad_auth::Door;
@@ -50,8 +52,8 @@ impl From<io::Error> for BindFault {
 
 /// The two UDP sockets of a server, and the clock that tells when a datagram came.
 ///
-/// The authentication socket is emptied before the accounting socket. Each failed call is counted, except one that only would have
-/// to wait; those that concern one datagram aren't reported as faults (`receive_failure`, `send_failure`).
+/// `Shares` says which socket is asked for a datagram. Each failed call is counted, except one that only would have to wait; those that
+/// concern one datagram aren't reported as faults (`receive_failure`, `send_failure`).
 #[derive(Drop)]
 pub struct UdpPorts<'r, C> {
     clock: &'r C,
@@ -61,12 +63,7 @@ pub struct UdpPorts<'r, C> {
     acct: UdpSocket,
     auth_port: u16,
     acct_port: u16,
-    // Whether a socket may have a datagram. The system tells of a datagram once, so only a call that would block clears the mark:
-    // with another rule a datagram that is left over would wait for the next one.
-    auth_may: bool,
-    acct_may: bool,
-    // Whether a datagram was received since the last wait. If none was, although a mark stands, a receive is refused again and again.
-    has_received: bool,
+    shares: Shares,
     failures: u64,
 }
 
@@ -88,9 +85,7 @@ impl<'r, C: Clock> UdpPorts<'r, C> {
             acct,
             auth_port,
             acct_port,
-            auth_may: true,
-            acct_may: true,
-            has_received: false,
+            shares: Shares::new(),
             failures: 0,
         })
     }
@@ -107,15 +102,6 @@ impl<'r, C: Clock> UdpPorts<'r, C> {
         match door {
             Door::Auth => &self.auth,
             Door::Acct => &self.acct,
-        }
-    }
-
-    fn set_may(&mut self, door: Door, may: bool)
-        ensures { self.new.failures ≡ self.old.failures }
-    {
-        match door {
-            Door::Auth => self.auth_may = may,
-            Door::Acct => self.acct_may = may,
         }
     }
 
@@ -159,22 +145,24 @@ impl<'r, C: Clock> UdpPorts<'r, C> {
         }
     }
 
-    // Receives from one socket, unless it has nothing.
+    // Receives from one socket, unless it has no mark, or nothing.
     fn receive_at(
         &mut self,
         door: Door,
         room: &mut [u8; RECEIVED_MAX],
     ) -> Result<Option<Got>, PortFault>
         ensures received { IfOk result (λ got. IfSome got IsReceived) }
-        ensures auth { IfOk result (λ got. IfSome got (λ _. self.new.auth_may ≡ self.old.auth_may)) }
-        ensures acct { IfOk result (λ got. IfSome got (λ _. self.new.acct_may ≡ self.old.acct_may)) }
-        ensures noted { IfOk result (λ got. IfSome got (λ _. self.new.has_received ≡ true)) }
+        ensures noted { IfOk result (λ got.
+            IfSome got (λ _. self.new.shares ≡ with_one door self.old.shares)) }
         ensures counted { self.old.failures ≤ self.new.failures }
         ensures fault { IfErr result (λ _. self.old.failures < self.new.failures) }
     {
+        if !self.shares.may_have(door) {
+            return Ok(None);
+        }
         match self.socket(door).recv_from(room) {
             Ok((len, SocketAddr::V4(source))) => {
-                self.has_received = true;
+                self.shares.count(door);
                 Ok(Some(Got {
                     source: source.ip().to_bits(),
                     port: source.port(),
@@ -187,7 +175,7 @@ impl<'r, C: Clock> UdpPorts<'r, C> {
             Err(error) => {
                 let failure = receive_failure(&error);
                 if failure == Failure::WouldBlock {
-                    self.set_may(door, false);
+                    self.shares.mark(door, false);
                 }
                 self.judge(failure)?;
                 Ok(None)
@@ -195,25 +183,25 @@ impl<'r, C: Clock> UdpPorts<'r, C> {
         }
     }
 
-    // Waits for an event of a socket, for a second at most, and marks that socket. If the wait fails nobody knows what has come, so
+    // Waits so long at most for events of the sockets, and marks those that have any. If the wait fails nobody knows what has come, so
     // both are marked.
-    fn wait_for_event(&mut self)
+    fn wait_for_events(&mut self, longest: Duration)
         ensures { self.old.failures ≤ self.new.failures }
     {
-        let second = Duration::from_secs(WAIT_SECONDS);
-        if self.poll.poll(&mut self.events, Some(second)).is_err() {
+        if self.poll.poll(&mut self.events, Some(longest)).is_err() {
             self.count();
-            self.auth_may = true;
-            self.acct_may = true;
-            self.clock.sleep(second);
+            self.shares.mark(Door::Auth, true);
+            self.shares.mark(Door::Acct, true);
+            self.clock.sleep(longest);
             return;
         }
         for event in &self.events {
-            if event.token() == AUTH {
-                self.auth_may = true;
+            let door = if event.token() == AUTH {
+                Door::Auth
             } else {
-                self.acct_may = true;
-            }
+                Door::Acct
+            };
+            self.shares.mark(door, true);
         }
     }
 }
@@ -222,11 +210,13 @@ impl<'r, C: Clock> Ports for UdpPorts<'r, C> {
     ghost failures = { λ ports. ports.failures };
 
     fn wait<R: Wait>(&mut self, _rt: &R) {
-        let may_have_more = self.has_received && (self.auth_may || self.acct_may);
-        self.has_received = false;
-        if !may_have_more {
-            self.wait_for_event();
-        }
+        let seconds = if self.shares.may_be_left() {
+            0
+        } else {
+            WAIT_SECONDS
+        };
+        self.shares.begin();
+        self.wait_for_events(Duration::from_secs(seconds));
     }
 
     fn pause(&mut self) {
@@ -234,15 +224,11 @@ impl<'r, C: Clock> Ports for UdpPorts<'r, C> {
     }
 
     fn receive(&mut self, room: &mut [u8; RECEIVED_MAX]) -> Result<Option<Got>, PortFault> {
-        if self.auth_may {
-            if let Some(got) = self.receive_at(Door::Auth, room)? {
-                return Ok(Some(got));
-            }
+        let [first, second] = self.shares.order();
+        if let Some(got) = self.receive_at(first, room)? {
+            return Ok(Some(got));
         }
-        if self.acct_may {
-            return self.receive_at(Door::Acct, room);
-        }
-        Ok(None)
+        self.receive_at(second, room)
     }
 
     fn send(

@@ -47,6 +47,50 @@ fn the_authentication_port_is_first(rt: HostRuntime) -> Result<(), Fail> {
     Ok(())
 }
 
+// Sends so many datagrams to a port, and says whether they went out.
+fn sends_many(client: &UdpSocket, port: u16, count: u16) -> bool {
+    (0..count).all(|_| sends(client, port, b"many"))
+}
+
+// From which doors the next datagrams come: so many from each, one after another.
+fn next_are<P: Ports>(rt: &impl Abort, ports: &mut P, wanted: &[(Door, u16)], what: &str) {
+    for (door, count) in wanted.iter() {
+        for _ in 0..*count {
+            next_is(rt, ports, Some((*door, 4)), what);
+        }
+    }
+}
+
+fn shares_a_turn<R: Abort + Wait, P: Ports>(rt: &R, ports: &mut P, client: &UdpSocket) {
+    let sent = sends_many(client, 18140, 270) && sends_many(client, 18141, 3);
+    holds(rt, sent, "more than half of a turn to auth, and some to acct");
+    ports.wait(rt);
+    let wanted = [(Door::Auth, 256), (Door::Acct, 3), (Door::Auth, 14)];
+    next_are(rt, ports, &wanted, "half of a turn, acct's, the rest");
+    next_is(rt, ports, None, "no other");
+}
+
+// Nothing is left to acct's mark when its datagram comes in the middle of auth's.
+fn looks_at_both<R: Abort + Wait, P: Ports>(rt: &R, ports: &mut P, client: &UdpSocket) {
+    holds(rt, sends_many(client, 18140, 8), "some to auth");
+    ports.wait(rt);
+    next_are(rt, ports, &[(Door::Auth, 4)], "not all of them");
+    holds(rt, sends_many(client, 18141, 1), "one to acct");
+    ports.wait(rt);
+    let wanted = [(Door::Auth, 4), (Door::Acct, 1)];
+    next_are(rt, ports, &wanted, "the rest, and acct's in the same turn");
+    next_is(rt, ports, None, "no other");
+}
+
+#[test]
+fn neither_port_keeps_the_other_one_waiting(rt: HostRuntime) -> Result<(), Fail> {
+    let client = client(&rt)?;
+    let mut ports = UdpPorts::bind(&rt, LOOPBACK, 18140, 18141)?;
+    shares_a_turn(&rt, &mut ports, &client);
+    looks_at_both(&rt, &mut ports, &client);
+    Ok(())
+}
+
 // After each wait that an event ends, the socket that has the datagram is looked at, and then the other one, until both are empty.
 fn wakes_up<R: Abort + Wait, P: Ports>(
     rt: &R,
