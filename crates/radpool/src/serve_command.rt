@@ -8,7 +8,7 @@ use clap::{ArgMatches, Command};
 use rad_serve::{Level, Options, Reports, Workers};
 use rad_text::decimal;
 use std::alloc::{AllocError, AllocGlobal, Global};
-use std::net::Net;
+use std::net::{Ipv4Addr, Net};
 use std::process::ExitCode;
 use std::rt::Files;
 use std::sync::Wait;
@@ -23,7 +23,7 @@ Example:
   radpool serve --config radpool.toml --seed radpool.seed";
 
 const BAD_ADDRESS: &str =
-    "invalid value for '--bind <ADDRESS>': expected an IPv4 address, such as 192.0.2.1";
+    "invalid value for '--bind <ADDRESS>': expected a unicast IPv4 address, such as 192.0.2.1";
 
 const BAD_WORKERS: &str = "invalid value for '--workers <N>': expected 1 to 8";
 
@@ -155,7 +155,7 @@ impl<'a> Serve<'a> {
 
     /// What is to be served.
     pub fn options(&self, alloc: Global) -> Result<Options, Fault> {
-        let Some(address) = decimal::address(self.bind.as_bytes()) else {
+        let Some(address) = address_to_bind(self.bind) else {
             return Err(unfit(alloc, BAD_ADDRESS));
         };
         // `clap` has checked the number already.
@@ -182,6 +182,16 @@ impl<'a> Serve<'a> {
             record: text_of(alloc, self.record)?,
         })
     }
+}
+
+// The address that a text spells, unless datagrams to it go to several hosts, which a server would then all answer.
+fn address_to_bind(text: &str) -> Option<u32> {
+    let bits = decimal::address(text.as_bytes())?;
+    let address = Ipv4Addr::from_bits(bits);
+    if address.is_multicast() || address.is_broadcast() {
+        return None;
+    }
+    Some(bits)
 }
 
 fn text_of(alloc: Global, text: Option<&str>) -> Result<Option<String>, AllocError> {
