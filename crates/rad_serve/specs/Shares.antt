@@ -1,6 +1,5 @@
--- Which of the two sockets is asked for the next datagram. A turn takes `arrivals_max` datagrams at most, and each socket that has
--- so many gives half of them.
-use Rattle.std.specs.Prelude.{ℕ, ◌-◌, ◌/◌, nat_lt, Bool, true, false, ◌&&◌, ◌||◌, if◌then◌else◌, List, [], ◌∷◌}
+-- Which of the two sockets is asked for the next datagram of a turn, so that neither keeps the other one waiting.
+use Rattle.std.specs.Prelude.{ℕ, zero, suc, ◌-◌, ◌/◌, ◌≤◌, min, nat_lt, find, Option, Some, None, Bool, true, false, ◌&&◌, ◌||◌, if◌then◌else◌, List, [], ◌∷◌}
 use Rattle.rad_auth.specs.declared.arrival.Door.{Door}
 use Rattle.rad_auth.specs.declared.arrival.Door.TheVariants.{Auth, Acct}
 use Rattle.rad_round.specs.Rounds.{arrivals_max}
@@ -10,11 +9,11 @@ use Rattle.rad_serve.specs.declared.shares.Shares.{Shares}
 abbrev pub half_turn : ℕ
 half_turn = arrivals_max / 2
 
--- before the first wait: each socket may have a datagram
+-- before the first wait, when each socket may have a datagram
 abbrev pub at_first : Shares
 at_first = record { auth_left = half_turn; auth_may = true; acct_may = true; has_received = false }
 
--- which socket is asked next: that of authentication as long as something is left of its half; and which one if that has nothing
+-- which socket is asked next: that of authentication, until it has given half of a turn; and which one if that has nothing
 abbrev pub asking_order : Shares → List Door
 asking_order shares =
     if nat_lt 0 shares.auth_left then Auth ∷ Acct ∷ [] else Acct ∷ Auth ∷ []
@@ -33,10 +32,57 @@ abbrev pub with_mark : Door → Bool → Shares → Shares
 with_mark Auth may shares = record shares { auth_may = may }
 with_mark Acct may shares = record shares { acct_may = may }
 
--- whether a turn that went well left a datagram, as one that ended full may have
+-- whether a turn may have left a datagram, as one that took `arrivals_max` may have
 abbrev pub may_be_left : Shares → Bool
 may_be_left shares = shares.has_received && (shares.auth_may || shares.acct_may)
 
 -- before the next turn
 abbrev pub at_turn : Shares → Shares
 at_turn shares = record shares { auth_left = half_turn; has_received = false }
+
+-- ---- a whole turn, in which nothing else comes, and each socket is marked at which something waits
+
+-- how many datagrams wait at the sockets
+pub record Waiting : Type 0 where
+  pub auth : ℕ
+  pub acct : ℕ
+
+-- whether one waits at a socket
+abbrev pub waits_at : Waiting → Door → Bool
+waits_at waiting Auth = nat_lt 0 waiting.auth
+waits_at waiting Acct = nat_lt 0 waiting.acct
+
+abbrev pub without_one : Door → Waiting → Waiting
+without_one Auth waiting = record waiting { auth = waiting.auth - 1 }
+without_one Acct waiting = record waiting { acct = waiting.acct - 1 }
+
+-- a turn on its way
+pub record Receiving : Type 0 where
+  pub shares : Shares
+  pub waiting : Waiting
+
+-- after a datagram of that socket, if it is one
+abbrev pub received_from : Option Door → Receiving → Receiving
+received_from None turn = turn
+received_from (Some door) turn =
+    record { shares = with_one door turn.shares; waiting = without_one door turn.waiting }
+
+-- after a receive, which gives a datagram of the first socket in the order at which one waits
+abbrev pub received : Receiving → Receiving
+received turn = received_from (find (waits_at turn.waiting) (asking_order turn.shares)) turn
+
+unfoldable pub after_receives : ℕ → Receiving → Receiving
+after_receives zero turn = turn
+after_receives (suc more) turn = after_receives more (received turn)
+
+-- how many wait after a whole turn
+abbrev pub waiting_after_turn : Shares → Waiting → Waiting
+waiting_after_turn shares waiting =
+    (after_receives arrivals_max (record { shares = shares; waiting = waiting })).waiting
+
+-- whatever waits, a whole turn receives half of its datagrams from each socket, or all that wait there
+pub record GivesHalves (shares : Shares) : Type 0 where
+  pub auth : (waiting : Waiting)
+      → min half_turn waiting.auth ≤ waiting.auth - (waiting_after_turn shares waiting).auth
+  pub acct : (waiting : Waiting)
+      → min half_turn waiting.acct ≤ waiting.acct - (waiting_after_turn shares waiting).acct

@@ -1,6 +1,6 @@
 //! Which of the two sockets is asked for the next datagram of a turn.
 ghost use Rattle.std.specs.Prelude.{◌≡◌};
-ghost use Rattle.rad_serve.specs.Shares.{asking_order, at_first, at_turn, may_be_left, may_have, with_mark, with_one};
+ghost use Rattle.rad_serve.specs.Shares.{GivesHalves, asking_order, at_first, at_turn, may_be_left, may_have, with_mark, with_one};
 
 use rad_auth::Door;
 use rad_shell::ARRIVALS_MAX;
@@ -85,8 +85,10 @@ impl Shares {
     }
 
     /// Begins a turn.
+    #[tactic(auto, using(crate::proofs::ShareLemmas::gives_halves))]
     pub fn begin(&mut self)
-        ensures { self.new ≡ at_turn self.old }
+        ensures begun { self.new ≡ at_turn self.old }
+        ensures shared { GivesHalves self.new }
     {
         self.auth_left = HALF_TURN;
         self.has_received = false;
