@@ -46,5 +46,5 @@ leaves (suc count) turn =
 pub gives_halves : (shares : Shares) → shares.auth_left ≡ half_turn → GivesHalves shares
 gives_halves shares is_half = record {
   auth = λ waiting. omega (arith, (leaves arrivals_max (record { shares = shares; waiting = waiting })).auth);
-  acct = λ waiting. omega (arith, (leaves arrivals_max (record { shares = shares; waiting = waiting })).acct)
+  acct = λ waiting. omega (arith, (leaves arrivals_max (record { shares = shares; waiting = waiting })).acct);
 }

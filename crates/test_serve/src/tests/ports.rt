@@ -63,7 +63,11 @@ fn next_are<P: Ports>(rt: &impl Abort, ports: &mut P, wanted: &[(Door, u16)], wh
 
 fn shares_a_turn<R: Abort + Wait, P: Ports>(rt: &R, ports: &mut P, client: &UdpSocket) {
     let sent = sends_many(client, 18140, 270) && sends_many(client, 18141, 3);
-    holds(rt, sent, "more than half of a turn to auth, and some to acct");
+    holds(
+        rt,
+        sent,
+        "more than half of a turn to auth, and some to acct",
+    );
     ports.wait(rt);
     let wanted = [(Door::Auth, 256), (Door::Acct, 3), (Door::Auth, 14)];
     next_are(rt, ports, &wanted, "half of a turn, acct's, the rest");
