@@ -180,7 +180,8 @@ impl<'w, R: Files + Eprint + AllocGlobal> ReportFiles<'w, R> {
     }
 }
 
-// Puts a text in the place of a file at once: who reads the file sees the text before or this one.
+// Puts a text in the place of a file at once: who reads the file sees the text before or this one. Where this fails nothing of the text
+// is left.
 fn write_by_rename<R: Files + AllocGlobal>(
     rt: &R,
     path: &str,
@@ -189,12 +190,20 @@ fn write_by_rename<R: Files + AllocGlobal>(
 ) -> io::Result<()> {
     let beside = format!(in rt.alloc(); "{path}.new")?;
     let _ = fs::remove_file(rt, &beside);
+    let written = write_new(rt, &beside, mode, text).and_then(|()| fs::rename(rt, &beside, path));
+    if written.is_err() {
+        let _ = fs::remove_file(rt, &beside);
+    }
+    written
+}
+
+// Writes a file that isn't there yet.
+fn write_new<R: Files>(rt: &R, path: &str, mode: u32, text: &[u8]) -> io::Result<()> {
     let mut file = OpenOptions::new()
         .write(true)
         .create_new(true)
         .mode(NEW_MODE)
-        .open(rt, &beside)?;
+        .open(rt, path)?;
     file.set_permissions(Permissions::from_mode(mode))?;
-    file.write_all(text)?;
-    fs::rename(rt, &beside, path)
+    file.write_all(text)
 }
