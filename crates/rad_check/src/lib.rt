@@ -6,9 +6,9 @@
 
 mod detail;
 mod known;
+mod lines;
 mod near;
 mod place;
-mod print;
 mod shared;
 #[cfg(test)]
 mod tests;
@@ -16,5 +16,5 @@ mod unknown;
 mod warning;
 
 pub use detail::{Detail, detail_of};
-pub use print::{warn, warn_of_file};
+pub use lines::{push_warning, warn, warn_of_file};
 pub use warning::{SHORT_HOLD, Warning};

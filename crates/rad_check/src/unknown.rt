@@ -1,6 +1,7 @@
 //! Names of a document that no part has.
 
 use crate::known::{LISTS, is_known, is_of_top};
+use crate::lines::push_warning;
 use crate::near::near_name;
 use rad_config_fault::Part;
 use std::fmt;
@@ -49,26 +50,26 @@ impl<'a> Unknown<'a> {
     }
 }
 
-/// Prints a warning for each name of a document that its part doesn't have.
-pub fn warn_of_names<R: Eprint>(rt: &R, document: &Table) {
-    warn_of_table(rt, Part::Top, 0, document);
+/// Appends a warning for each name of a document that its part doesn't have.
+pub fn warn_of_names(lines: &mut String, document: &Table) {
+    warn_of_table(lines, Part::Top, 0, document);
     for part in LISTS.iter() {
-        warn_of_list(rt, *part, document);
+        warn_of_list(lines, *part, document);
     }
 }
 
-fn warn_of_list<R: Eprint>(rt: &R, part: Part, document: &Table) {
+fn warn_of_list(lines: &mut String, part: Part, document: &Table) {
     let Some(Value::Array(items)) = document.get(part.name()) else {
         return;
     };
     for (place, item) in items.iter().enumerate() {
         if let Value::Table(table) = item {
-            warn_of_table(rt, part, place + 1, table);
+            warn_of_table(lines, part, place + 1, table);
         }
     }
 }
 
-fn warn_of_table<R: Eprint>(rt: &R, part: Part, index: usize, table: &Table) {
+fn warn_of_table(lines: &mut String, part: Part, index: usize, table: &Table) {
     for (name, value) in table.iter() {
         if !is_known(part, name) {
             let unknown = Unknown {
@@ -77,7 +78,7 @@ fn warn_of_table<R: Eprint>(rt: &R, part: Part, index: usize, table: &Table) {
                 name,
                 is_table: is_table(value),
             };
-            let _ = eprintln!(rt; "radpool: warning: {unknown}");
+            push_warning(lines, unknown);
         }
     }
 }

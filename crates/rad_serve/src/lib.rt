@@ -19,6 +19,7 @@ mod serve_error;
 mod serving;
 mod shares;
 mod udp_ports;
+mod warner;
 mod writer;
 
 pub use failure::{Failure, receive_failure, send_failure};

@@ -6,10 +6,11 @@ use crate::progress::Progress;
 use crate::reporter::{Reporter, now};
 use crate::serve_error::ServeError;
 use crate::udp_ports::UdpPorts;
+use crate::warner::Warner;
 use crate::writer::{Writing, write_files, write_lines};
 use crossbeam_channel::bounded;
 use rad_auth::Door;
-use rad_check::{warn, warn_of_file};
+use rad_check::{push_warning, warn, warn_of_file};
 use rad_config::{Config, read_configuration};
 use rad_server::HashKey;
 use rad_shell::{Gate, OpenGate, Ports, Served, Service, Turns, Unwatched, Watch};
@@ -21,9 +22,9 @@ use std::alloc::AllocGlobal;
 use std::net::{Ipv4Addr, Net};
 use std::rt::Files;
 use std::sync::Wait;
-use std::thread;
 use std::thread::Threads;
 use std::time::Clock;
+use std::{mem, thread};
 
 /// How many texts may wait for a thread that writes them.
 const TEXTS_MAX: usize = 4;
@@ -38,11 +39,15 @@ pub fn serve<R: Files + Net + Clock + Print + Eprint + Threads + Wait + Sync + A
 ) -> Result<(), ServeError> {
     let text = open_text(rt, &options.config)?;
     let config = read_configuration(rt.alloc(), &text)?;
+    let mut warnings = String::new(rt.alloc());
     if options.reports.log.is_some() {
-        warn(rt, &options.config, &text, &config);
-        warn_of_file(rt, &options.seed);
+        warn(&mut warnings, rt, &options.config, &text, &config);
+        warn_of_file(&mut warnings, rt, &options.seed);
     }
-    serve_users(rt, options, &config, text)
+    let served = serve_users(rt, options, &config, text, &mut warnings);
+    // What is left of them was handed over to nobody, since a fault ends the program before it listens.
+    let _ = eprint!(rt; "{warnings}");
+    served
 }
 
 // What is alive at a `?` is dropped there, and each such drop is proved. So here, and below, a function makes one big value and
@@ -52,15 +57,16 @@ fn serve_users<R: Files + Net + Clock + Print + Eprint + Threads + Wait + Sync +
     options: &Options,
     config: &Config,
     text: Vec<u8>,
+    warnings: &mut String,
 ) -> Result<(), ServeError> {
-    let head = head_of(rt, options, text)?;
+    let head = head_of(options, text, warnings)?;
     let mut random = ChaCha20Rng::from_seed(open_seed(rt, &options.seed)?);
     let key = hash_key(&mut random);
     let mut service = Service::open_keyed(rt.alloc(), config, key)?;
     if options.reports.are_none() {
         return serve_unwatched(rt, options, &mut service, &mut random);
     }
-    serve_reporting(rt, options, &mut service, &mut random, head)
+    serve_reporting(rt, options, &mut service, &mut random, (head, warnings))
 }
 
 // The key of the tables' hashes: the first 16 octets of the random source.
@@ -73,17 +79,18 @@ fn hash_key(random: &mut ChaCha20Rng) -> HashKey {
 
 // With what a recording begins, if there is to be one: the text of the configuration, and the line that ends it. A text that has such
 // a line can't be told from what follows it.
-fn head_of<R: Eprint>(
-    rt: &R,
+fn head_of(
     options: &Options,
     text: Vec<u8>,
+    warnings: &mut String,
 ) -> Result<Option<Vec<u8>>, ServeError> {
     let Some(path) = &options.reports.record else {
         return Ok(None);
     };
     if divide(&text).is_some() {
-        let _ = eprintln!(rt;
-            "radpool: warning: cannot record to {path}: the configuration has a line ---"
+        push_warning(
+            warnings,
+            format_args!("cannot record to {path}: the configuration has a line ---"),
         );
         return Ok(None);
     }
@@ -108,21 +115,25 @@ fn serve_reporting<R: Files + Net + Clock + Print + Eprint + Threads + Wait + Sy
     options: &Options,
     service: &mut Service,
     random: &mut ChaCha20Rng,
-    head: Option<Vec<u8>>,
+    (head, warnings): (Option<Vec<u8>>, &mut String),
 ) -> Result<(), ServeError> {
     let reports = &options.reports;
     let watcher = Watcher::open(rt.alloc(), service.server().config(), reports.log, now(rt))?;
     let (lines, lines_end) = bounded(rt.alloc(), TEXTS_MAX)?;
     let (files, files_end) = bounded(rt.alloc(), TEXTS_MAX)?;
     let progress = Progress::new();
+    let warner = Warner {
+        lines: lines.clone()?,
+        progress: &progress,
+    };
     let reporter = Reporter::new(rt, watcher, (lines, files), &progress, reports, head);
     let writing = Writing {
         lines: lines_end,
         files: files_end,
         reports,
-        progress: &progress,
+        warner,
     };
-    serve_reported(rt, options, service, random, reporter, writing)
+    serve_reported(rt, options, service, random, reporter, (writing, warnings))
 }
 
 fn serve_reported<R: Files + Net + Clock + Print + Eprint + Threads + Wait + Sync + AllocGlobal>(
@@ -131,10 +142,14 @@ fn serve_reported<R: Files + Net + Clock + Print + Eprint + Threads + Wait + Syn
     service: &mut Service,
     random: &mut ChaCha20Rng,
     reporter: Reporter<R>,
-    writing: Writing,
+    (writing, warnings): (Writing, &mut String),
 ) -> Result<(), ServeError> {
     let turns = Turns::open(rt.alloc(), random, &OpenGate, reporter)?;
     let ports = listen(rt, options)?;
+    if !warnings.is_empty() {
+        let warnings = mem::replace(warnings, String::new(rt.alloc()));
+        writing.warner.hand_over(rt, warnings);
+    }
     let serving = Serving {
         options,
         service,
@@ -167,32 +182,37 @@ impl<'s, 'c, R: Clock + Print + Threads + Wait + Sync + AllocGlobal> Serving<'s,
     }
 }
 
-// Serves on one thread, writes lines on another, and files on this one: only here there is a handle for files.
+// Serves on one thread, writes lines on another, and files on this one: only here there is a handle for files. Only the thread that
+// writes lines ever waits for standard error; if there is none, each of its texts is counted as unwritten.
 fn serve_beside<
     R: Clock + Print + Eprint + Threads + Wait + Sync + AllocGlobal,
-    F: Files + Eprint + Wait + AllocGlobal,
+    F: Files + Wait + AllocGlobal,
 >(rt: &R, system: &F, serving: Serving<R>, writing: Writing) -> Result<(), ServeError> {
     let Writing {
         lines,
         files,
         reports,
-        progress,
+        warner,
     } = writing;
+    let progress = warner.progress;
     thread::scope(thread::scope_env(), rt, |scope| {
-        let printing = scope.spawn(move || write_lines(rt, &lines, progress));
-        if printing.is_err() {
-            let _ = eprintln!(system;
-                "radpool: warning: cannot start a thread for the log: no lines are written"
-            );
+        // If there is no thread, the end that receives lines goes here, and nobody waits for it.
+        if scope
+            .spawn(move || write_lines(rt, &lines, progress))
+            .is_err()
+        {
+            progress.count_unwritten();
         }
         match scope.spawn(move || serving.run(rt)) {
             Ok(server) => {
-                write_files(system, &files, reports, progress);
+                write_files(system, &files, reports, warner);
                 server.join(rt)
             }
             Err(error) => {
-                let _ = eprintln!(system;
-                    "radpool: warning: cannot start a thread to serve on: no files are written"
+                drop(files);
+                warner.warn(
+                    system,
+                    "cannot start a thread to serve on: no files are written",
                 );
                 (error.value)()
             }

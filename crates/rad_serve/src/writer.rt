@@ -3,6 +3,7 @@
 use crate::options::Reports;
 use crate::progress::Progress;
 use crate::recording::Recording;
+use crate::warner::Warner;
 use crossbeam_channel::Receiver;
 use std::alloc::AllocGlobal;
 use std::fmt::Display;
@@ -41,7 +42,7 @@ pub(crate) struct Writing<'w> {
     pub lines: Receiver<Vec<u8>>,
     pub files: Receiver<Text>,
     pub reports: &'w Reports,
-    pub progress: &'w Progress,
+    pub warner: Warner<'w>,
 }
 
 /// Writes lines to standard error until nobody hands over any more.
@@ -66,15 +67,15 @@ fn print<R: Eprint>(rt: &R, lines: &[u8]) -> bool {
 }
 
 /// Writes files until nobody hands over any more.
-pub(crate) fn write_files<R: Files + Eprint + Wait + AllocGlobal>(
+pub(crate) fn write_files<R: Files + Wait + AllocGlobal>(
     rt: &R,
     texts: &Receiver<Text>,
     reports: &Reports,
-    progress: &Progress,
+    warner: Warner,
 ) {
     let mut files = ReportFiles {
         rt,
-        progress,
+        warner,
         metrics: Replaced::at(&reports.metrics, METRICS_MODE),
         sessions: Replaced::at(&reports.sessions, SESSIONS_MODE),
         record: reports.record.as_ref(),
@@ -104,23 +105,17 @@ impl<'w> Replaced<'w> {
     }
 
     // Puts a text in its place. That this can't be done is counted, and told once.
-    fn replace<R: Files + Eprint + AllocGlobal>(
-        &mut self,
-        rt: &R,
-        text: &[u8],
-        progress: &Progress,
-    ) {
+    fn replace<R: Files + Wait + AllocGlobal>(&mut self, rt: &R, text: &[u8], warner: &Warner) {
         let Some(path) = self.path else {
             return;
         };
         let Err(error) = write_by_rename(rt, path, self.mode, text) else {
             return;
         };
-        progress.count_unwritten();
+        warner.progress.count_unwritten();
         if !self.is_told {
-            let _ = eprintln!(rt; "radpool: warning: cannot write {path}: {error}");
+            self.is_told = warner.warn(rt, format_args!("cannot write {path}: {error}"));
         }
-        self.is_told = true;
     }
 }
 
@@ -128,7 +123,7 @@ impl<'w> Replaced<'w> {
 #[derive(Drop)]
 struct ReportFiles<'w, R: Files> {
     rt: &'w R,
-    progress: &'w Progress,
+    warner: Warner<'w>,
     metrics: Replaced<'w>,
     sessions: Replaced<'w>,
     record: Option<&'w String>,
@@ -136,11 +131,11 @@ struct ReportFiles<'w, R: Files> {
     recording: Option<Recording<R::File>>,
 }
 
-impl<'w, R: Files + Eprint + AllocGlobal> ReportFiles<'w, R> {
+impl<'w, R: Files + Wait + AllocGlobal> ReportFiles<'w, R> {
     fn write(&mut self, text: &Text) {
         match text {
-            Text::Metrics(text) => self.metrics.replace(self.rt, text, self.progress),
-            Text::Sessions(text) => self.sessions.replace(self.rt, text, self.progress),
+            Text::Metrics(text) => self.metrics.replace(self.rt, text, &self.warner),
+            Text::Sessions(text) => self.sessions.replace(self.rt, text, &self.warner),
             Text::Record(text) => self.record(text),
             Text::RecordEnd => self.end_recording(
                 "datagrams came faster than they could be written, or memory was refused",
@@ -149,7 +144,7 @@ impl<'w, R: Files + Eprint + AllocGlobal> ReportFiles<'w, R> {
     }
 
     fn record(&mut self, text: &[u8]) {
-        if !self.progress.is_recording() {
+        if !self.warner.progress.is_recording() {
             return;
         }
         if let Err(error) = self.try_record(text) {
@@ -172,10 +167,10 @@ impl<'w, R: Files + Eprint + AllocGlobal> ReportFiles<'w, R> {
 
     // A recording with a gap would be answered otherwise than it was, so it ends before the gap.
     fn end_recording<D: Display + Drop>(&mut self, why: D) {
-        self.progress.end_recording();
-        self.progress.count_unwritten();
+        self.warner.progress.end_recording();
+        self.warner.progress.count_unwritten();
         if let Some(path) = self.record {
-            let _ = eprintln!(self.rt; "radpool: warning: recording to {path} stopped: {why}");
+            self.warner.warn(self.rt, format_args!("recording to {path} stopped: {why}"));
         }
     }
 }

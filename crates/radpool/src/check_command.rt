@@ -37,7 +37,9 @@ fn check_text<R: Files + Print + Eprint + AllocGlobal>(
 ) -> ExitCode {
     match read_configuration(rt.alloc(), text) {
         Ok(config) => {
-            warn(rt, path, text, &config);
+            let mut warnings = String::new(rt.alloc());
+            warn(&mut warnings, rt, path, text, &config);
+            let _ = eprint!(rt; "{warnings}");
             print_good(rt, path, &config)
         }
         Err(fault) => report(rt, Fault::Config(fault, detail_of(rt.alloc(), text, fault))),
