@@ -6,7 +6,7 @@ use crate::writer::Text;
 use crossbeam_channel::Sender;
 use rad_server::Server;
 use rad_shell::{Service, Turn, Watch};
-use rad_watch::{Now, Watcher, record};
+use rad_watch::{Now, Roster, Watcher, record};
 use std::alloc::AllocGlobal;
 use std::mem;
 use std::sync::Wait;
@@ -128,8 +128,8 @@ impl<'r, R: Clock + Wait + AllocGlobal> Reporter<'r, R> {
             self.hand_over_file(metrics.map(Text::Metrics));
         }
         if self.has_sessions {
-            let sessions = self.watcher.roster(server, now);
-            self.hand_over_file(sessions.map(Text::Sessions));
+            let roster = Roster::of(self.rt.alloc(), server, now);
+            self.hand_over_file(roster.ok().map(Text::Sessions));
         }
     }
 

@@ -118,7 +118,8 @@ fn serve_reporting<R: Files + Net + Clock + Print + Eprint + Threads + Wait + Sy
     (head, warnings): (Option<Vec<u8>>, &mut String),
 ) -> Result<(), ServeError> {
     let reports = &options.reports;
-    let watcher = Watcher::open(rt.alloc(), service.server().config(), reports.log, now(rt))?;
+    let config = service.server().config();
+    let watcher = Watcher::open(rt.alloc(), config, reports.log, now(rt))?;
     let (lines, lines_end) = bounded(rt.alloc(), TEXTS_MAX)?;
     let (files, files_end) = bounded(rt.alloc(), TEXTS_MAX)?;
     let progress = Progress::new();
@@ -131,6 +132,7 @@ fn serve_reporting<R: Files + Net + Clock + Print + Eprint + Threads + Wait + Sy
         lines: lines_end,
         files: files_end,
         reports,
+        config,
         warner,
     };
     serve_reported(rt, options, service, random, reporter, (writing, warnings))
@@ -192,6 +194,7 @@ fn serve_beside<
         lines,
         files,
         reports,
+        config,
         warner,
     } = writing;
     let progress = warner.progress;
@@ -205,7 +208,7 @@ fn serve_beside<
         }
         match scope.spawn(move || serving.run(rt)) {
             Ok(server) => {
-                write_files(system, &files, reports, warner);
+                write_files(system, &files, reports, config, warner);
                 server.join(rt)
             }
             Err(error) => {

@@ -5,6 +5,8 @@ use crate::progress::Progress;
 use crate::recording::Recording;
 use crate::warner::Warner;
 use crossbeam_channel::Receiver;
+use rad_config::Config;
+use rad_watch::Roster;
 use std::alloc::AllocGlobal;
 use std::fmt::Display;
 use std::fs::{OpenFile, OpenOptions, Permissions};
@@ -28,8 +30,8 @@ const NEW_MODE: u32 = 0o600;
 pub(crate) enum Text {
     /// What the file of the metrics is to contain.
     Metrics(Vec<u8>),
-    /// What the file of the sessions is to contain.
-    Sessions(Vec<u8>),
+    /// Of whom the file of the sessions is to tell.
+    Sessions(Roster),
     /// What comes next in the recording.
     Record(Vec<u8>),
     /// A text of the recording was left out, so that it ends.
@@ -42,6 +44,7 @@ pub(crate) struct Writing<'w> {
     pub lines: Receiver<Vec<u8>>,
     pub files: Receiver<Text>,
     pub reports: &'w Reports,
+    pub config: &'w Config,
     pub warner: Warner<'w>,
 }
 
@@ -71,10 +74,12 @@ pub(crate) fn write_files<R: Files + Wait + AllocGlobal>(
     rt: &R,
     texts: &Receiver<Text>,
     reports: &Reports,
+    config: &Config,
     warner: Warner,
 ) {
     let mut files = ReportFiles {
         rt,
+        config,
         warner,
         metrics: Replaced::at(&reports.metrics, METRICS_MODE),
         sessions: Replaced::at(&reports.sessions, SESSIONS_MODE),
@@ -123,6 +128,8 @@ impl<'w> Replaced<'w> {
 #[derive(Drop)]
 struct ReportFiles<'w, R: Files> {
     rt: &'w R,
+    // It has the users' names.
+    config: &'w Config,
     warner: Warner<'w>,
     metrics: Replaced<'w>,
     sessions: Replaced<'w>,
@@ -135,11 +142,18 @@ impl<'w, R: Files + Wait + AllocGlobal> ReportFiles<'w, R> {
     fn write(&mut self, text: &Text) {
         match text {
             Text::Metrics(text) => self.metrics.replace(self.rt, text, &self.warner),
-            Text::Sessions(text) => self.sessions.replace(self.rt, text, &self.warner),
+            Text::Sessions(roster) => self.write_roster(roster),
             Text::Record(text) => self.record(text),
             Text::RecordEnd => self.end_recording(
                 "datagrams came faster than they could be written, or memory was refused",
             ),
+        }
+    }
+
+    fn write_roster(&mut self, roster: &Roster) {
+        match roster.text(self.rt.alloc(), self.config) {
+            Ok(text) => self.sessions.replace(self.rt, &text, &self.warner),
+            Err(_) => self.warner.progress.count_unwritten(),
         }
     }
 

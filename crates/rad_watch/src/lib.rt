@@ -26,5 +26,6 @@ mod watcher;
 pub use kind::Level;
 pub use limiter::LINES_MAX;
 pub use now::Now;
+pub use roster::Roster;
 pub use transcript::record;
 pub use watcher::Watcher;

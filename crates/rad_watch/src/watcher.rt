@@ -7,7 +7,6 @@ use crate::limiter::Limiter;
 use crate::line::write_line;
 use crate::metrics::write_metrics;
 use crate::now::Now;
-use crate::roster::write_roster;
 use crate::sums::{Sums, add_one};
 use crate::tally::Tally;
 use rad_config::Config;
@@ -122,13 +121,6 @@ impl Watcher {
         let uptime = now.moment.saturating_sub(self.start.moment);
         let config = server.config();
         write_metrics(&mut text, &self.sums, &tally, config, uptime, unwritten).ok()?;
-        Some(text)
-    }
-
-    /// Who is on: a head line, and a line for each session. None if memory is refused.
-    pub fn roster(&self, server: &Server, now: Now) -> Option<Vec<u8>> {
-        let mut text = Vec::new(self.alloc);
-        write_roster(&mut text, server, now).ok()?;
         Some(text)
     }
 

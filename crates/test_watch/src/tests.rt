@@ -1,6 +1,7 @@
 //! What a watcher tells of turns, whose outcomes are made up.
 mod lines;
 mod metrics;
+mod rosters;
 mod transcripts;
 mod turns;
 
