@@ -134,7 +134,7 @@ impl<'r, C: Clock> UdpPorts<'r, C> {
     }
 
     // The moment, in milliseconds by a clock that goes on whatever time it is set to. Its zero is the system's choice.
-    fn moment(&self) -> u64
+    fn now(&self) -> u64
         ensures { result ≤ moment_max }
     {
         match self.clock.monotonic() {
@@ -168,7 +168,7 @@ impl<'r, C: Clock> UdpPorts<'r, C> {
                     port: source.port(),
                     door,
                     len,
-                    moment: self.moment(),
+                    moment: self.now(),
                 }))
             }
             Ok(_) => Ok(None),
@@ -247,6 +247,10 @@ impl<'r, C: Clock> Ports for UdpPorts<'r, C> {
 
     fn faults(&self) -> u64 {
         self.failures
+    }
+
+    fn moment(&self) -> Option<u64> {
+        Some(self.now())
     }
 }
 
