@@ -1,0 +1,161 @@
+"""What the trials share: requests, and a `radpool serve` to send them to."""
+
+import contextlib
+import functools
+import hashlib
+import hmac
+import os
+import resource
+import select
+import socket
+import struct
+import subprocess
+import sys
+import tempfile
+
+SECRET = b"xyzzy5461"
+CONFIGURATION = """
+window = 1
+hold = 4
+[[client]]
+address = "127.0.0.1"
+secret = "xyzzy5461"
+[[pool]]
+name = "one"
+first = "10.0.0.1"
+last = "10.0.0.1"
+[[user]]
+name = "kay"
+password = "pw"
+challenge = "code?"
+answer = "4711"
+""" + "".join(f'[[user]]\nname = "{name}"\npassword = "pw"\npool = "one"\n' for name in ("ann", "bo", "cy")) + """
+[[user]]
+name = "dee"
+password = "pw"
+"""
+HERE = os.path.dirname(os.path.abspath(__file__))
+RADPOOL = os.path.join(HERE, "../../crates/radpool/out/radpool")
+FOLDER = tempfile.TemporaryDirectory()
+
+
+def path(name):
+    return os.path.join(FOLDER.name, name)
+
+
+def judge(is_so, what):
+    if not is_so:
+        sys.exit(f"it isn't so that {what}")
+
+
+@functools.cache
+def compiled(source, *words):
+    """The path of what cc makes of a source of this folder."""
+    made = path(source.removesuffix(".c"))
+    subprocess.run(["cc", "-O2", "-Wall", "-Wextra", "-Werror", *words, "-o", made, os.path.join(HERE, source)], check=True)
+    return made
+
+
+# ---- requests
+
+
+def status_server(identifier):
+    """A signed Status-Server (RFC 5997)."""
+    begin = struct.pack(">BBH", 12, identifier, 38) + bytes(16) + b"\x50\x12"
+    return begin + hmac.new(SECRET, begin + bytes(16), hashlib.md5).digest()
+
+
+def accounting_request(identifier, status=1, class_value=b""):
+    """A signed Start (RFC 2866), or a report with another status, perhaps with a Class."""
+    attributes = b"\x28\x06" + struct.pack(">I", status)
+    if class_value:
+        attributes += bytes([25, 2 + len(class_value)]) + class_value
+    begin = struct.pack(">BBH", 4, identifier, 20 + len(attributes))
+    return begin + hashlib.md5(begin + bytes(16) + attributes + SECRET).digest() + attributes
+
+
+def access_request(identifier, name=b"kay", password=b"pw", authenticator=bytes(16), rest=b""):
+    """An Access-Request (RFC 2865) of a user, each of whom has the same password, perhaps with further attributes."""
+    digest = hashlib.md5(SECRET + authenticator).digest()
+    hidden = bytes(one ^ other for one, other in zip(password.ljust(16, b"\0"), digest))
+    attributes = bytes([1, 2 + len(name)]) + name + b"\x02\x12" + hidden + rest
+    return struct.pack(">BBH", 1, identifier, 20 + len(attributes)) + authenticator + attributes
+
+
+# ---- server and client
+
+
+def first_line(process):
+    """What a process prints first: nothing if it ends, or if it prints nothing for half a minute."""
+    is_there, _, _ = select.select([process.stdout], [], [], 30)
+    return process.stdout.readline() if is_there else ""
+
+
+class Server:
+    """A process that serves, on ports that the system gave."""
+
+    def __init__(self, process):
+        self.process = process
+        first = first_line(process)
+        words = first.split()
+        judge(words[:2] == ["listening", "127.0.0.1"] and len(words) == 4, f"the first line is right: {first}")
+        self.auth, self.acct = int(words[2]), int(words[3])
+        judge(self.auth > 0 and self.acct > 0, "the first line has the ports that the system gave")
+        self.replies = []
+
+    def ask(self, port, request, seconds=5):
+        """The reply to a request, if it comes from the port that was asked."""
+        with socket.socket(socket.AF_INET, socket.SOCK_DGRAM) as client:
+            client.settimeout(seconds)
+            client.sendto(request, ("127.0.0.1", port))
+            try:
+                reply, source = client.recvfrom(4096)
+            except socket.timeout:
+                return b""
+            self.replies.append(reply)
+            return reply if source == ("127.0.0.1", port) else b""
+
+    def answers(self, what):
+        """Judges that both ports answer, the accounting port first."""
+        judge(self.ask(self.acct, status_server(7))[:2] == b"\x05\x07", f"the accounting port answers {what}")
+        judge(self.ask(self.auth, status_server(8))[:2] == b"\x02\x08", f"the authentication port answers {what}")
+
+    def goes_on(self, what):
+        judge(self.process.poll() is None, f"it goes on {what}")
+
+
+def start(seed, words=(), auth="0", configuration=CONFIGURATION, **options):
+    for name, octets in (("toml", configuration.encode()), ("seed", seed)):
+        with open(path(name), "wb") as file:
+            file.write(octets)
+    files = ["--config", path("toml"), "--seed", path("seed"), "--auth", auth, "--acct", "0"]
+    return subprocess.Popen(
+        [RADPOOL, "serve", *files, *words], stdout=subprocess.PIPE, stderr=subprocess.PIPE, text=True, **options
+    )
+
+
+def limited(kibibytes):
+    """What limits the memory of a process that begins."""
+    limit = kibibytes * 1024
+    return lambda: resource.setrlimit(resource.RLIMIT_AS, (limit, limit))
+
+
+@contextlib.contextmanager
+def serving(seed=bytes(32), words=(), **options):
+    """A server with this seed, its first line read."""
+    process = start(seed, words, **options)
+    try:
+        yield Server(process)
+    finally:
+        process.kill()
+        process.communicate()
+
+
+def attribute(reply, kind):
+    """The Value of the first attribute of a Type."""
+    at = 20
+    while at < len(reply):
+        if reply[at] == kind:
+            return reply[at + 2 : at + reply[at + 1]]
+        at += reply[at + 1]
+    return b""
