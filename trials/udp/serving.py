@@ -124,13 +124,13 @@ class Server:
         judge(self.process.poll() is None, f"it goes on {what}")
 
 
-def start(seed, words=(), auth="0", configuration=CONFIGURATION, **options):
+def start(seed, words=(), auth="0", configuration=CONFIGURATION, errors=subprocess.PIPE, **options):
     for name, octets in (("toml", configuration.encode()), ("seed", seed)):
         with open(path(name), "wb") as file:
             file.write(octets)
     files = ["--config", path("toml"), "--seed", path("seed"), "--auth", auth, "--acct", "0"]
     return subprocess.Popen(
-        [RADPOOL, "serve", *files, *words], stdout=subprocess.PIPE, stderr=subprocess.PIPE, text=True, **options
+        [RADPOOL, "serve", *files, *words], stdout=subprocess.PIPE, stderr=errors, text=True, **options
     )
 
 
