@@ -31,7 +31,8 @@ const MOMENT: u64 = 5_000;
 
 const HEAD: &str = "number\tphase\tuser\taddress\tclient\tsource\tsince\tseen\n";
 
-const NEMO: &str = "1\tpending\tnemo\t10.0.0.1\t1\t192.168.1.16\t2026-11-26T10:00:00.250Z\t2026-11-26T10:00:00.250Z\n";
+const NEMO: &str =
+    "1\tpending\tnemo\t10.0.0.1\t1\t192.168.1.16\t2026-11-26T10:00:00.250Z\t2026-11-26T10:00:00.250Z\n";
 
 /// Milliseconds since the grant, and the lines after the head line.
 const ROWS: &[(u64, &str)] = &[(0, NEMO), (59_999, NEMO), (60_000, ""), (1 << 62, "")];
