@@ -1,14 +1,15 @@
 //! Which row a key has.
-ghost use Rattle.std.specs.Prelude.{◌≡◌, cond, None, OnErr, OnOk, Some};
+ghost use Rattle.std.specs.Prelude.{◌≡◌, [], cond, None, OnErr, OnOk, Some};
+ghost use Rattle.indexmap.specs.IndexMap.{hasher_of};
 ghost use Rattle.rad_recent.specs.Numbers.{is_for, number_at};
 ghost use Rattle.rad_recent.specs.Recent.{same_key};
 
 use crate::key::Key;
 use indexmap::IndexMap;
 use rad_rows::HashKey;
-use std::alloc::AllocError;
+use std::alloc::{AllocError, Global};
 
-/// The number of each key's row. Who sends requests chooses their keys, so the hash is keyed.
+/// The number of each key's row. Those who send requests choose their keys, so the hash has a key of its own.
 pub(crate) type NumberMap = IndexMap<Key, u64, HashKey>;
 
 /// The number of each key's row, and the key for which memory is ready.
@@ -20,6 +21,18 @@ pub(crate) struct Index {
 }
 
 impl Index {
+    /// No key has a number yet.
+    pub(crate) fn open(alloc: Global, key: HashKey) -> Index
+        ensures empty { result.map.entries ≡ [] }
+        ensures key { hasher_of result.map ≡ key }
+        ensures ready { result.ready ≡ None }
+    {
+        Index {
+            map: IndexMap::with_hasher(alloc, key),
+            ready: None,
+        }
+    }
+
     /// Whether memory is ready for this key.
     pub(crate) fn is_ready(&self, key: &Key) -> bool
         ensures { result ≡ is_for key.now self.now.ready }

@@ -10,7 +10,6 @@ use crate::kept::Kept;
 use crate::key::Key;
 use crate::numbered::{self, Numbered};
 use crate::{indexed, others};
-use indexmap::IndexMap;
 use rad_config::Config;
 use rad_packet::{Body, Octets};
 use rad_rows::{HashKey, Iter, Rows};
@@ -75,10 +74,7 @@ impl Recent {
     {
         Recent {
             rows: Rows::open(alloc, config.spans().window),
-            index: Index {
-                map: IndexMap::with_hasher(alloc, key),
-                ready: None,
-            },
+            index: Index::open(alloc, key),
         }
     }
 

@@ -77,7 +77,7 @@ impl<'c> Service<'c> {
         })
     }
 
-    /// The server as it was opened, or as it was after the last round that returned Ok, and perhaps later.
+    /// The server as it was opened, or as the last round that returned Ok left it; or later, if time has passed since.
     pub fn server(&self) -> &Server<'c>
         ensures { result.now ≡ self.now }
     {
@@ -164,7 +164,7 @@ impl<'c> Service<'c> {
         }
     }
 
-    /// Lets time pass for the server up to a moment, in which no datagram came: what is no longer live is removed. It takes no memory.
+    /// Lets time pass for the server up to a moment that is no datagram's: what is no longer live is removed. It takes no memory.
     ///
     /// The moment is in milliseconds, at most `MOMENT_MAX`. No later round can tell (`rad_server::time_passes_unseen`).
     pub fn pass(&mut self, moment: u64)

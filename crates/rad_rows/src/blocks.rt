@@ -132,8 +132,30 @@ pub(crate) fn push<T: Row<S>, S: Copy>(
     bound.min(end)
 }
 
-/// Makes the block of this key the last, with memory for one more row.
+/// Makes the block of this key the last, with memory for one more row. If memory is refused, the blocks without rows are taken out,
+/// and it tries once more.
 pub(crate) fn make_room<T: Row<S>, S: Copy>(
+    blocks: &mut IndexMap<u64, Block<T, S>>,
+    bounds: &mut Vec<u64>,
+    spans: &S,
+    key: u64,
+    bound: u64,
+) -> Result<(), AllocError>
+    requires sound { IsSound T.number T.is_live spans.now bound key blocks.old.entries }
+    requires grouped { IsGrouped T.is_live bounds.old.items blocks.old.entries }
+    ensures sound { IsSound T.number T.is_live spans.now bound key blocks.new.entries }
+    ensures grouped { IsGrouped T.is_live bounds.new.items blocks.new.entries }
+    ensures rows { all_rows blocks.new.entries ≡ all_rows blocks.old.entries }
+    ensures ready { OnOk result (has_room_at key blocks.new.entries ≡ true) }
+{
+    if try_room(blocks, bounds, spans, key, bound).is_ok() {
+        return Ok(());
+    }
+    let _limit = compact(blocks, bounds, spans, key, bound, 0);
+    try_room(blocks, bounds, spans, key, bound)
+}
+
+fn try_room<T: Row<S>, S: Copy>(
     blocks: &mut IndexMap<u64, Block<T, S>>,
     bounds: &mut Vec<u64>,
     spans: &S,

@@ -15,7 +15,7 @@ pub struct HashKey {
 }
 
 impl HashKey {
-    /// A key that everybody knows, for maps whose keys nobody else chooses.
+    /// A key that everybody knows, where nobody else chooses what is looked up.
     pub const KNOWN: HashKey = HashKey { low: 0, high: 0 };
 }
 

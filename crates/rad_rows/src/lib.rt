@@ -11,8 +11,8 @@
 //! bounds of the groups to the next `expire`. Nothing rests on moments that rise.
 //!
 //! `room` and `copy` are the calls that take memory. `room` puts an empty block under the key of the next number, by the map's
-//! insert, and `push` fills the block in place: nothing leans on a reserve of the map. Now and then `room` takes out the blocks
-//! without rows.
+//! insert, and `push` fills the block in place: nothing leans on a reserve of the map. Now and then, and where memory is refused, `room`
+//! takes out the blocks without rows.
 //!
 //! `HashKey` keys the hash of a map. The tables above have maps whose keys others choose; the map of blocks is none of them.
 //!

@@ -44,6 +44,8 @@ pub(crate) struct Reporter<'r, R> {
     has_metrics: bool,
     has_sessions: bool,
     record: Record,
+    // The text of lines for which there was no room yet. Later ones wait with the watcher.
+    waiting: Option<Vec<u8>>,
     // What of the recording wasn't handed over yet.
     recorded: Vec<u8>,
     // When the present turn had its datagrams, in microseconds.
@@ -77,6 +79,7 @@ impl<'r, R: Clock + Wait + AllocGlobal> Reporter<'r, R> {
             has_metrics: reports.metrics.is_some(),
             has_sessions: reports.sessions.is_some(),
             record,
+            waiting: None,
             recorded: head.unwrap_or(Vec::new(rt.alloc())),
             begun: 0,
             files_due: 0,
@@ -88,14 +91,15 @@ impl<'r, R: Clock + Wait + AllocGlobal> Reporter<'r, R> {
     pub fn finish(&mut self, server: &Server) {
         let now = now(self.rt);
         self.watcher.finish(now);
-        if let Some(lines) = self.watcher.take_lines() {
-            let _ = self.lines.send(self.rt, lines);
-        }
         if self.record == Record::Open {
             let text = mem::replace(&mut self.recorded, Vec::new(self.rt.alloc()));
             let _ = self.files.send(self.rt, Text::Record(text));
         }
         self.hand_over_files(server, now);
+        // The lines come last: nobody may read them.
+        while let Some(lines) = self.next_lines() {
+            let _ = self.lines.send(self.rt, lines);
+        }
     }
 
     fn hand_over(&mut self, server: &Server, now: Now) {
@@ -111,13 +115,18 @@ impl<'r, R: Clock + Wait + AllocGlobal> Reporter<'r, R> {
     }
 
     fn hand_over_lines(&mut self) {
-        if self.lines.is_full() {
-            return;
-        }
-        if let Some(lines) = self.watcher.take_lines() {
-            if self.lines.try_send(self.rt, lines).is_err() {
-                self.progress.count_unwritten();
+        if let Some(lines) = self.next_lines() {
+            if let Err(error) = self.lines.try_send(self.rt, lines) {
+                self.waiting = Some(error.into_inner());
             }
+        }
+    }
+
+    // The lines that are next to be handed over, if there are any.
+    fn next_lines(&mut self) -> Option<Vec<u8>> {
+        match self.waiting.take() {
+            Some(lines) => Some(lines),
+            None => self.watcher.take_lines(),
         }
     }
 

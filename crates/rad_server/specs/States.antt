@@ -39,7 +39,7 @@ without_expired state = record state {
 abbrev pub at_moment : ℕ → State → State
 at_moment moment state = without_expired (record state { clock = max state.clock moment })
 
--- the state, or if time has passed up to a moment in which nothing came, the state at that moment
+-- the state, or if time has passed up to a moment that is no request's, the state at that moment
 abbrev pub when_passed : Option ℕ → State → State
 when_passed None state = state
 when_passed (Some moment) state = at_moment moment state

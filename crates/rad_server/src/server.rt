@@ -94,7 +94,7 @@ impl<'c> Server<'c> {
         self.config
     }
 
-    /// The latest moment so far, in milliseconds; 0 before the first request.
+    /// The latest moment so far, in milliseconds; 0 at first.
     pub fn clock(&self) -> u64
         ensures { result ≡ self.now.state.clock }
     {
@@ -197,10 +197,10 @@ impl<'c> Server<'c> {
         Ok((answer, copy))
     }
 
-    /// Lets time pass up to a moment, in which no request came: the clock goes on, and what is no longer live is removed.
+    /// Lets time pass up to a moment that is no request's: the clock goes on, and what is no longer live is removed.
     ///
-    /// The moment is in milliseconds, at most `MOMENT_MAX`; one before the clock leaves the clock. It takes no memory, and gives back
-    /// that of what is removed, also where every step is refused memory. No later step can tell (`time_passes_unseen`).
+    /// The moment is in milliseconds, at most `MOMENT_MAX`; one before the clock leaves the clock. It takes no memory, so what has
+    /// expired goes also where every step is refused memory. No later step can tell (`time_passes_unseen`).
     pub fn pass(&mut self, moment: u64)
         requires { moment ≤ moment_max }
         ensures configuration { self.new.configuration ≡ self.old.configuration }

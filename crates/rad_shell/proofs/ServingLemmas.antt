@@ -1,5 +1,5 @@
 -- Serving: a round has an entry for each outcome of an exchange, and turns go on from one another.
-use Rattle.std.proofs.Common.{◌≡◌, ◌≢◌, ◌<◌, ◌≤◌, ℕ, zero, suc, ◌+◌, Bool, true, false, cond, List, [], ◌∷◌, ◌++◌, length, take, drop, filter, get_or, Option, Some, None, Ok, Err, slice_get, arith, refl, sym, ap, subst, ◌∙◌}
+use Rattle.std.proofs.Common.{◌≡◌, ◌≢◌, ◌<◌, ◌≤◌, ℕ, zero, suc, ◌+◌, max, Bool, true, false, cond, List, [], ◌∷◌, ◌++◌, length, take, drop, filter, get_or, Option, Some, None, Ok, Err, slice_get, arith, refl, sym, ap, subst, ◌∙◌}
 use lib.ListN.{length-append}
 use Rattle.std.proofs.lemmas.Option.{get_or_from_slice_get, none-some, slice_get-get_or, slice_get_within}
 use Rattle.std.proofs.lemmas.List.{take_all}
@@ -295,7 +295,14 @@ as_many (Some moment) (entry ∷ rest) = refl
 as_many_replies : (passed : Option ℕ) (history : List Entry) → reply_count (not_before passed history) ≡ reply_count history
 as_many_replies None history = refl
 as_many_replies (Some moment) [] = refl
-as_many_replies (Some moment) (entry ∷ rest) = refl
+as_many_replies (Some moment) (entry ∷ rest) = by_answer (is_reply entry.answer)
+  where
+    others : List Entry
+    others = filter (λ e. is_reply e.answer) rest
+
+    by_answer : (b : Bool) → length (cond b (record entry { moment = max moment entry.moment } ∷ others) others) ≡ length (cond b (entry ∷ others) others)
+    by_answer true = refl
+    by_answer false = refl
 
 -- a round was made
 pub round_made : (before : Server) (arrivals : List Timed) (outcomes : List Outcome) (history : List Entry) (after : Server)

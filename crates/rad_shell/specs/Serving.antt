@@ -2,8 +2,8 @@
 --
 -- A turn receives until no datagram waits or a round is full. A round for which memory is refused is lost: its datagrams are counted,
 -- and the server is as it was. After a turn that was refused memory or received nothing, time passes for the server.
-use Rattle.std.specs.Prelude.{◌≡◌, ℕ, ◌+◌, ◌-◌, ◌*◌, ◌^◌, min, ◌≤◌, ◌<◌, Bool, true, false, List, length, filter, Result, IfOk, OnOk}
-use Rattle.std.specs.List.{sum_by}
+use Rattle.std.specs.Prelude.{◌≡◌, ℕ, ◌+◌, ◌-◌, ◌*◌, ◌^◌, ◌==◌, ◌||◌, min, ◌≤◌, ◌<◌, Bool, true, false, List, length, filter, Result, IfOk, OnOk}
+use Rattle.std.specs.List.{list_any, sum_by}
 use Rattle.rad_config.specs.Spans.{moment_max}
 use Rattle.rad_packet.specs.Packets.{length_max}
 use Rattle.rad_server.specs.Repeats.{Repeat}
@@ -114,6 +114,17 @@ is_replied (Dropped discard) = false
 is_replied Busy = false
 is_replied NoMemory = false
 is_replied (Reply frame) = true
+
+-- whether an outcome is that of refused memory
+abbrev pub is_refused : Outcome → Bool
+is_refused (Dropped discard) = false
+is_refused Busy = false
+is_refused NoMemory = true
+is_refused (Reply frame) = false
+
+-- whether time is to pass after a turn with these outcomes: no datagram came, or memory was refused for one
+abbrev pub wants_time : List Outcome → Bool
+wants_time outcomes = (length outcomes == 0) || list_any is_refused outcomes
 
 -- the outcomes that are replies
 abbrev pub replied_count : List Outcome → ℕ

@@ -1,8 +1,8 @@
 //! Turns: in each, datagrams are received, answered in a round, and their replies sent.
-ghost use Rattle.std.specs.Prelude.{◌≡◌, ◌≤◌, ◌<◌, [], IfErr, IfNone, IfOk, IfSome, IsSome, vec_len};
+ghost use Rattle.std.specs.Prelude.{◌≡◌, ◌≤◌, ◌<◌, [], cond, IfErr, IfNone, IfOk, IfSome, IsSome, vec_len};
 ghost use Rattle.rad_round.specs.Rounds.{workers_max};
 ghost use Rattle.rad_server.specs.Runs.{LeadsTo};
-ghost use Rattle.rad_shell.specs.Serving.{AddUp, HasCause, IsRoundMade, IsServed, IsTurn, turns_max};
+ghost use Rattle.rad_shell.specs.Serving.{AddUp, HasCause, IsRoundMade, IsServed, IsTurn, is_refused, turns_max, wants_time};
 
 use crate::ports::Ports;
 use crate::received::Received;
@@ -23,7 +23,7 @@ const TWO_WORKERS_FROM: usize = 512;
 #[derive(Clone, Copy, PartialEq, Eq)]
 enum Left {
     Nothing,
-    /// Time is to pass for the server, since no request brought it a moment: none came, or memory was refused.
+    /// Time is to pass for the server: no datagram came, or memory was refused for one.
     Time,
 }
 
@@ -169,15 +169,20 @@ impl<'a, D: Rng, G: Gate + Sync, W: Watch + Drop> Turns<'a, D, G, W> {
 }
 
 // What a turn with these outcomes leaves to be done.
-fn left_by(outcomes: &[Outcome]) -> Left {
-    let is_refused = outcomes
-        .iter()
-        .any(|outcome| matches!(outcome, Outcome::NoMemory));
-    if outcomes.is_empty() || is_refused {
+fn left_by(outcomes: &[Outcome]) -> Left
+    ensures { result ≡ cond (wants_time outcomes.now) Left.Time Left.Nothing }
+{
+    if outcomes.is_empty() || outcomes.iter().any(|outcome| is_refused(outcome)) {
         Left::Time
     } else {
         Left::Nothing
     }
+}
+
+fn is_refused(outcome: &Outcome) -> bool
+    ensures { result ≡ is_refused outcome.now }
+{
+    matches!(outcome, Outcome::NoMemory)
 }
 
 // Lets time pass for the server up to now, if the ports have a clock.

@@ -1,7 +1,7 @@
 use Rattle.std.proofs.Common.{subst, sym}
 use Rattle.rad_rows.specs.Entries.{IsGrouped}
 use Rattle.rad_rows.proofs.GroupLemmas.{grouped_more}
-use Rattle.rad_rows.proofs.blocks.make_room.Goals as goal
+use Rattle.rad_rows.proofs.blocks.try_room.Goals as goal
 
 pub returns-in_err-grow-clause-grouped : goal.returns-in_err-grow-clause-grouped
 returns-in_err-grow-clause-grouped g c =
