@@ -15,7 +15,7 @@ use Rattle.rad_pool.specs.declared.counts.Counts.{Counts}
 use Rattle.rad_pool.specs.declared.session.Phase.{Phase}
 use Rattle.rad_pool.specs.declared.session.Phase.TheVariants.{Active, Ended, Pending}
 use Rattle.rad_pool.specs.declared.session.Session.{Session}
-use Rattle.rad_pool.specs.Counts.{Comes, CountsOpen, CountsRows, CountsSources, Ends, GainsOpen, GainsSource, HoldsCounts, Leaves, LosesOpen, LosesSource, found_open_by, is_open_by, one_open_by, open_by, source_of, user_of}
+use Rattle.rad_pool.specs.Counts.{Comes, CountsOpen, CountsRows, CountsSources, Ends, HoldsCounts, Leaves, found_open_by, is_open_by, one_open_by, open_by, source_of, user_of}
 use Rattle.rad_pool.specs.Meant.{SentName, meant, is_meant}
 use Rattle.rad_pool.specs.Sessions.{if_numbered, is_live, is_open, live_sessions, session_ended, session_renewed, session_reset}
 use Rattle.rad_pool.specs.Sources.{HasNoZero, count_at}

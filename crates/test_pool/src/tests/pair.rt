@@ -5,10 +5,10 @@ ghost use Rattle.rad_config.specs.Spans.{moment_max};
 use super::plain::Plain;
 use rad_config::Config;
 use rad_pool::{Refusal, Sessions};
+use rad_rows::HashKey;
 use std::alloc::Global;
 
-/// Where sessions come from: three sources of one group, as they differ by 4,093; the neighbour of one; and the first and the last
-/// address. No session comes from the last two, of which one is of that group.
+/// Where sessions come from: two neighbours, two further off, and the first and the last address. No session comes from the last two.
 const SOURCES: [u32; 8] = [
     0xC0A8_0110,
     0xC0A8_110D,
@@ -20,6 +20,12 @@ const SOURCES: [u32; 8] = [
     0xC0A8_0112,
 ];
 
+/// The key of the hash of the sources.
+const KEY: HashKey = HashKey {
+    low: 0x0706_0504_0302_0100,
+    high: 0x0F0E_0D0C_0B0A_0908,
+};
+
 /// Both have the same calls behind them.
 #[derive(Drop)]
 pub struct Pair {
@@ -29,7 +35,7 @@ pub struct Pair {
 
 impl Pair {
     pub fn open(alloc: Global, config: &Config) -> Option<Pair> {
-        let sessions = Sessions::open(alloc, config).ok()?;
+        let sessions = Sessions::open_keyed(alloc, config, KEY).ok()?;
         Some(Pair {
             sessions,
             plain: Plain::open(alloc, config.spans()),
