@@ -22,7 +22,7 @@ pub(crate) struct Tally {
 }
 
 impl Tally {
-    /// Counts what a server remembers at a moment. Replies and challenges count until the next request, also those whose time is over.
+    /// Counts what a server remembers at a moment. Replies and challenges count until they are removed, also those whose time is over.
     pub fn of(server: &Server, moment: u64) -> Tally {
         let mut tally = Tally {
             pending: 0,

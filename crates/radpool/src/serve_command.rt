@@ -39,7 +39,7 @@ const SERVE_OPTIONS: &[Valued] = &[
     Valued {
         name: "seed",
         value: "PATH",
-        help: "A file of exactly 32 random octets, the seed for the States of challenges",
+        help: "A file of exactly 32 random octets, the seed for all that must not be guessed",
         absent: Absent::Fault,
         parser: TEXT,
     },
