@@ -1,1 +1,1 @@
-pub mod ShareLemmas
+pub mod AskingLemmas

@@ -8,6 +8,7 @@
 //! No contract can say what a socket, a clock or a file gives.
 #![tactic(auto)]
 
+mod asking;
 mod failure;
 mod input;
 mod options;
@@ -17,7 +18,6 @@ mod recording;
 mod reporter;
 mod serve_error;
 mod serving;
-mod shares;
 mod udp_ports;
 mod warner;
 mod writer;

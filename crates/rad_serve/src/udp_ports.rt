@@ -1,12 +1,12 @@
 //! The authentication port and the accounting port as UDP sockets.
 ghost use Rattle.std.specs.Prelude.{◌≡◌, ◌≤◌, ◌<◌, IfErr, IfOk, IfSome, IsTrue};
 ghost use Rattle.rad_config.specs.Spans.{moment_max};
-ghost use Rattle.rad_serve.specs.Shares.{with_one};
+ghost use Rattle.rad_serve.specs.Asking.{with_one};
 ghost use Rattle.rad_shell.specs.Serving.{IsReceived};
 
 use crate::failure::{Failure, receive_failure, send_failure};
 use crate::receive_buffer::ask_for_room;
-use crate::shares::Shares;
+use crate::asking::Asking;
 use mio::net::UdpSocket;
 use mio::{Events, Interest, Poll, Token};
 use rad_auth::Door;
@@ -52,7 +52,7 @@ impl From<io::Error> for BindFault {
 
 /// The two UDP sockets of a server, and the clock that tells when a datagram came.
 ///
-/// `Shares` says which socket is asked for a datagram. Each failed call is counted, except one that only would have to wait; those that
+/// `Asking` says which socket is asked for a datagram. Each failed call is counted, except one that only would have to wait; those that
 /// concern one datagram aren't reported as faults (`receive_failure`, `send_failure`).
 #[derive(Drop)]
 pub struct UdpPorts<'r, C> {
@@ -63,7 +63,7 @@ pub struct UdpPorts<'r, C> {
     acct: UdpSocket,
     auth_port: u16,
     acct_port: u16,
-    shares: Shares,
+    asking: Asking,
     failures: u64,
 }
 
@@ -85,7 +85,7 @@ impl<'r, C: Clock> UdpPorts<'r, C> {
             acct,
             auth_port,
             acct_port,
-            shares: Shares::new(),
+            asking: Asking::new(),
             failures: 0,
         })
     }
@@ -153,16 +153,16 @@ impl<'r, C: Clock> UdpPorts<'r, C> {
     ) -> Result<Option<Got>, PortFault>
         ensures received { IfOk result (λ got. IfSome got IsReceived) }
         ensures noted { IfOk result (λ got.
-            IfSome got (λ _. self.new.shares ≡ with_one door self.old.shares)) }
+            IfSome got (λ _. self.new.asking ≡ with_one door self.old.asking)) }
         ensures counted { self.old.failures ≤ self.new.failures }
         ensures fault { IfErr result (λ _. self.old.failures < self.new.failures) }
     {
-        if !self.shares.may_have(door) {
+        if !self.asking.may_have(door) {
             return Ok(None);
         }
         match self.socket(door).recv_from(room) {
             Ok((len, SocketAddr::V4(source))) => {
-                self.shares.count(door);
+                self.asking.count(door);
                 Ok(Some(Got {
                     source: source.ip().to_bits(),
                     port: source.port(),
@@ -175,7 +175,7 @@ impl<'r, C: Clock> UdpPorts<'r, C> {
             Err(error) => {
                 let failure = receive_failure(&error);
                 if failure == Failure::WouldBlock {
-                    self.shares.mark(door, false);
+                    self.asking.mark(door, false);
                 }
                 self.judge(failure)?;
                 Ok(None)
@@ -190,8 +190,8 @@ impl<'r, C: Clock> UdpPorts<'r, C> {
     {
         if self.poll.poll(&mut self.events, Some(longest)).is_err() {
             self.count();
-            self.shares.mark(Door::Auth, true);
-            self.shares.mark(Door::Acct, true);
+            self.asking.mark(Door::Auth, true);
+            self.asking.mark(Door::Acct, true);
             self.clock.sleep(longest);
             return;
         }
@@ -201,7 +201,7 @@ impl<'r, C: Clock> UdpPorts<'r, C> {
             } else {
                 Door::Acct
             };
-            self.shares.mark(door, true);
+            self.asking.mark(door, true);
         }
     }
 }
@@ -210,12 +210,12 @@ impl<'r, C: Clock> Ports for UdpPorts<'r, C> {
     ghost failures = { λ ports. ports.failures };
 
     fn wait<R: Wait>(&mut self, _rt: &R) {
-        let seconds = if self.shares.may_be_left() {
+        let seconds = if self.asking.may_be_left() {
             0
         } else {
             WAIT_SECONDS
         };
-        self.shares.begin();
+        self.asking.begin();
         self.wait_for_events(Duration::from_secs(seconds));
     }
 
@@ -224,7 +224,7 @@ impl<'r, C: Clock> Ports for UdpPorts<'r, C> {
     }
 
     fn receive(&mut self, room: &mut [u8; RECEIVED_MAX]) -> Result<Option<Got>, PortFault> {
-        let [first, second] = self.shares.order();
+        let [first, second] = self.asking.order();
         if let Some(got) = self.receive_at(first, room)? {
             return Ok(Some(got));
         }

@@ -1,6 +1,6 @@
 //! Which of the two sockets is asked for the next datagram of a turn.
 ghost use Rattle.std.specs.Prelude.{◌≡◌};
-ghost use Rattle.rad_serve.specs.Shares.{GivesHalves, asking_order, at_first, at_turn, may_be_left, may_have, with_mark, with_one};
+ghost use Rattle.rad_serve.specs.Asking.{GivesHalves, asking_order, at_first, at_turn, may_be_left, may_have, with_mark, with_one};
 
 use rad_auth::Door;
 use rad_shell::ARRIVALS_MAX;
@@ -12,7 +12,7 @@ const HALF_TURN: usize = ARRIVALS_MAX / 2;
 ///
 /// Choice: docs/DECISIONS.md, "Neither port keeps the other one waiting".
 #[derive(Clone, Copy, Debug, PartialEq, Eq)]
-pub(crate) struct Shares {
+pub(crate) struct Asking {
     // How many more datagrams the authentication socket gives before the accounting socket is asked first.
     auth_left: usize,
     // Whether a socket may have a datagram. The system tells of a datagram once, so only a call that would block clears the mark:
@@ -23,12 +23,12 @@ pub(crate) struct Shares {
     has_received: bool,
 }
 
-impl Shares {
+impl Asking {
     /// Before the first wait, when each socket may have a datagram.
-    pub fn new() -> Shares
+    pub fn new() -> Asking
         ensures { result ≡ at_first }
     {
-        Shares {
+        Asking {
             auth_left: HALF_TURN,
             auth_may: true,
             acct_may: true,
@@ -85,7 +85,7 @@ impl Shares {
     }
 
     /// Begins a turn.
-    #[tactic(auto, using(crate::proofs::ShareLemmas::gives_halves))]
+    #[tactic(auto, using(crate::proofs::AskingLemmas::gives_halves))]
     pub fn begin(&mut self)
         ensures begun { self.new ≡ at_turn self.old }
         ensures shared { GivesHalves self.new }

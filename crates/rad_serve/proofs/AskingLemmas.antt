@@ -4,13 +4,13 @@ use Rattle.std.proofs.lemmas.Bool.Decides.{nat_tests}
 use Rattle.rad_auth.specs.declared.arrival.Door.{Door}
 use Rattle.rad_auth.specs.declared.arrival.Door.TheVariants.{Auth, Acct}
 use Rattle.rad_round.specs.Rounds.{arrivals_max}
-use Rattle.rad_serve.specs.Shares.{Receiving, Waiting, GivesHalves, after_receives, received, received_from, half_turn}
-use Rattle.rad_serve.specs.declared.shares.Shares.{Shares}
+use Rattle.rad_serve.specs.Asking.{Receiving, Waiting, GivesHalves, after_receives, received, received_from, half_turn}
+use Rattle.rad_serve.specs.declared.asking.Asking.{Asking}
 
 -- what so many receives leave, if that much is left of authentication's half
 record Leaves (count : ℕ) (turn : Receiving) (after : Receiving) : Type 0 where
-  pub auth : after.waiting.auth + min turn.shares.auth_left (min count turn.waiting.auth) ≤ turn.waiting.auth
-  pub acct : after.waiting.acct + min (count - turn.shares.auth_left) turn.waiting.acct ≤ turn.waiting.acct
+  pub auth : after.waiting.auth + min turn.asking.auth_left (min count turn.waiting.auth) ≤ turn.waiting.auth
+  pub acct : after.waiting.acct + min (count - turn.asking.auth_left) turn.waiting.acct ≤ turn.waiting.acct
 
 -- `asking_order` and `waits_at` by the tests that they make
 abbrev order_by : Bool → List Door
@@ -25,7 +25,7 @@ abbrev tested : Bool → Bool → Bool → Receiving → Receiving
 tested is_left auth acct turn = received_from (find (waits_by auth acct) (order_by is_left)) turn
 
 leaves-tested : (count : ℕ) (turn after : Receiving) (is_left auth acct : Bool)
-    → nat_lt 0 turn.shares.auth_left ≡ is_left
+    → nat_lt 0 turn.asking.auth_left ≡ is_left
     → nat_lt 0 turn.waiting.auth ≡ auth
     → nat_lt 0 turn.waiting.acct ≡ acct
     → Leaves count (tested is_left auth acct turn) after
@@ -43,8 +43,8 @@ leaves zero turn = record { auth = omega arith; acct = omega arith }
 leaves (suc count) turn =
     leaves-tested count turn (after_receives count (received turn)) _ _ _ refl refl refl (leaves count (received turn))
 
-pub gives_halves : (shares : Shares) → shares.auth_left ≡ half_turn → GivesHalves shares
-gives_halves shares is_half = record {
-  auth = λ waiting. omega (arith, (leaves arrivals_max (record { shares = shares; waiting = waiting })).auth);
-  acct = λ waiting. omega (arith, (leaves arrivals_max (record { shares = shares; waiting = waiting })).acct);
+pub gives_halves : (asking : Asking) → asking.auth_left ≡ half_turn → GivesHalves asking
+gives_halves asking is_half = record {
+  auth = λ waiting. omega (arith, (leaves arrivals_max (record { asking = asking; waiting = waiting })).auth);
+  acct = λ waiting. omega (arith, (leaves arrivals_max (record { asking = asking; waiting = waiting })).acct);
 }
