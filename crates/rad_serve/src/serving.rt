@@ -45,7 +45,7 @@ pub fn serve<R: Files + Net + Clock + Print + Eprint + Threads + Wait + Sync + A
         warn_of_file(&mut warnings, rt, &options.seed);
     }
     let served = serve_users(rt, options, &config, text, &mut warnings);
-    // What is left of them was handed over to nobody, since a fault ends the program before it listens.
+    // They are still here if a fault came before it listens.
     let _ = eprint!(rt; "{warnings}");
     served
 }

@@ -145,7 +145,7 @@ impl<'r, C: Clock> UdpPorts<'r, C> {
         }
     }
 
-    // Receives from one socket, unless it has no mark, or nothing.
+    // Receives from one socket, if it is marked and has a datagram.
     fn receive_at(
         &mut self,
         door: Door,

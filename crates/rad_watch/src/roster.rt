@@ -20,7 +20,7 @@ const HEAD: &[u8] = b"number\tphase\tuser\taddress\tclient\tsource\tsince\tseen\
 
 /// The sessions that are live at a moment, oldest first. Contracts see them as a list.
 ///
-/// They are copies, so that another thread than the server's can make their text, which takes some seventy times as long as the copy.
+/// They are copies, so that another thread than the server's can make their text, which takes much longer.
 #[derive(Drop)]
 pub struct Roster {
     sessions: Vec<Session>,
