@@ -4,9 +4,9 @@ ghost use Rattle.rad_config.specs.Spans.{moment_max};
 ghost use Rattle.rad_serve.specs.Asking.{with_one};
 ghost use Rattle.rad_shell.specs.Serving.{IsReceived};
 
+use crate::asking::Asking;
 use crate::failure::{Failure, receive_failure, send_failure};
 use crate::receive_buffer::ask_for_room;
-use crate::asking::Asking;
 use mio::net::UdpSocket;
 use mio::{Events, Interest, Poll, Token};
 use rad_auth::Door;

@@ -1,5 +1,6 @@
 //! Turns: in each, datagrams are received, answered in a round, and their replies sent.
 ghost use Rattle.std.specs.Prelude.{◌≡◌, ◌≤◌, ◌<◌, [], cond, IfErr, IfNone, IfOk, IfSome, IsSome, vec_len};
+ghost use Rattle.std.specs.List.{list_any};
 ghost use Rattle.rad_round.specs.Rounds.{workers_max};
 ghost use Rattle.rad_server.specs.Runs.{LeadsTo};
 ghost use Rattle.rad_shell.specs.Serving.{AddUp, HasCause, IsRoundMade, IsServed, IsTurn, is_refused, turns_max, wants_time};
@@ -79,7 +80,7 @@ impl<'a, D: Rng, G: Gate + Sync, W: Watch + Drop> Turns<'a, D, G, W> {
     /// are lost, and after a pause the next turn goes on with the server as it was. After a turn without datagrams, or one that was
     /// refused memory, time passes for the server, so that what has expired gives its memory back. A fault ends the turns:
     /// `ServeFault::Receive` or `ServeFault::Send`, if a port failed. `ServeFault::Mismatch` never comes. The call may wait.
-    #[tactic(auto, using(crate::proofs::ServingLemmas::nothing_served, crate::proofs::ServingLemmas::one_more_turn, crate::proofs::ServingLemmas::time_passed, crate::proofs::ServingLemmas::served_all))]
+    #[tactic(auto, using(crate::proofs::ServingLemmas::nothing_served, crate::proofs::ServingLemmas::served_all))]
     pub fn run<R: Threads + Wait + Sync, P: Ports>(
         &mut self,
         rt: &R,
@@ -99,10 +100,8 @@ impl<'a, D: Rng, G: Gate + Sync, W: Watch + Drop> Turns<'a, D, G, W> {
         time_passes_unseen();
         let mut served = Served::nothing();
         for _ in 0..rounds {
-            match self.make_turn(rt, service, ports, workers, &mut served)? {
-                Left::Nothing => {}
-                Left::Time => pass_time(service, ports),
-            }
+            let left = self.make_turn(rt, service, ports, workers, &mut served)?;
+            do_left(left, service, ports);
         }
         Ok(served)
     }
@@ -172,11 +171,18 @@ impl<'a, D: Rng, G: Gate + Sync, W: Watch + Drop> Turns<'a, D, G, W> {
 fn left_by(outcomes: &[Outcome]) -> Left
     ensures { result ≡ cond (wants_time outcomes.now) Left.Time Left.Nothing }
 {
-    if outcomes.is_empty() || outcomes.iter().any(|outcome| is_refused(outcome)) {
+    if outcomes.is_empty() || has_refused(outcomes) {
         Left::Time
     } else {
         Left::Nothing
     }
+}
+
+// Whether memory was refused for a datagram.
+fn has_refused(outcomes: &[Outcome]) -> bool
+    ensures { result ≡ list_any is_refused outcomes.now }
+{
+    outcomes.iter().any(|outcome| is_refused(outcome))
 }
 
 fn is_refused(outcome: &Outcome) -> bool
@@ -185,11 +191,14 @@ fn is_refused(outcome: &Outcome) -> bool
     matches!(outcome, Outcome::NoMemory)
 }
 
-// Lets time pass for the server up to now, if the ports have a clock.
+// Lets time pass for the server up to now, if that is left to be done and the ports have a clock.
 #[tactic(auto, using(crate::proofs::ServingLemmas::passed_to, crate::proofs::ServingLemmas::not_passed))]
-fn pass_time<P: Ports>(service: &mut Service, ports: &P)
+fn do_left<P: Ports>(left: Left, service: &mut Service, ports: &P)
     ensures { LeadsTo service.old [] service.new }
 {
+    if left == Left::Nothing {
+        return;
+    }
     if let Some(moment) = ports.moment() {
         service.pass(moment);
     }
