@@ -1,10 +1,10 @@
 -- What a whole turn receives from each socket.
-use Rattle.std.proofs.Common.{◌≡◌, ℕ, zero, suc, ◌+◌, ◌-◌, ◌≤◌, min, Bool, true, false, if◌then◌else◌, Some, List, [], ◌∷◌, refl, arith, nat_lt, find}
+use Rattle.std.proofs.Common.{◌≡◌, ℕ, zero, suc, ◌+◌, ◌-◌, ◌≤◌, min, Bool, true, false, if◌then◌else◌, List, [], ◌∷◌, refl, arith, nat_lt, find}
 use Rattle.std.proofs.lemmas.Bool.Decides.{nat_tests}
 use Rattle.rad_auth.specs.declared.arrival.Door.{Door}
 use Rattle.rad_auth.specs.declared.arrival.Door.TheVariants.{Auth, Acct}
 use Rattle.rad_round.specs.Rounds.{arrivals_max}
-use Rattle.rad_serve.specs.Asking.{Receiving, Waiting, GivesHalves, after_receives, received, received_from, half_turn}
+use Rattle.rad_serve.specs.Asking.{Receiving, GivesHalves, after_receives, received, received_from, half_turn}
 use Rattle.rad_serve.specs.declared.asking.Asking.{Asking}
 
 -- what so many receives leave, if that much is left of authentication's half
