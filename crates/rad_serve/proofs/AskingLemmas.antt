@@ -3,7 +3,7 @@ use Rattle.std.proofs.Common.{◌≡◌, ℕ, zero, suc, ◌+◌, ◌-◌, ◌�
 use Rattle.std.proofs.lemmas.Bool.Decides.{nat_tests}
 use Rattle.rad_auth.specs.declared.arrival.Door.{Door}
 use Rattle.rad_auth.specs.declared.arrival.Door.TheVariants.{Auth, Acct}
-use Rattle.rad_round.specs.Rounds.{arrivals_max}
+use Rattle.rad_shell.specs.Rounds.{arrivals_max}
 use Rattle.rad_serve.specs.Asking.{Receiving, GivesHalves, after_receives, received, received_from, half_turn}
 use Rattle.rad_serve.specs.declared.asking.Asking.{Asking}
 

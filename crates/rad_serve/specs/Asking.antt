@@ -2,7 +2,7 @@
 use Rattle.std.specs.Prelude.{ℕ, zero, suc, ◌-◌, ◌/◌, ◌≤◌, min, nat_lt, find, Option, Some, None, Bool, true, false, ◌&&◌, ◌||◌, if◌then◌else◌, List, [], ◌∷◌}
 use Rattle.rad_auth.specs.declared.arrival.Door.{Door}
 use Rattle.rad_auth.specs.declared.arrival.Door.TheVariants.{Auth, Acct}
-use Rattle.rad_round.specs.Rounds.{arrivals_max}
+use Rattle.rad_shell.specs.Rounds.{arrivals_max}
 use Rattle.rad_serve.specs.declared.asking.Asking.{Asking}
 
 -- half of a turn's datagrams
