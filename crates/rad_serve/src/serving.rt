@@ -66,7 +66,7 @@ fn serve_users<R: Files + Net + Clock + Print + Eprint + Threads + Wait + Sync +
     if options.reports.are_none() {
         return serve_unwatched(rt, options, &mut service, &mut random);
     }
-    serve_reporting(rt, options, &mut service, &mut random, (head, warnings))
+    serve_reporting(rt, options, &mut service, &mut random, head, warnings)
 }
 
 // The key of the tables' hashes: the first 16 octets of the random source.
@@ -115,7 +115,8 @@ fn serve_reporting<R: Files + Net + Clock + Print + Eprint + Threads + Wait + Sy
     options: &Options,
     service: &mut Service,
     random: &mut ChaCha20Rng,
-    (head, warnings): (Option<Vec<u8>>, &mut String),
+    head: Option<Vec<u8>>,
+    warnings: &mut String,
 ) -> Result<(), ServeError> {
     let reports = &options.reports;
     let config = service.server().config();
@@ -131,21 +132,22 @@ fn serve_reporting<R: Files + Net + Clock + Print + Eprint + Threads + Wait + Sy
     let writing = Writing {
         lines: lines_end,
         files: files_end,
-        reports,
+        options,
         config,
         warner,
     };
-    serve_reported(rt, options, service, random, reporter, (writing, warnings))
+    serve_reported(rt, service, random, reporter, writing, warnings)
 }
 
 fn serve_reported<R: Files + Net + Clock + Print + Eprint + Threads + Wait + Sync + AllocGlobal>(
     rt: &R,
-    options: &Options,
     service: &mut Service,
     random: &mut ChaCha20Rng,
     reporter: Reporter<R>,
-    (writing, warnings): (Writing, &mut String),
+    writing: Writing,
+    warnings: &mut String,
 ) -> Result<(), ServeError> {
+    let options = writing.options;
     let turns = Turns::open(rt.alloc(), random, &OpenGate, reporter)?;
     let ports = listen(rt, options)?;
     if !warnings.is_empty() {
@@ -193,7 +195,7 @@ fn serve_beside<
     let Writing {
         lines,
         files,
-        reports,
+        options,
         config,
         warner,
     } = writing;
@@ -208,7 +210,7 @@ fn serve_beside<
         }
         match scope.spawn(move || serving.run(rt)) {
             Ok(server) => {
-                write_files(system, &files, reports, config, warner);
+                write_files(system, &files, &options.reports, config, warner);
                 server.join(rt)
             }
             Err(error) => {

@@ -1,6 +1,6 @@
 //! The threads that write what a reporter hands over.
 
-use crate::options::Reports;
+use crate::options::{Options, Reports};
 use crate::progress::Progress;
 use crate::recording::Recording;
 use crate::warner::Warner;
@@ -40,11 +40,11 @@ pub(crate) enum Text {
 
 /// What those who write have.
 #[derive(Drop)]
-pub(crate) struct Writing<'w> {
+pub(crate) struct Writing<'w, 'c> {
     pub lines: Receiver<Vec<u8>>,
     pub files: Receiver<Text>,
-    pub reports: &'w Reports,
-    pub config: &'w Config,
+    pub options: &'w Options,
+    pub config: &'c Config,
     pub warner: Warner<'w>,
 }
 
