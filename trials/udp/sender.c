@@ -1,9 +1,12 @@
 // Sends the datagrams of a file to a port of 127.0.0.1, each from its own source:
-//   sender ask FILE PORT SECONDS           each once, 16 at a time, until 16 stay without a reply or so long; it prints how many replies came
-//   sender flood FILE PORT SECONDS RATE    over and over, so many a second, or as fast as it can if RATE is 0; no reply is read
+//   sender ask FILE PORT TIMES             16 at a time, each up to so many times, a second apart, until it has a reply; up to the first 16
+//                                          some of which get none. It prints how many it sent, and how many of them got a reply.
+//   sender flood FILE PORT SECONDS RATE    over and over, so many a second, or as fast as it can if RATE is 0; for so long, or until
+//                                          SIGTERM. It reads no reply, and prints how many it sent a second.
 // The file has, for each datagram, the source address, the source port and the length, most significant octet first, and the octets.
 #include <arpa/inet.h>
 #include <poll.h>
+#include <signal.h>
 #include <stdbool.h>
 #include <stdint.h>
 #include <stdio.h>
@@ -17,7 +20,9 @@ enum {
     HEAD = 8,
     BATCH = 16,
     PATIENCE = 1000, // milliseconds that replies may take
-    PAUSE = 200,     // microseconds between looks at the clock
+    BURST = 16,      // the most datagrams of a flood that are ever due
+    PAUSE = 200,     // microseconds that a pause takes at least
+    ID = 1,          // where a packet has its Identifier
 };
 
 struct datagram {
@@ -97,74 +102,128 @@ static bool send_one(int from, const struct datagram *one) {
 
 // ---- ask
 
-// Waits for as many replies as were asked for at these sockets, and returns how many came.
-static size_t receive_replies(struct pollfd *sockets, size_t open, size_t asked) {
-    size_t replies = 0;
-    double until = now() + 1e-3 * PATIENCE;
-    while (replies < asked) {
-        int left = (int)(1e3 * (until - now()));
-        if (left <= 0 || poll(sockets, open, left) <= 0) {
-            break;
-        }
-        for (size_t at = 0; at < open; at++) {
-            uint8_t reply[4096];
-            while (recv(sockets[at].fd, reply, sizeof reply, MSG_DONTWAIT) >= 0) {
-                replies++;
-            }
-        }
-    }
-    return replies;
-}
-
-// Asks for the replies to datagrams that follow one another, and returns how many came.
-static size_t ask_batch(const struct datagram *batch, size_t len) {
+struct batch {
+    const struct datagram *datagrams;
+    size_t len;
+    size_t open;
     struct pollfd sockets[BATCH];
-    size_t open = 0, asked = 0;
+    size_t socket_of[BATCH]; // of each datagram
+    bool is_done[BATCH];     // whether a datagram has a reply, or can't be sent
+};
+
+static struct batch open_batch(const struct datagram *first, size_t len) {
+    struct batch batch = {.datagrams = first, .len = len};
     for (size_t at = 0; at < len; at++) {
-        if (at == 0 || !has_source_of(&batch[at], &batch[at - 1])) {
-            sockets[open++] = (struct pollfd){.fd = open_source(&batch[at]), .events = POLLIN};
+        if (at == 0 || !has_source_of(&first[at], &first[at - 1])) {
+            batch.sockets[batch.open++] = (struct pollfd){.fd = open_source(&first[at]), .events = POLLIN};
         }
-        asked += send_one(sockets[open - 1].fd, &batch[at]);
+        batch.socket_of[at] = batch.open - 1;
+        batch.is_done[at] = batch.sockets[batch.open - 1].fd < 0;
     }
-    size_t replies = receive_replies(sockets, open, asked);
-    for (size_t at = 0; at < open; at++) {
-        close(sockets[at].fd);
-    }
-    return replies;
+    return batch;
 }
 
-static void ask(double seconds) {
-    size_t replies = 0;
-    double until = now() + seconds;
-    for (size_t at = 0; at < count && now() < until; at += BATCH) {
-        size_t came = ask_batch(datagrams + at, count - at < BATCH ? count - at : BATCH);
-        if (came == 0) {
-            break;
-        }
-        replies += came;
+static void close_batch(struct batch *batch) {
+    for (size_t at = 0; at < batch->open; at++) {
+        close(batch->sockets[at].fd);
     }
-    printf("%zu\n", replies);
+}
+
+static size_t waiting(const struct batch *batch) {
+    size_t many = 0;
+    for (size_t at = 0; at < batch->len; at++) {
+        many += !batch->is_done[at];
+    }
+    return many;
+}
+
+static void send_waiting(const struct batch *batch) {
+    for (size_t at = 0; at < batch->len; at++) {
+        if (!batch->is_done[at]) {
+            send_one(batch->sockets[batch->socket_of[at]].fd, &batch->datagrams[at]);
+        }
+    }
+}
+
+static void note_reply(struct batch *batch, size_t socket, uint8_t id) {
+    for (size_t at = 0; at < batch->len; at++) {
+        batch->is_done[at] |= batch->socket_of[at] == socket && batch->datagrams[at].octets[ID] == id;
+    }
+}
+
+static void read_replies(struct batch *batch, size_t socket) {
+    uint8_t reply[4096];
+    while (recv(batch->sockets[socket].fd, reply, sizeof reply, MSG_DONTWAIT) > ID) {
+        note_reply(batch, socket, reply[ID]);
+    }
+}
+
+static void receive_replies(struct batch *batch) {
+    double until = now() + 1e-3 * PATIENCE;
+    while (waiting(batch) > 0) {
+        int left = (int)(1e3 * (until - now()));
+        if (left <= 0 || poll(batch->sockets, batch->open, left) <= 0) {
+            return;
+        }
+        for (size_t at = 0; at < batch->open; at++) {
+            read_replies(batch, at);
+        }
+    }
+}
+
+static void ask(int times) {
+    size_t asked = 0, unanswered = 0;
+    for (size_t at = 0; at < count && unanswered == 0; at += BATCH) {
+        struct batch batch = open_batch(datagrams + at, count - at < BATCH ? count - at : BATCH);
+        asked += waiting(&batch);
+        for (int time = 0; time < times && waiting(&batch) > 0; time++) {
+            send_waiting(&batch);
+            receive_replies(&batch);
+        }
+        unanswered = waiting(&batch);
+        close_batch(&batch);
+    }
+    printf("%zu %zu\n", asked, asked - unanswered);
 }
 
 // ---- flood
 
+static volatile sig_atomic_t is_over;
+
+static void be_over(int number) {
+    (void)number;
+    is_over = true;
+}
+
+// Sends a datagram from its source, whose socket stays open for the next one.
+static bool send_next(const struct datagram *one) {
+    static const struct datagram *last;
+    static int from = -1;
+    if (!last || !has_source_of(one, last)) {
+        close(from);
+        from = open_source(one);
+        last = one;
+    }
+    return send_one(from, one);
+}
+
+// After a pause that took too long, what is due beyond a burst is left out, so that no server finds more at once on a busy machine.
 static void flood(double seconds, double rate) {
-    double began = now(), passed = 0;
-    const struct datagram *last = NULL;
-    int from = -1;
-    for (size_t sent = 0; passed < seconds; passed = now() - began) {
-        if (rate > 0 && (double)sent >= rate * passed) {
+    signal(SIGTERM, be_over);
+    double began = now(), before = began, moment = began, due = 0;
+    size_t sent = 0;
+    for (size_t at = 0; !is_over && moment - began < seconds; moment = now()) {
+        due += rate * (moment - before);
+        due = due < BURST ? due : BURST;
+        before = moment;
+        if (rate > 0 && due < 1) {
             usleep(PAUSE);
             continue;
         }
-        const struct datagram *one = &datagrams[sent++ % count];
-        if (!last || !has_source_of(one, last)) {
-            close(from);
-            from = open_source(one);
-            last = one;
-        }
-        send_one(from, one);
+        due--;
+        sent += send_next(&datagrams[at++ % count]);
     }
+    printf("%.0f\n", (double)sent / (moment - began));
 }
 
 int main(int argc, char **argv) {
@@ -175,7 +234,7 @@ int main(int argc, char **argv) {
     server.sin_port = htons((uint16_t)atoi(argv[3]));
     server.sin_addr.s_addr = htonl(INADDR_LOOPBACK);
     if (strcmp(argv[1], "ask") == 0) {
-        ask(atof(argv[4]));
+        ask(atoi(argv[4]));
     } else if (argc == 6) {
         flood(atof(argv[4]), atof(argv[5]));
     } else {
