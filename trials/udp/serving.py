@@ -85,10 +85,14 @@ def access_request(identifier, name=b"kay", password=b"pw", authenticator=bytes(
 # ---- server and client
 
 
+def can_be_read(file):
+    """Whether a pipe can be read, or is closed, within half a minute."""
+    return file in select.select([file], [], [], 30)[0]
+
+
 def first_line(process):
     """What a process prints first: nothing if it ends, or if it prints nothing for half a minute."""
-    is_there, _, _ = select.select([process.stdout], [], [], 30)
-    return process.stdout.readline() if is_there else ""
+    return process.stdout.readline() if can_be_read(process.stdout) else ""
 
 
 class Server:
