@@ -97,7 +97,15 @@ impl<'r, R: Clock + Wait + AllocGlobal> Reporter<'r, R> {
         }
         self.hand_over_files(server, now);
         // The lines come last: nobody may read them.
-        while let Some(lines) = self.next_lines() {
+        let waiting = self.waiting.take();
+        self.send_lines(waiting);
+        let lines = self.watcher.take_lines();
+        self.send_lines(lines);
+    }
+
+    // Waits until the thread that writes lines takes these.
+    fn send_lines(&self, lines: Option<Vec<u8>>) {
+        if let Some(lines) = lines {
             let _ = self.lines.send(self.rt, lines);
         }
     }

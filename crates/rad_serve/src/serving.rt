@@ -124,17 +124,15 @@ fn serve_reporting<R: Files + Net + Clock + Print + Eprint + Threads + Wait + Sy
     let (lines, lines_end) = bounded(rt.alloc(), TEXTS_MAX)?;
     let (files, files_end) = bounded(rt.alloc(), TEXTS_MAX)?;
     let progress = Progress::new();
-    let warner = Warner {
-        lines: lines.clone()?,
-        progress: &progress,
-    };
+    let warned = lines.clone()?;
     let reporter = Reporter::new(rt, watcher, (lines, files), &progress, reports, head);
     let writing = Writing {
         lines: lines_end,
         files: files_end,
+        warned,
         options,
         config,
-        warner,
+        progress: &progress,
     };
     serve_reported(rt, service, random, reporter, writing, warnings)
 }
@@ -152,7 +150,11 @@ fn serve_reported<R: Files + Net + Clock + Print + Eprint + Threads + Wait + Syn
     let ports = listen(rt, options)?;
     if !warnings.is_empty() {
         let warnings = mem::replace(warnings, String::new(rt.alloc()));
-        writing.warner.hand_over(rt, warnings);
+        let warner = Warner {
+            lines: &writing.warned,
+            progress: writing.progress,
+        };
+        warner.hand_over(rt, warnings);
     }
     let serving = Serving {
         options,
@@ -195,11 +197,11 @@ fn serve_beside<
     let Writing {
         lines,
         files,
+        warned,
         options,
         config,
-        warner,
+        progress,
     } = writing;
-    let progress = warner.progress;
     thread::scope(thread::scope_env(), rt, |scope| {
         // If there is no thread, the end that receives lines goes here, and nobody waits for it.
         if scope
@@ -210,15 +212,25 @@ fn serve_beside<
         }
         match scope.spawn(move || serving.run(rt)) {
             Ok(server) => {
+                let warner = Warner {
+                    lines: &warned,
+                    progress,
+                };
                 write_files(system, &files, &options.reports, config, warner);
+                drop(warned);
                 server.join(rt)
             }
             Err(error) => {
                 drop(files);
+                let warner = Warner {
+                    lines: &warned,
+                    progress,
+                };
                 warner.warn(
                     system,
                     "cannot start a thread to serve on: no files are written",
                 );
+                drop(warned);
                 (error.value)()
             }
         }

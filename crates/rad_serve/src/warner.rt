@@ -8,9 +8,9 @@ use std::fmt::Display;
 use std::sync::Wait;
 
 /// Hands warnings over to the thread that prints lines. It never waits: one that can't be handed over is counted as unwritten.
-#[derive(Drop)]
+#[derive(Clone, Copy)]
 pub(crate) struct Warner<'w> {
-    pub lines: Sender<Vec<u8>>,
+    pub lines: &'w Sender<Vec<u8>>,
     pub progress: &'w Progress,
 }
 

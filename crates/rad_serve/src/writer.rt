@@ -4,7 +4,7 @@ use crate::options::{Options, Reports};
 use crate::progress::Progress;
 use crate::recording::Recording;
 use crate::warner::Warner;
-use crossbeam_channel::Receiver;
+use crossbeam_channel::{Receiver, Sender};
 use rad_config::Config;
 use rad_watch::Roster;
 use std::alloc::AllocGlobal;
@@ -43,9 +43,11 @@ pub(crate) enum Text {
 pub(crate) struct Writing<'w, 'c> {
     pub lines: Receiver<Vec<u8>>,
     pub files: Receiver<Text>,
+    /// For the warnings of the thread that writes files.
+    pub warned: Sender<Vec<u8>>,
     pub options: &'w Options,
     pub config: &'c Config,
-    pub warner: Warner<'w>,
+    pub progress: &'w Progress,
 }
 
 /// Writes lines to standard error until nobody hands over any more.
