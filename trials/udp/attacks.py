@@ -39,7 +39,7 @@ REJECTS = 6_000  # of the greatest length: more than there is memory for
 WINDOW = 15  # seconds that replies are kept where memory is to come back: longer than it takes to fill a server
 STEP = 0.3  # seconds from one log-in to the next meanwhile: a turn waits up to a second for one
 REFUSED = 3  # log-ins that must get no reply before memory comes back
-KEYS = 40_000  # that collide
+KEYS = 60_000  # that collide: they leave room for the kept replies of the good client
 
 
 def configuration(window=60, hold=3_600):

@@ -69,7 +69,7 @@ static uint64_t sip(struct key key) {
 // ---- search
 
 // Of the 32 bits that `indexmap` takes, the highest 8 are compared first, and the lowest 13 tell in which of 8,192 groups of 12 keys it
-// begins to look. For these keys it is one of the first 2,048, from which it goes on, since 40,000 keys fill more.
+// begins to look. For these keys it is one of the first 2,048, from which it goes on, since 60,000 keys fill more.
 static bool collides(uint64_t hash) {
     uint32_t taken = (uint32_t)(hash ^ hash >> 32);
     return taken >> 24 == 0x55 && (taken & 0x1800) == 0;
