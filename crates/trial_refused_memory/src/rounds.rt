@@ -1,7 +1,7 @@
 //! Calls on a service, its turns and ports over memory.
 
 use crate::requests::NEMO;
-use crate::trial::{Called, KEY, Trial, Verdict, are_alike, begin, end, judge, keep};
+use crate::trial::{Called, HASH_KEY, Trial, Verdict, are_alike, begin, end, judge, keep};
 use rad_auth::{Arrival, Door};
 use rad_config::Config;
 use rad_packet::code::{ACCESS_ACCEPT, ACCESS_REJECT};
@@ -105,7 +105,7 @@ fn judge_with<R: Threads + Wait + Sync>(
 ) -> Verdict {
     match call {
         Call::Open => judge(alloc, Some(OpenTrial::new(alloc, config, None))),
-        Call::OpenKeyed => judge(alloc, Some(OpenTrial::new(alloc, config, Some(KEY)))),
+        Call::OpenKeyed => judge(alloc, Some(OpenTrial::new(alloc, config, Some(HASH_KEY)))),
         Call::TurnsOpen => judge_open_turns(alloc),
         Call::Arrive => judge_arrival(alloc),
         _ => judge_over(rt, alloc, config, call),

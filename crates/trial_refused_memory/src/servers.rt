@@ -4,7 +4,7 @@ ghost use Rattle.rad_config.specs.Spans.{moment_max};
 
 use crate::moments::{ROWS, moment_at};
 use crate::requests::{KAY, NEMO, NOBODY, START, STATUS, Sent, admit};
-use crate::trial::{Called, KEY, Trial, Verdict, are_alike, judge, keep};
+use crate::trial::{Called, HASH_KEY, Trial, Verdict, are_alike, judge, keep};
 use rad_auth::Door;
 use rad_config::Config;
 use rad_packet::attribute::USER_NAME;
@@ -195,7 +195,7 @@ impl<'c> Trial for ServerTrial<'c> {
             Call::Open => keep(&mut self.given, Server::open(self.alloc, self.config)),
             Call::OpenKeyed => keep(
                 &mut self.given,
-                Server::open_keyed(self.alloc, self.config, KEY),
+                Server::open_keyed(self.alloc, self.config, HASH_KEY),
             ),
             Call::Copy => keep(&mut self.given, self.server.copy()),
             Call::Pass => {

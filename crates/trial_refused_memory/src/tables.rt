@@ -3,7 +3,7 @@ ghost use Rattle.std.specs.Prelude.{◌≤◌};
 ghost use Rattle.rad_config.specs.Spans.{moment_max};
 
 use crate::moments::{ROWS, moment_at};
-use crate::trial::{Called, KEY, Trial, Verdict, are_alike, judge, keep};
+use crate::trial::{Called, HASH_KEY, Trial, Verdict, are_alike, judge, keep};
 use rad_auth::Door;
 use rad_config::Config;
 use rad_packet::attribute::USER_NAME;
@@ -167,7 +167,7 @@ impl<'c> Trial for SessionsTrial<'c> {
             Call::SessionsOpen => keep(&mut self.given, Sessions::open(self.alloc, self.config)),
             Call::SessionsOpenKeyed => keep(
                 &mut self.given,
-                Sessions::open_keyed(self.alloc, self.config, KEY),
+                Sessions::open_keyed(self.alloc, self.config, HASH_KEY),
             ),
             Call::SessionsRoom => Called::by(self.sessions.room().is_ok()),
             Call::SessionsCopy => keep(&mut self.given, self.sessions.copy()),

@@ -4,7 +4,7 @@ use rad_server::HashKey;
 use std::alloc::{AllocError, Global};
 
 /// The key of a table's hash.
-pub(crate) const KEY: HashKey = HashKey { low: 1, high: 2 };
+pub(crate) const HASH_KEY: HashKey = HashKey { low: 1, high: 2 };
 
 /// The octets of an allocation that is no use but to mark that from here on allocations are counted, and one may be refused.
 /// `trials/refused_memory/refuse.c` knows the number.
