@@ -24,6 +24,8 @@ TRIES = 3
 SLOWER = 3  # how many times as long as without an attack half of the replies may take
 SPAN = 1.5  # seconds that the good client asks
 HEAD_START = 0.3  # seconds that an attack lasts before
+SENDERS = 3  # of a flood: if one of them has to wait, the others go on
+SHORT = 100  # octets of a request, of which many more than a turn takes wait at a port
 WEAKEST = 1 / 4  # how much of an attack a busy machine must send
 FILLING = 60  # seconds that it may take to fill a server
 RESENDS = 3  # how often a request is sent, as clients do, until it has a reply
@@ -168,21 +170,23 @@ def fill(port, datagrams):
     judge(0 < asked == replies, f"what fills a server is answered: {replies} of {asked}")
 
 
-def beside(client, server, port, datagrams, rate=0):
-    """What a client sees while these datagrams are sent over and over to a port, and how many of them were sent a second."""
+def beside(client, server, port, datagrams, rate=0, senders=1):
+    """What a client sees while senders send these datagrams over and over to a port, and how many of them were sent a second."""
     words = [compiled("sender.c"), "flood", write_datagrams("sent", datagrams), str(port), "30", str(rate)]
-    process = subprocess.Popen(words, stdout=subprocess.PIPE)
+    processes = [subprocess.Popen(words, stdout=subprocess.PIPE) for _ in range(senders)]
     try:
         time.sleep(HEAD_START)
         seen = client(server)
-        judge(process.poll() is None, "the attack lasted as long")
-        process.terminate()
-        sent, _ = process.communicate(timeout=30)
+        judge(all(process.poll() is None for process in processes), "the attack lasted as long")
+        for process in processes:
+            process.terminate()
+        sent = sum(int(process.communicate(timeout=30)[0]) for process in processes)
     finally:
-        process.kill()
-        process.wait()
+        for process in processes:
+            process.kill()
+            process.wait()
     settle(server, port)
-    return seen, int(sent)
+    return seen, sent
 
 
 def settle(server, port):
@@ -205,15 +209,15 @@ def padding(octets):
     return b"".join(bytes([26, length]) + bytes(length - 2) for length in lengths)
 
 
-def forged_access_request():
-    """One of the greatest length, with a wrong Message-Authenticator."""
+def forged_access_request(octets):
+    """One of so many octets, with a wrong Message-Authenticator."""
     wrong = b"\x50\x12" + bytes(16)
-    return access_request(0, GOOD, rest=wrong + padding(4_096 - len(access_request(0, GOOD, rest=wrong))))
+    return access_request(0, GOOD, rest=wrong + padding(octets - len(access_request(0, GOOD, rest=wrong))))
 
 
-def forged_accounting_request():
-    """One of the greatest length, with a wrong Authenticator."""
-    return struct.pack(">BBH", 4, 0, 4_096) + bytes(16) + b"\x28\x06\0\0\0\1" + padding(4_070)
+def forged_accounting_request(octets):
+    """One of so many octets, with a wrong Authenticator."""
+    return struct.pack(">BBH", 4, 0, octets) + bytes(16) + b"\x28\x06\0\0\0\1" + padding(octets - 26)
 
 
 @contextlib.contextmanager
@@ -242,16 +246,21 @@ def storm_of_accounting_ons():
 
 def storm_of_forgeries():
     """Forged Access-Requests."""
-    forgeries = [(FORGER, 20_000, forged_access_request())]
+    forgeries = [(FORGER, 20_000, forged_access_request(4_096))]
     with full_server() as server:
         return [attacked("Interim-Updates beside forged Access-Requests", reporting, server, server.auth, forgeries, 20_000)]
 
 
+def flooded(client, server, port, forgery):
+    """What a client sees beside senders enough that no turn finds its port empty."""
+    return beside(client, server, port, [(FORGER, 0, forgery)], senders=SENDERS)
+
+
 def floods():
-    """Forgeries to one port, as fast as they can be sent, keep the other port waiting for a turn at most."""
+    """Forgeries to one port, as fast as they can be sent, keep the other port waiting for a turn or two."""
     with full_server() as server:
-        reports, requests = beside(reporting, server, server.auth, [(FORGER, 20_000, forged_access_request())])
-        log_ins, others = beside(logging_in, server, server.acct, [(FORGER, 20_000, forged_accounting_request())])
+        reports, requests = flooded(reporting, server, server.auth, forged_access_request(SHORT))
+        log_ins, others = flooded(logging_in, server, server.acct, forged_accounting_request(SHORT))
     return [
         answered(f"Interim-Updates in a flood of Access-Requests, {requests} a second", reports),
         answered(f"log-ins in a flood of Accounting-Requests, {others} a second", log_ins),

@@ -3,7 +3,8 @@
 //                                          some of which get none. It prints how many it sent, and how many of them got a reply.
 //   sender flood FILE PORT SECONDS RATE    over and over, so many a second, or as fast as it can if RATE is 0; for so long, or until
 //                                          SIGTERM. It reads no reply, and prints how many it sent a second.
-// The file has, for each datagram, the source address, the source port and the length, most significant octet first, and the octets.
+// The file has, for each datagram, the source address, the source port and the length, most significant octet first, and the octets. Source
+// port 0 is any free one.
 #include <arpa/inet.h>
 #include <poll.h>
 #include <signal.h>
