@@ -53,20 +53,20 @@ fn tells(alloc: Global, since: u64, lines: &str) -> bool {
 
 fn tells_with(alloc: Global, config: &Config, since: u64, lines: &str) -> bool {
     match Server::open(alloc, config) {
-        Ok(mut server) => grants(config, &mut server) && tells_of(alloc, &server, since, lines),
+        Ok(mut server) => grants(&mut server) && tells_of(alloc, &server, since, lines),
         Err(_) => false,
     }
 }
 
 // Whether nemo is answered.
-fn grants(config: &Config, server: &mut Server) -> bool {
+fn grants(server: &mut Server) -> bool {
     let arrival = Arrival {
         source: CLIENT,
         port: PORT,
         door: Door::Auth,
         octets: RFC_REQUEST,
     };
-    match admit(config.clients(), arrival) {
+    match admit(server.config().clients(), arrival) {
         Some(request) => server.step(&request, MOMENT, DRAW).is_ok(),
         None => false,
     }
