@@ -81,7 +81,9 @@ fn step_on_copies(
 fn step_on_copy(server: &Server, requests: &[Request], work: Work, time: &mut u64) -> Option<usize>
     requires { All (IsAdmitted server.now.configuration.clients) requests.now }
 {
-    let mut copy = server.copy().ok()?;
+    let Ok(mut copy) = server.copy() else {
+        return None;
+    };
     time_steps(&mut copy, requests, work, time)
 }
 

@@ -91,6 +91,7 @@ answerable clients request e =
     let content = content_fits (client_at clients request.client) request.packet tt parts.1 in
     record {
       client = (position-Some _ clients request.client (client_at clients 0) place.0).0;
+      place = place.0;
       taken = place.1;
       status = content.0;
       proxy_states = content.1;

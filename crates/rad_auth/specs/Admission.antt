@@ -146,10 +146,11 @@ IsAdmitted clients request = admission clients (own_datagram request) ≡ Ok req
 abbrev pub HoldsAdmitted : List Client → Option (Result Request Discard) → Type 0
 HoldsAdmitted clients lane = IfSome lane (λ verdict. IfOk verdict (IsAdmitted clients))
 
--- what those who answer a request use of it: its client is one of the list, the server's port accepts its Code, an Accounting-Request
--- says its status, and its Proxy-State attributes have at most so many octets in total
+-- what those who answer a request use of it: its client is one of the list, that of its source, the server's port accepts its Code, an
+-- Accounting-Request says its status, and its Proxy-State attributes have at most so many octets in total
 pub record IsAnswerable (clients : List Client) (request : Request) : Type 0 where
   pub client : request.client < length clients
+  pub place : client_place clients request.source ≡ Some request.client
   pub taken : IsTrue (is_code_accepted request.door request.packet.code)
   pub status : request.packet.code ≡ code_accounting_request
       → IsTrue (has_len type_acct_status_type integer_size request.packet.attributes)

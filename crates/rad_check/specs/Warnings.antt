@@ -1,10 +1,10 @@
 -- Warnings: what may be wrong with a configuration that has no fault, and with its file.
-use Rattle.std.specs.Prelude.{ℕ, ◌==◌, ◌&&◌, bit_and, nat_lt, not, Bool, false, length, Option, Some, None}
+use Rattle.std.specs.Prelude.{ℕ, ◌==◌, ◌&&◌, bit_and, nat_lt, not, Bool, false, length, Option, Some, None, is_some}
 use Rattle.std.specs.List.{list_any}
 use Rattle.rad_config.specs.Configurations.{Configuration}
 use Rattle.rad_config.specs.declared.user.User.{User}
 use Rattle.rad_check.specs.declared.warning.Warning.{Warning}
-use Rattle.rad_check.specs.declared.warning.Warning.TheVariants.{NoClient, NoUser, ShortHold, IdlePool}
+use Rattle.rad_check.specs.declared.warning.Warning.TheVariants.{NoClient, NoUser, ShortHold, NoShare, IdlePool}
 
 -- a `hold` below this, in seconds, is short
 abbrev pub short_hold : ℕ
@@ -13,6 +13,10 @@ short_hold = 120
 -- whether there are pools whose addresses are held for less
 abbrev pub is_held_briefly : Configuration → Bool
 is_held_briefly configuration = not (length configuration.pools == 0) && nat_lt configuration.hold short_hold
+
+-- whether there are several clients, of which none has a share
+abbrev pub are_unshared : Configuration → Bool
+are_unshared configuration = nat_lt 1 (length configuration.clients) && not (list_any is_some configuration.shares)
 
 -- whether there is a place, and it is this one
 abbrev pub is_place : ℕ → Option ℕ → Bool
@@ -28,6 +32,7 @@ abbrev pub applies : Configuration → Warning → Bool
 applies configuration NoClient = length configuration.clients == 0
 applies configuration NoUser = length configuration.users == 0
 applies configuration ShortHold = is_held_briefly configuration
+applies configuration NoShare = are_unshared configuration
 applies configuration (IdlePool place) = not (list_any (has_pool place) configuration.users)
 
 -- whether a file of this mode can be read by others

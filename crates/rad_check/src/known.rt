@@ -27,6 +27,7 @@ const CLIENT: &[Known] = &[
     Known::Key(Key::Address),
     Known::Key(Key::Secret),
     Known::Key(Key::RequireMessageAuthenticator),
+    Known::Key(Key::Share),
 ];
 
 const POOL: &[Known] = &[
@@ -46,6 +47,8 @@ const USER: &[Known] = &[
     Known::Key(Key::Message),
     Known::Key(Key::Challenge),
     Known::Key(Key::Answer),
+    Known::Key(Key::Challenges),
+    Known::Key(Key::Grants),
 ];
 
 impl Known {

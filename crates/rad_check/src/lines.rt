@@ -71,6 +71,12 @@ fn warn_of_configuration(lines: &mut String, config: &Config) {
             ),
         );
     }
+    if Warning::NoShare.applies(config) {
+        push_warning(
+            lines,
+            "several clients, and none has a share: one of them can fill what all need",
+        );
+    }
     for (place, pool) in config.pools().iter().enumerate() {
         if Warning::IdlePool(place as u32).applies(config) {
             warn_of_pool(lines, pool.first, pool.last);

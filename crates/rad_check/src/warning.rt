@@ -1,7 +1,7 @@
 //! Warnings.
-ghost use Rattle.std.specs.Prelude.{◌≡◌};
+ghost use Rattle.std.specs.Prelude.{◌≡◌, is_some};
 ghost use Rattle.std.specs.List.{list_any};
-ghost use Rattle.rad_check.specs.Warnings.{applies, has_pool, is_held_briefly};
+ghost use Rattle.rad_check.specs.Warnings.{applies, are_unshared, has_pool, is_held_briefly};
 
 use rad_config::{Config, User};
 
@@ -17,6 +17,8 @@ pub enum Warning {
     NoUser,
     /// There are pools, and `hold` is below `SHORT_HOLD`.
     ShortHold,
+    /// There are several clients, and none has a share: one of them can fill what all need.
+    NoShare,
     /// No user has the pool at this place.
     IdlePool(u32),
 }
@@ -30,6 +32,7 @@ impl Warning {
             Warning::NoClient => config.clients().is_empty(),
             Warning::NoUser => config.users().is_empty(),
             Warning::ShortHold => is_held_briefly(config),
+            Warning::NoShare => are_unshared(config),
             Warning::IdlePool(place) => !has_user(config, place),
         }
     }
@@ -40,6 +43,26 @@ fn is_held_briefly(config: &Config) -> bool
     ensures { result ≡ is_held_briefly config.now }
 {
     !config.pools().is_empty() && config.hold() < SHORT_HOLD
+}
+
+// Whether there are several clients, of which none has a share.
+fn are_unshared(config: &Config) -> bool
+    ensures { result ≡ are_unshared config.now }
+{
+    config.clients().len() > 1 && !some_share(config)
+}
+
+// Whether a client has a share.
+fn some_share(config: &Config) -> bool
+    ensures { result ≡ list_any is_some config.now.shares }
+{
+    config.shares().iter().any(|share| is_some(share))
+}
+
+fn is_some(share: &Option<u32>) -> bool
+    ensures { result ≡ is_some share.now }
+{
+    share.is_some()
 }
 
 // Whether a user has the pool at a place.

@@ -5,7 +5,7 @@ use Rattle.std.specs.Result.{result_ok}
 use Rattle.std.proofs.lemmas.Bool.{lt-ltb, le-ltb}
 use Rattle.std.proofs.lemmas.List.{drop_all, length_push}
 use Rattle.std.proofs.lemmas.List.Elements.{All-append, All-nil, All-cons}
-use Rattle.toml.specs.Data.{Data, as_array}
+use Rattle.toml.specs.Data.{Data, Items, Members, as_array, item, no_items}
 use Rattle.toml.specs.View.{view, items_view}
 use Rattle.toml.specs.declared.value.Value.{Value}
 use Rattle.toml.proofs.Views.{items_view-drop}
@@ -13,7 +13,7 @@ use Rattle.rad_packet.specs.Ladders.{◌>>=◌}
 use Rattle.rad_config_fault.specs.declared.config_fault.Part.{Part}
 use Rattle.rad_config_fault.specs.declared.config_fault.ConfigFault.{ConfigFault}
 use Rattle.rad_config_fault.specs.declared.config_fault.ConfigFault.TheVariants.{NoMemory, TooMany}
-use Rattle.rad_config.specs.Configurations.{EntryData, and_entry, entry_of, entries_from, items_in, count_items}
+use Rattle.rad_config.specs.Configurations.{EntryData, and_entry, entry_of, entries_from, items_at, items_in, list_of, count_items}
 
 module _ {A : Type 0} (part : Part) (read : List A → EntryData → Result A ConfigFault) (values : List Value) (i : ℕ) (value : Value)
     (earlier : List A) (within : i < length values) (found : value ≡ get_or values i value) where
@@ -46,6 +46,31 @@ and_entry-length {A} part read index earlier d entries is_read = of_entry (entry
     of_entry : (entry : Result EntryData ConfigFault) → (entry >>= λ e. read earlier e >>= λ a. Ok (earlier ++ a ∷ [])) ≡ Ok entries → length entries ≡ length earlier + 1
     of_entry (Ok e) is = of_value (read earlier e) is
     of_entry (Err fault) is = absurd cc
+
+-- as many are read as there are
+entries_from-length : {A : Type 0} (part : Part) (read : List A → EntryData → Result A ConfigFault) (index : ℕ) (earlier : List A) (ds : Items) (entries : List A)
+    → entries_from part read index earlier ds ≡ Ok entries → length entries ≡ length earlier + count_items ds
+unfolding entries_from
+entries_from-length part read index earlier no_items entries is = omega (arith, ap (λ r. length (unwrap_or (result_ok r) [])) is)
+entries_from-length {A} part read index earlier (item d ds) entries is =
+    of_first (and_entry part read index earlier d) refl is (λ more. entries_from-length part read (index + 1) more ds entries)
+  where
+    of_first : (first : Result (List A) ConfigFault) → and_entry part read index earlier d ≡ first → (first >>= λ more. entries_from part read (index + 1) more ds) ≡ Ok entries
+        → ((more : List A) → entries_from part read (index + 1) more ds ≡ Ok entries → length entries ≡ length more + count_items ds)
+        → length entries ≡ length earlier + (count_items ds + 1)
+    of_first (Ok more) first_is rest counted = omega (arith, counted more rest, and_entry-length part read index earlier d more first_is)
+    of_first (Err fault) first_is rest counted = absurd cc
+
+-- two readings of one list read as many
+pub same_lengths : {A B : Type 0} (part : Part) (most : ℕ) (read : List A → EntryData → Result A ConfigFault) (other : List B → EntryData → Result B ConfigFault) (members : Members) (entries : List A) (others : List B)
+    → list_of part most read members ≡ Ok entries → list_of part most other members ≡ Ok others → length others ≡ length entries
+unfolding list_of
+same_lengths {A} {B} part most read other members entries others is is' = of_items (items_at part most members) refl is is'
+  where
+    of_items : (ds : Result Items ConfigFault) → items_at part most members ≡ ds → (ds >>= λ ds. entries_from part read 1 [] ds) ≡ Ok entries → (ds >>= λ ds. entries_from part other 1 [] ds) ≡ Ok others
+        → length others ≡ length entries
+    of_items (Ok ds) at first second = omega (arith, entries_from-length part read 1 [] ds entries first, entries_from-length part other 1 [] ds others second)
+    of_items (Err fault) at first second = absurd cc
 
 -- no entry is left
 pub entries_from-all : {A : Type 0} (part : Part) (read : List A → EntryData → Result A ConfigFault) (values : List Value) (i index : ℕ) (earlier : List A)

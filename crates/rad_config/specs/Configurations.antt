@@ -1,6 +1,6 @@
 -- What a configuration text says, or its first fault. A text is a list of octets, which are numbers below 256; an index counts
 -- from 1, and a place from 0.
-use Rattle.std.specs.Prelude.{◌≡◌, ◌⊎◌, ℕ, ◌+◌, ◌&&◌, ◌||◌, nat_le, nat_lt, Bool, false, if◌then◌else◌, List, [], ◌∷◌, ◌++◌, position, Option, Some, None, Result, Ok, Err, ok_or, is_some}
+use Rattle.std.specs.Prelude.{◌≡◌, ◌⊎◌, ℕ, ◌+◌, ◌&&◌, ◌||◌, nat_le, nat_lt, Bool, false, if◌then◌else◌, List, [], ◌∷◌, ◌++◌, position, slice_get, Option, option_and_then, Some, None, Result, Ok, Err, ok_or, is_some}
 use Rattle.std.specs.List.{list_any}
 use Rattle.std.specs.Str.{bytes_eq, is_utf8}
 use Rattle.toml.specs.Data.{Data, as_array, as_table, Items, no_items, item, Members, get_member}
@@ -28,14 +28,24 @@ pools_max = 16
 abbrev pub users_max : ℕ
 users_max = 4096
 
--- times are in seconds; without `stale` an active session lives on until it is stopped
+-- Times are in seconds; without `stale` an active session lives on until it is stopped. Each client has a share in percent, or none.
 pub record Configuration : Type 0 where
   pub window : ℕ
   pub hold : ℕ
   pub stale : Option ℕ
   pub clients : List Client
+  pub shares : List (Option ℕ)
   pub pools : List Pool
   pub users : List User
+
+-- the share of the client at a place, if it has one
+abbrev pub share_of : Configuration → ℕ → Option ℕ
+share_of configuration client = option_and_then (λ share. share) (slice_get configuration.shares client)
+
+-- whether a count is as much as a limit allows, if there is one
+abbrev pub is_reached : Option ℕ → ℕ → Bool
+is_reached None count = false
+is_reached (Some most) count = nat_le most count
 
 -- what a call returned, seen by view, is what is read, unless memory ran out
 abbrev pub Gives : {X Y : Type 0} → (X → Y) → Result X ConfigFault → Result Y ConfigFault → Type 0
@@ -128,6 +138,10 @@ client_in earlier e = do
     require_message_authenticator = flag;
   })
 
+-- a client's share, if it has one
+abbrev pub share_in : List (Option ℕ) → EntryData → Result (Option ℕ) ConfigFault
+share_in earlier e = value e rows.client_share
+
 -- a pool, whose name no earlier one has
 unfoldable pub pool_in : List Pool → EntryData → Result Pool ConfigFault
 pool_in earlier e = do
@@ -164,6 +178,8 @@ user_in pools earlier e = do
   message ← value e rows.message
   challenge ← value e (rows.challenge (has_key e keys.Answer))
   answer ← value e (rows.answer (has_key e keys.Challenge))
+  challenges ← value e rows.user_challenges
+  grants ← value e rows.grants
   Ok (record {
     name = name;
     password = password;
@@ -175,13 +191,18 @@ user_in pools earlier e = do
     message = message;
     challenge = challenge;
     answer = answer;
+    challenges = challenges;
+    grants = grants;
   })
 
 -- ---- the whole
 
--- the clients, the pools, and the users beside these pools
+-- the clients and their shares, the pools, and the users beside these pools
 abbrev pub clients_of : Members → Result (List Client) ConfigFault
 clients_of members = list_of parts.Client clients_max client_in members
+
+abbrev pub shares_of : Members → Result (List (Option ℕ)) ConfigFault
+shares_of members = list_of parts.Client clients_max share_in members
 
 abbrev pub pools_of : Members → Result (List Pool) ConfigFault
 pools_of members = list_of parts.Pool pools_max pool_in members
@@ -220,6 +241,7 @@ configuration_of text = do
   members ← ok_or (parse_document text) Syntax
   spans ← ordered_spans members
   clients ← clients_of members
+  shares ← shares_of members
   pools ← separate_pools members
   users ← users_of pools members
   Ok (record {
@@ -227,6 +249,7 @@ configuration_of text = do
     hold = spans.hold;
     stale = spans.stale;
     clients = clients;
+    shares = shares;
     pools = pools;
     users = users;
   })

@@ -117,6 +117,10 @@ client_secret = required keys.Secret (text 1 secret_max)
 abbrev pub require_message_authenticator : Row Bool
 require_message_authenticator = with_default false keys.RequireMessageAuthenticator as_bool
 
+-- a percentage of the replies that can be kept, and of the challenges that can wait
+abbrev pub client_share : Row (Option ℕ)
+client_share = optional keys.Share (number 1 100)
+
 abbrev pub pool_name : Row (List ℕ)
 pool_name = required keys.Name (text 1 64)
 
@@ -158,3 +162,9 @@ challenge has_answer = optional_unless has_answer keys.Challenge (text 1 value_m
 
 abbrev pub answer : Bool → Row (Option (List ℕ))
 answer has_challenge = optional_unless has_challenge keys.Answer (text_without_zero 1 password_max)
+
+abbrev pub user_challenges : Row (Option ℕ)
+user_challenges = optional keys.Challenges (number 1 1024)
+
+abbrev pub grants : Row (Option ℕ)
+grants = optional keys.Grants (number 1 65536)

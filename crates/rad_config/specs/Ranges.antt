@@ -1,6 +1,6 @@
 -- What holds of each configuration that was read, and of its pools and users: lengths, ranges of numbers, and what the checks of
 -- a whole list leave. Texts are lists of octets, times are in seconds. Clients keep their own ranges.
-use Rattle.std.specs.Prelude.{◌≡◌, ℕ, ◌+◌, ◌≤◌, ◌<◌, List, length, slice_get, All, Some, IfSome, is_some}
+use Rattle.std.specs.Prelude.{◌≡◌, ℕ, ◌+◌, ◌≤◌, ◌<◌, List, Option, length, slice_get, All, Some, IfSome, is_some}
 use Rattle.std.specs.Int.{IsInRange}
 use Rattle.rad_packet.specs.Attributes.{value_max}
 use Rattle.rad_auth.specs.Passwords.{password_max}
@@ -40,6 +40,12 @@ pub record IsUser (pools : ℕ) (user : User) : Type 0 where
   pub challenge : IfSome user.challenge (HasLength 1 value_max)
   pub answer : IfSome user.answer (HasLength 1 password_max)
   pub paired : is_some user.challenge ≡ is_some user.answer
+  pub challenges : IfSome user.challenges (IsInRange 1 1024)
+  pub grants : IfSome user.grants (IsInRange 1 65536)
+
+-- a share is in percent
+abbrev pub HasShare : Option ℕ → Type 0
+HasShare share = IfSome share (IsInRange 1 100)
 
 -- a name leads to its user, so no two users have the same
 abbrev pub AreNamedApart : List User → Type 0
@@ -49,6 +55,8 @@ pub record IsConfiguration (configuration : Configuration) : Type 0 where
   pub window : IsInRange 1 3600 configuration.window
   pub hold : IsInRange configuration.window 86400 configuration.hold
   pub stale : IfSome configuration.stale (IsInRange configuration.window 604800)
+  pub shares : All HasShare configuration.shares
+  pub share_each : length configuration.shares ≡ length configuration.clients
   pub pool_count : length configuration.pools ≤ pools_max
   pub pools : All IsPool configuration.pools
   pub apart : AreApart configuration.pools

@@ -25,4 +25,6 @@ entry_user user = record {
   message = option_copied user.message;
   challenge = option_copied user.challenge;
   answer = option_copied user.answer;
+  challenges = user.challenges;
+  grants = user.grants;
 }

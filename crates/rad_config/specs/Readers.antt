@@ -5,7 +5,7 @@ use Rattle.toml.specs.Data.{Data, Items}
 use Rattle.toml.specs.View.{items_view}
 use Rattle.toml.specs.declared.value.Value.{Value}
 use Rattle.rad_auth.specs.Clients.{Client}
-use Rattle.rad_config.specs.Configurations.{Gives, and_entry, client_in, entries_from, pool_in, user_in, value}
+use Rattle.rad_config.specs.Configurations.{Gives, and_entry, client_in, entries_from, pool_in, share_in, user_in, value}
 use Rattle.rad_config.specs.Keys.{Row}
 use Rattle.rad_config.specs.Ranges.{HasLength}
 use Rattle.rad_config.specs.Views.{entry_data}
@@ -32,9 +32,12 @@ HasRowLength row text = HasLength row.least row.most text.now
 abbrev pub found_items : Bor (List Value) → Items
 found_items items = items_view items.now
 
--- the clients, the pools, and the users beside these pools, that items are
+-- the clients, their shares, the pools, and the users beside these pools, that items are
 abbrev pub clients_from : Items → Result (List Client) ConfigFault
 clients_from items = entries_from parts.Client client_in 1 [] items
+
+abbrev pub shares_from : Items → Result (List (Option ℕ)) ConfigFault
+shares_from items = entries_from parts.Client share_in 1 [] items
 
 abbrev pub pools_from : Items → Result (List Pool) ConfigFault
 pools_from items = entries_from parts.Pool pool_in 1 [] items
@@ -42,9 +45,12 @@ pools_from items = entries_from parts.Pool pool_in 1 [] items
 abbrev pub users_from : List Pool → Items → Result (List User) ConfigFault
 users_from pools items = entries_from parts.User (user_in pools) 1 [] items
 
--- the earlier clients, pools and users, and the one that an item is
+-- the earlier clients, shares, pools and users, and the one that an item is
 abbrev pub and_client : ℕ → List Client → Data → Result (List Client) ConfigFault
 and_client index earlier d = and_entry parts.Client client_in index earlier d
+
+abbrev pub and_share : ℕ → List (Option ℕ) → Data → Result (List (Option ℕ)) ConfigFault
+and_share index earlier d = and_entry parts.Client share_in index earlier d
 
 abbrev pub and_pool : ℕ → List Pool → Data → Result (List Pool) ConfigFault
 and_pool index earlier d = and_entry parts.Pool pool_in index earlier d

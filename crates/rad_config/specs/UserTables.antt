@@ -12,10 +12,14 @@ pub record KeepsUsers (names : List (Vec ℕ Global)) (users : List User) : Type
   pub few : length users ≤ users_max
   pub apart : AreNamedApart users
 
--- equal in who may enter
+-- equal in who may enter, and from which pool
 abbrev pub HaveSameAccess : User → User → Type 0
-HaveSameAccess user other =
-    (user.name ≡ other.name) × (user.password ≡ other.password) × (user.pool ≡ other.pool) × (user.sessions ≡ other.sessions)
+HaveSameAccess user other = (user.name ≡ other.name) × (user.password ≡ other.password) × (user.pool ≡ other.pool)
+
+-- equal in how much they may have
+abbrev pub HaveSameLimits : User → User → Type 0
+HaveSameLimits user other =
+    (user.sessions ≡ other.sessions) × (user.challenges ≡ other.challenges) × (user.grants ≡ other.grants)
 
 -- equal in what an Access-Accept says
 abbrev pub HaveSameAttributes : User → User → Type 0

@@ -9,10 +9,10 @@ ghost use Rattle.rad_config.specs.Spans.{milliseconds};
 
 use crate::entry::Entry;
 use crate::keys::{HOLD, STALE, WINDOW};
-use crate::lists::{read_clients, read_pools, read_users};
+use crate::lists::{read_clients, read_pools, read_shares, read_users};
 use crate::pool::Pool;
 use crate::read_pool::some_overlap;
-use crate::same::{same_pools, same_users};
+use crate::same::{same_pools, same_shares, same_users};
 use crate::spans::{Spans, Times};
 use crate::user::{User, Users};
 use rad_auth::Clients;
@@ -28,6 +28,8 @@ pub struct Config {
     hold: u32,
     stale: Option<u32>,
     clients: Clients,
+    // The share of each client.
+    shares: Vec<Option<u32>>,
     pools: Vec<Pool>,
     users: Users,
 }
@@ -43,6 +45,7 @@ impl Model for Config {
       hold = config.hold;
       stale = config.stale;
       clients = config.clients;
+      shares = config.shares.items;
       pools = config.pools.items;
       users = config.users;
     } };
@@ -52,6 +55,7 @@ impl Model for Config {
       hold = config.hold;
       stale = config.stale;
       clients = config.clients;
+      shares = config.shares.items;
       pools = config.pools.items;
       users = config.users;
     }) };
@@ -59,16 +63,16 @@ impl Model for Config {
 
 impl Config {
     ghost use Rattle.std.specs.Prelude.{◌≡◌, ◌<◌, ◌↔◌, IsTrue, length, slice_get, IfSome, Some};
-    ghost use Rattle.rad_config.specs.Configurations.{Gives, configuration_of, user_place};
-    ghost use Rattle.rad_config.specs.Ranges.{IsConfiguration, IsPool, IsUser};
+    ghost use Rattle.rad_config.specs.Configurations.{Gives, configuration_of, share_of, user_place};
+    ghost use Rattle.rad_config.specs.Ranges.{HasShare, IsConfiguration, IsPool, IsUser};
     ghost use Rattle.rad_config.specs.Spans.{spans_of};
 
     /// The configuration that a text says, or its first fault.
     ///
     /// The text is TOML; `docs/FORMATS.md` has the table of its keys. Checks are made in this order: `Syntax`; the keys at the
-    /// top, then `HoldBelowWindow`, then `StaleBelowWindow`; the clients; the pools, then `PoolsOverlap`; the users. A list must be
-    /// an array (`BadValue`), and not too long (`TooMany`); then each entry is checked in order, key by key in the table's order.
-    /// If an allocation fails, `NoMemory` is returned before any later check.
+    /// top, then `HoldBelowWindow`, then `StaleBelowWindow`; the clients, and then their shares; the pools, then `PoolsOverlap`;
+    /// the users. A list must be an array (`BadValue`), and not too long (`TooMany`); then each entry is checked in order, key by
+    /// key in the table's order. If an allocation fails, `NoMemory` is returned before any later check.
     #[tactic(auto, unfolding(crate::specs::Configurations::configuration_of, crate::specs::Configurations::separate_pools))]
     pub fn read(alloc: Global, text: &str) -> Result<Config, ConfigFault>
         ensures { Gives (λ config. config) result (configuration_of text.now) }
@@ -76,6 +80,7 @@ impl Config {
         let document = document(alloc, text)?;
         let spans = ordered_spans(&document)?;
         let clients = read_clients(alloc, &document)?;
+        let shares = read_shares(alloc, &document)?;
         let pools = separate_pools(alloc, &document)?;
         let users = read_users(alloc, &pools, &document)?;
         let Times {
@@ -88,6 +93,7 @@ impl Config {
             hold,
             stale,
             clients,
+            shares,
             pools,
             users,
         })
@@ -146,6 +152,23 @@ impl Config {
         &self.clients
     }
 
+    /// The percentage that the client at a place may have of the replies that can be kept, and of the challenges that can wait:
+    /// 1 to 100. Without a share only the tables' sizes limit it.
+    pub fn share(&self, client: u32) -> Option<u32>
+        ensures value { result ≡ share_of self.now client }
+        ensures range { HasShare result }
+    {
+        *self.shares.get(client as usize)?
+    }
+
+    /// The shares of the clients, in the order of the text.
+    pub fn shares(&self) -> &[Option<u32>]
+        ensures value { result.now ≡ self.now.shares }
+        ensures configuration { IsConfiguration self.now }
+    {
+        &self.shares
+    }
+
     /// The pools in the order of the text.
     pub fn pools(&self) -> &[Pool]
         ensures value { result.now ≡ self.now.pools }
@@ -197,6 +220,7 @@ impl Config {
             hold,
             stale,
             clients,
+            shares,
             pools,
             users,
         } = self;
@@ -204,6 +228,7 @@ impl Config {
             && *hold == other.hold
             && *stale == other.stale
             && clients.same(&other.clients)
+            && same_shares(shares, &other.shares)
             && same_pools(pools, &other.pools)
             && same_users(users.rows(), other.users.rows())
     }

@@ -161,6 +161,13 @@ pub const SESSIONS: DefaultRow = DefaultRow {
     default: 1,
 };
 
+/// In percent.
+pub const CLIENT_SHARE: NumberRow = NumberRow {
+    key: Key::Share,
+    least: 1,
+    most: 100,
+};
+
 pub const SERVICE: NumberRow = NumberRow {
     key: Key::Service,
     least: 0,
@@ -199,6 +206,18 @@ pub const ANSWER: TextRow = TextRow {
     least: 1,
     most: PASSWORD_MAX,
     zeros: false,
+};
+
+pub const USER_CHALLENGES: NumberRow = NumberRow {
+    key: Key::Challenges,
+    least: 1,
+    most: 1_024,
+};
+
+pub const GRANTS: NumberRow = NumberRow {
+    key: Key::Grants,
+    least: 1,
+    most: 65_536,
 };
 
 impl NumberRow {

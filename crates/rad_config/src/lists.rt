@@ -3,13 +3,14 @@ ghost use Rattle.std.specs.Prelude.{◌≡◌, ◌<◌, ◌≤◌, length, All, 
 ghost use Rattle.toml.specs.View.{view, items_view, table_view};
 ghost use Rattle.toml.specs.Data.{get_member};
 ghost use Rattle.rad_auth.specs.Clients.{clients_max};
-ghost use Rattle.rad_config.specs.Configurations.{Gives, clients_of, entry_of, items_at, pools_max, pools_of, users_max, users_of};
+ghost use Rattle.rad_config.specs.Configurations.{Gives, clients_of, entry_of, items_at, pools_max, pools_of, shares_of, users_max, users_of};
 ghost use Rattle.rad_config_fault.specs.Faults.{part_name};
-ghost use Rattle.rad_config.specs.Ranges.{IsPool, IsUser};
-ghost use Rattle.rad_config.specs.Readers.{and_client, and_pool, and_user, clients_from, found_items, pools_from, users_from};
+ghost use Rattle.rad_config.specs.Ranges.{HasShare, IsPool, IsUser};
+ghost use Rattle.rad_config.specs.Readers.{and_client, and_pool, and_share, and_user, clients_from, found_items, pools_from, shares_from, users_from};
 ghost use Rattle.rad_config.specs.Views.{data_of, entry_data};
 
 use crate::entry::Entry;
+use crate::keys::CLIENT_SHARE;
 use crate::pool::{POOLS_MAX, Pool};
 use crate::read_client::read_client;
 use crate::read_pool::read_pool;
@@ -27,6 +28,16 @@ pub fn read_clients(alloc: Global, document: &Table) -> Result<Clients, ConfigFa
 {
     let items = items_in(Part::Client, CLIENTS_MAX, document)?;
     clients_from(alloc, items)
+}
+
+/// The shares of the clients of a document.
+#[tactic(auto, unfolding(crate::specs::Configurations::list_of))]
+pub fn read_shares(alloc: Global, document: &Table) -> Result<Vec<Option<u32>>, ConfigFault>
+    ensures read { Gives (λ shares. shares.items) result (shares_of (table_view document.now)) }
+    ensures range { IfOk result (λ shares. All HasShare shares.items) }
+{
+    let items = items_in(Part::Client, CLIENTS_MAX, document)?;
+    shares_from(alloc, items)
 }
 
 /// The pools of a document.
@@ -119,6 +130,30 @@ fn add_client(index: u32, item: &Value, clients: &mut Clients) -> Result<(), Con
             client.require_message_authenticator,
         )
         .map_err(|_| ConfigFault::NoMemory)
+}
+
+fn shares_from(alloc: Global, items: &[Value]) -> Result<Vec<Option<u32>>, ConfigFault>
+    requires { length items.now ≤ clients_max }
+    ensures read { Gives (λ shares. shares.items) result (shares_from (items_view items.now)) }
+    ensures range { IfOk result (λ shares. All HasShare shares.items) }
+{
+    let mut shares = Vec::new(alloc);
+    for (place, item) in items.iter().enumerate() {
+        add_share(place as u32 + 1, item, &mut shares)?;
+    }
+    Ok(shares)
+}
+
+// Adds the share of the client that an item is.
+#[tactic(auto, unfolding(crate::specs::Configurations::and_entry))]
+fn add_share(index: u32, item: &Value, shares: &mut Vec<Option<u32>>) -> Result<(), ConfigFault>
+    requires { All HasShare shares.old.items }
+    ensures read { Gives (λ _. shares.new.items) result (and_share index shares.old.items (view item.now)) }
+    ensures range { IfOk result (λ _. All HasShare shares.new.items) }
+{
+    let entry = entry_at(Part::Client, index, item)?;
+    let share = entry.number(&CLIENT_SHARE)?;
+    shares.push(share).map_err(|_| ConfigFault::NoMemory)
 }
 
 fn pools_from(alloc: Global, items: &[Value]) -> Result<Vec<Pool>, ConfigFault>

@@ -8,7 +8,8 @@ ghost use Rattle.rad_config.specs.Views.{entry_data};
 
 use crate::entry::Entry;
 use crate::keys::{
-    ANSWER, CHALLENGE, MESSAGE, PASSWORD, PROTOCOL, SERVICE, SESSIONS, TIMEOUT, USER_NAME,
+    ANSWER, CHALLENGE, GRANTS, MESSAGE, PASSWORD, PROTOCOL, SERVICE, SESSIONS, TIMEOUT,
+    USER_CHALLENGES, USER_NAME,
 };
 use crate::pool::Pool;
 use crate::read_pool::read_pool_place;
@@ -30,6 +31,8 @@ pub struct UserEntry<'a> {
     pub message: Option<&'a [u8]>,
     pub challenge: Option<&'a [u8]>,
     pub answer: Option<&'a [u8]>,
+    pub challenges: Option<u32>,
+    pub grants: Option<u32>,
 }
 
 /// The user that an entry says, whose name no earlier one has.
@@ -57,6 +60,8 @@ pub fn read_user<'a>(
     let message = entry.text(&MESSAGE)?;
     let challenge = entry.text_unless(entry.has(Key::Answer), &CHALLENGE)?;
     let answer = entry.text_unless(entry.has(Key::Challenge), &ANSWER)?;
+    let challenges = entry.number(&USER_CHALLENGES)?;
+    let grants = entry.number(&GRANTS)?;
     Ok(UserEntry {
         name,
         password,
@@ -68,6 +73,8 @@ pub fn read_user<'a>(
         message,
         challenge,
         answer,
+        challenges,
+        grants,
     })
 }
 
@@ -90,6 +97,8 @@ impl<'a> UserEntry<'a> {
             message: copy_of_some(alloc, self.message)?,
             challenge: copy_of_some(alloc, self.challenge)?,
             answer: copy_of_some(alloc, self.answer)?,
+            challenges: self.challenges,
+            grants: self.grants,
         })
     }
 }

@@ -1,6 +1,6 @@
-//! Whether pools and users are equal.
+//! Whether shares, pools and users are equal.
 ghost use Rattle.std.specs.Prelude.{◌≡◌, ◌↔◌, IsTrue};
-ghost use Rattle.rad_config.specs.UserTables.{HaveSameAccess, HaveSameAttributes, HaveSameChallenge};
+ghost use Rattle.rad_config.specs.UserTables.{HaveSameAccess, HaveSameAttributes, HaveSameChallenge, HaveSameLimits};
 
 use crate::pool::Pool;
 use crate::text::Text;
@@ -15,6 +15,17 @@ pub fn same_pools(pools: &[Pool], others: &[Pool]) -> bool
             .iter()
             .zip(others)
             .all(|(pool, other)| same_pool(pool, other))
+}
+
+/// Whether both lists have the same shares in the same order.
+pub fn same_shares(shares: &[Option<u32>], others: &[Option<u32>]) -> bool
+    ensures { IsTrue result ↔ (shares.now ≡ others.now) }
+{
+    shares.len() == others.len()
+        && shares
+            .iter()
+            .zip(others)
+            .all(|(share, other)| share == other)
 }
 
 /// Whether both lists have the same users in the same order.
@@ -37,17 +48,26 @@ fn same_pool(pool: &Pool, other: &Pool) -> bool
 fn same_user(user: &User, other: &User) -> bool
     ensures { IsTrue result ↔ (user.now ≡ other.now) }
 {
-    same_access(user, other) && same_attributes(user, other) && same_challenge(user, other)
+    same_access(user, other)
+        && same_limits(user, other)
+        && same_attributes(user, other)
+        && same_challenge(user, other)
 }
 
-// Who may enter.
+// Who may enter, and from which pool.
 fn same_access(user: &User, other: &User) -> bool
     ensures { IsTrue result ↔ HaveSameAccess user.now other.now }
 {
-    user.name.same(&other.name)
-        && user.password.same(&other.password)
-        && user.pool == other.pool
-        && user.sessions == other.sessions
+    user.name.same(&other.name) && user.password.same(&other.password) && user.pool == other.pool
+}
+
+// How much they may have.
+fn same_limits(user: &User, other: &User) -> bool
+    ensures { IsTrue result ↔ HaveSameLimits user.now other.now }
+{
+    user.sessions == other.sessions
+        && user.challenges == other.challenges
+        && user.grants == other.grants
 }
 
 // What an Access-Accept says.

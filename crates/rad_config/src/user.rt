@@ -10,8 +10,8 @@ pub const USERS_MAX: usize = 4_096;
 /// A user: who is granted access, and what a session of theirs is given.
 ///
 /// In a configuration the name, the message and the challenge have 1 to 253 octets, the password and the answer 1 to 128
-/// without a zero; `sessions` is 1 to 4,096, `pool` a pool's place, counted from 0, and `timeout` at least 1. Challenge and
-/// answer are both there, or neither.
+/// without a zero; `sessions` is 1 to 4,096, `pool` a pool's place, counted from 0, `timeout` at least 1, `challenges` 1 to 1,024 and
+/// `grants` 1 to 65,536. Challenge and answer are both there, or neither.
 #[derive(Drop)]
 pub struct User {
     pub name: Text,
@@ -32,6 +32,10 @@ pub struct User {
     pub challenge: Option<Text>,
     /// The password that answers the challenge.
     pub answer: Option<Text>,
+    /// How many challenges may wait for an answer; without it only the table's size limits them.
+    pub challenges: Option<u32>,
+    /// How many sessions may be in the table, ended ones included; without it only the table's size limits them.
+    pub grants: Option<u32>,
 }
 
 /// The users in the order of the text, at most `USERS_MAX`.

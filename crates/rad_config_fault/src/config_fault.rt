@@ -122,6 +122,9 @@ pub enum Key {
     Message,
     Challenge,
     Answer,
+    Share,
+    Challenges,
+    Grants,
 }
 
 impl Key {
@@ -150,6 +153,9 @@ impl Key {
             Key::Message => "message",
             Key::Challenge => "challenge",
             Key::Answer => "answer",
+            Key::Share => "share",
+            Key::Challenges => "challenges",
+            Key::Grants => "grants",
         }
     }
 }

@@ -32,5 +32,5 @@ pub record Appends (before after : List Entry) (receipt : Receipt) : Type 0 wher
 -- some server: the opening of `Brand`, until a call names another
 abbrev pub some_server : Server
 some_server =
-    let configuration : Configuration = record { window = 0; hold = 0; stale = None; clients = []; pools = []; users = [] } in
+    let configuration : Configuration = record { window = 0; hold = 0; stale = None; clients = []; shares = []; pools = []; users = [] } in
     record { configuration = configuration; state = opening configuration }

@@ -15,9 +15,10 @@ use Rattle.rad_pool.specs.declared.counts.Counts.{Counts}
 use Rattle.rad_pool.specs.declared.session.Phase.{Phase}
 use Rattle.rad_pool.specs.declared.session.Phase.TheVariants.{Active, Ended, Pending}
 use Rattle.rad_pool.specs.declared.session.Session.{Session}
-use Rattle.rad_pool.specs.Counts.{Comes, CountsOpen, CountsRows, CountsSources, Ends, HoldsCounts, Leaves, found_open_by, is_open_by, one_open_by, open_by, source_of, user_of}
+use Rattle.rad_pool.specs.Counts.{Comes, CountsAll, CountsOpen, CountsRows, CountsSources, Ends, HasRoom, HoldsCounts, KeepsRoom, Leaves, found_open_by, is_open_by, one_of, one_open_by, open_by, source_of, user_of}
+use Rattle.rad_pool.specs.Grants.{sessions_of}
 use Rattle.rad_pool.specs.Meant.{SentName, meant, is_meant}
-use Rattle.rad_pool.specs.Sessions.{if_numbered, is_live, is_open, live_sessions, session_ended, session_renewed, session_reset}
+use Rattle.rad_pool.specs.Sessions.{IsOfSource, if_numbered, is_live, is_open, live_sessions, session_ended, session_renewed, session_reset}
 use Rattle.rad_pool.specs.Sources.{HasNoZero, count_at}
 use Rattle.rad_pool.proofs.InsideLemmas.{inside_between, inside_changed, inside_copied, inside_gone, inside_granted}
 use Rattle.rad_pool.proofs.PlaceLemmas.{places_between, places_changed, places_copied, places_gone, places_granted}
@@ -28,6 +29,17 @@ num session = session.number
 
 pub count_cons : (key : Session → ℕ) (n : ℕ) (x : Session) (xs : List Session) → open_by key n (x ∷ xs) ≡ one_open_by key n x + open_by key n xs
 count_cons key n x xs = sum_by-cons (one_open_by key n) x xs
+
+pub of_cons : (n : ℕ) (x : Session) (xs : List Session) → sessions_of n (x ∷ xs) ≡ one_of n x + sessions_of n xs
+of_cons n x xs = sum_by-cons (one_of n) x xs
+
+-- sessions that change, but not their user
+of_changed : (change : Session → Session) → ((x : Session) → (change x).user ≡ x.user) → (n : ℕ) (rows rows' : List Session) (count : ℕ) → count ≡ sessions_of n rows → rows' ≡ map change rows → count ≡ sessions_of n rows'
+of_changed change same n rows rows' count h changed = h ∙ sym (ap (sessions_of n) changed ∙ each rows)
+  where
+    each : (xs : List Session) → sessions_of n (map change xs) ≡ sessions_of n xs
+    each [] = refl
+    each (x ∷ xs) = omega (arith, of_cons n (change x) (map change xs), of_cons n x xs, ap (λ user. cond {A = ℕ} (eqb user n) 1 0) (same x), each xs)
 
 -- ---- sessions that go
 
@@ -46,6 +58,46 @@ users_gone (x ∷ dead) old new h =
       rest.0 ∙ first.users.len,
       λ n lt. omega (arith, rest.1 n (omega (arith, lt, first.users.len)), first.users.is n lt, count_cons user_of n x dead),
     )
+
+grants_gone : (dead : List Session) (old new : Counts) → FoldsTo Leaves old dead new
+    → (length new.grants.items ≡ length old.grants.items) × ((n : ℕ) → n < length old.grants.items → get_or new.grants.items n 0 ≡ get_or old.grants.items n 0 - sessions_of n dead)
+grants_gone [] old new h = (ap (λ (c : Counts). length c.grants.items) (sym h), λ n lt. omega (arith, ap (λ (c : Counts). get_or c.grants.items n 0) (sym h)))
+grants_gone (x ∷ dead) old new h =
+    let first : Leaves old x h.0 = h.1 in
+    let rest = grants_gone dead h.0 new h.2 in (
+      rest.0 ∙ first.grants.len,
+      λ n lt. omega (arith, rest.1 n (omega (arith, lt, first.grants.len)), first.grants.is n lt, of_cons n x dead),
+    )
+
+of_gone : (n : ℕ) (spans : Spans) (now : ℕ) (rows left : List Session) (old new : ℕ) → old ≡ sessions_of n rows → left ≡ live_sessions spans now rows
+    → new ≡ old - sessions_of n (filter (is_dead is_live spans now) rows) → new ≡ sessions_of n left
+of_gone n spans now rows left old new h is less =
+    omega (arith, less, h, ap (sessions_of n) is, sum_by-filter_both (is_live spans now) (is_dead is_live spans now) (λ x. refl) (one_of n) rows)
+
+-- room, and what keeps it
+kept_room : (old new : Counts) → HasRoom old → KeepsRoom old new → HasRoom new
+kept_room old new has keeps = record {
+  sources = omega (arith, has.sources, keeps.sources);
+  links = record { newest = omega (arith, has.links.newest, keeps.links.newest); neighbours = omega (arith, has.links.neighbours, keeps.links.neighbours) };
+}
+
+same_room : (counts : Counts) → KeepsRoom counts counts
+same_room counts = record { sources = omega arith; links = record { newest = omega arith; neighbours = omega arith } }
+
+both_room : (old mid new : Counts) → KeepsRoom old mid → KeepsRoom mid new → KeepsRoom old new
+both_room old mid new first second = record {
+  sources = omega (arith, first.sources, second.sources);
+  links = record { newest = omega (arith, first.links.newest, second.links.newest); neighbours = omega (arith, first.links.neighbours, second.links.neighbours) };
+}
+
+room_gone : (dead : List Session) (old new : Counts) → FoldsTo Leaves old dead new → KeepsRoom old new
+room_gone [] old new h = subst (KeepsRoom old) h (same_room old)
+room_gone (x ∷ dead) old new h =
+    let first : Leaves old x h.0 = h.1 in
+    both_room old h.0 new (record { sources = first.sources.room; links = first.links }) (room_gone dead h.0 new h.2)
+
+ends_room : (found : Option Session) (old new : Counts) → Ends old found new → KeepsRoom old new
+ends_room found old new ends = record { sources = ends.sources.room; links = ends.links }
 
 -- what sources that have gone leave of the map
 record LosesAll (dead : List Session) (old new : IndexMap ℕ ℕ HashKey) : Type 0 where
@@ -68,9 +120,11 @@ pub holds_left : (spans : Spans) (now : ℕ) (rows left : List Session) (old new
 holds_left spans now rows left old new h is told =
     let dead = filter (is_dead is_live spans now) rows in
     let users = users_gone dead old new told in
+    let grants = grants_gone dead old new told in
     let sources : LosesAll dead old.sources new.sources = sources_gone dead old new told in
     record {
       users = record { is = λ n lt. let before : n < length old.users.items = omega (arith, lt, users.0) in gone_at user_of n spans now rows left _ _ (h.users.is n before) is (users.1 n before) };
+      grants = record { is = λ n lt. let before : n < length old.grants.items = omega (arith, lt, grants.0) in of_gone n spans now rows left _ _ (h.grants.is n before) is (grants.1 n before) };
       sources = record { is = λ n. gone_at source_of n spans now rows left _ _ (h.sources.is n) is (sources.is n); only = sources.only h.sources.only };
       pools = places_gone spans now rows left old new h.pools is told;
       inside = inside_gone spans now rows left old new h.inside is told;
@@ -80,7 +134,7 @@ pub rows_left : (now : ℕ) (rows left : SeenRows Session Spans) (old new : Coun
     → Tells Leaves is_live rows.spans now rows.rows old new → CountsRows left new
 rows_left now rows left old new h is same told = record {
   holds = holds_left rows.spans now rows.rows left.rows old new h.holds is told;
-  room = λ r. omega (arith, h.room (sym same ∙ r), (sources_gone (filter (is_dead is_live rows.spans now) rows.rows) old new told).room);
+  room = λ r. kept_room old new (h.room (sym same ∙ r)) (room_gone (filter (is_dead is_live rows.spans now) rows.rows) old new told);
 }
 
 -- ---- sessions that change, and stay open or not
@@ -109,6 +163,7 @@ module _ (key : Session → ℕ) (now : ℕ) (keeps : (x : Session) → key (rec
 holds_renewed : (number now : ℕ) (rows rows' : List Session) (counts : Counts) → HoldsCounts rows counts → rows' ≡ map (if_numbered (session_renewed now) number) rows → HoldsCounts rows' counts
 holds_renewed number now rows rows' counts h changed = record {
   users = record { is = λ n lt. changed_at user_of change (one_renewed user_of now (λ x. refl) number) n rows rows' _ (h.users.is n lt) changed };
+  grants = record { is = λ n lt. of_changed change (λ x. user_kept (eqb x.number number) (is_open x.phase) x) n rows rows' _ (h.grants.is n lt) changed };
   sources = record { is = λ n. changed_at source_of change (one_renewed source_of now (λ x. refl) number) n rows rows' _ (h.sources.is n) changed; only = h.sources.only };
   pools = places_changed change rows rows' counts counts (λ x. address_kept (eqb x.number number) (is_open x.phase) x) h.pools changed refl;
   inside = inside_changed change rows rows' counts counts (λ x. address_kept (eqb x.number number) (is_open x.phase) x) h.inside changed refl refl;
@@ -116,6 +171,11 @@ holds_renewed number now rows rows' counts h changed = record {
   where
     change : Session → Session
     change = if_numbered (session_renewed now) number
+
+    user_kept : (a b : Bool) (x : Session) → Session.user (cond a (cond b (record x { phase = Active; seen = now }) x) x) ≡ x.user
+    user_kept true true x = refl
+    user_kept true false x = refl
+    user_kept false b x = refl
 
     address_kept : (a b : Bool) (x : Session) → Session.address (cond a (cond b (record x { phase = Active; seen = now }) x) x) ≡ x.address
     address_kept true true x = refl
@@ -166,11 +226,16 @@ holds_stopped : (n : ℕ) (rows rows' : List Session) (found : Option Session) (
     → Ends old found new → HoldsCounts rows' new
 holds_stopped n rows rows' found old new h rising is changed ends = record {
   users = record { is = λ k lt. let before : k < length old.users.items = omega (arith, lt, ends.users.len) in stopped_at user_of k n rows rows' found _ _ (h.users.is k before) rising is changed (ends.users.is k before) };
+  grants = subst (CountsAll rows') (sym ends.grants) (record { is = λ k lt. of_changed (if_numbered session_ended n) (λ x. user_kept (eqb x.number n) x) k rows rows' _ (h.grants.is k lt) changed });
   sources = record { is = λ k. stopped_at source_of k n rows rows' found _ _ (h.sources.is k) rising is changed (ends.sources.is k); only = ends.sources.only h.sources.only };
   pools = places_changed (if_numbered session_ended n) rows rows' old new (λ x. address_kept (eqb x.number n) x) h.pools changed ends.pools;
   inside = inside_changed (if_numbered session_ended n) rows rows' old new (λ x. address_kept (eqb x.number n) x) h.inside changed ends.pools ends.outside;
 }
   where
+    user_kept : (b : Bool) (x : Session) → Session.user (cond b (session_ended x) x) ≡ x.user
+    user_kept true x = refl
+    user_kept false x = refl
+
     address_kept : (b : Bool) (x : Session) → Session.address (cond b (session_ended x) x) ≡ x.address
     address_kept true x = refl
     address_kept false x = refl
@@ -179,7 +244,7 @@ pub rows_stopped : (n : ℕ) (rows rows' : SeenRows Session Spans) (found : Opti
     → rows'.rows ≡ map (if_numbered session_ended n) rows.rows → rows'.has_room ≡ rows.has_room → Ends old found new → CountsRows rows' new
 rows_stopped n rows rows' found old new h rising is changed same ends = record {
   holds = holds_stopped n rows.rows rows'.rows found old new h.holds rising is changed ends;
-  room = λ r. omega (arith, h.room (sym same ∙ r), ends.sources.room);
+  room = λ r. kept_room old new (h.room (sym same ∙ r)) (ends_room found old new ends);
 }
 
 -- ---- the sessions of a source, which end one after the other
@@ -189,9 +254,16 @@ ended_at key n before rest x old new h less =
     let one : Session → ℕ = one_open_by key n in
     omega (arith, less, h, sum_by-append one before (x ∷ rest), sum_by-append one before (session_ended x ∷ rest), count_cons key n x rest, count_cons key n (session_ended x) rest, none_ended key n x)
 
+-- the user keeps a session that has ended
+of_ended : (n : ℕ) (before rest : List Session) (x : Session) → sessions_of n (before ++ x ∷ rest) ≡ sessions_of n (before ++ session_ended x ∷ rest)
+of_ended n before rest x =
+    let same : one_of n (session_ended x) ≡ one_of n x = refl in
+    omega (arith, same, sum_by-append (one_of n) before (x ∷ rest), sum_by-append (one_of n) before (session_ended x ∷ rest), of_cons n x rest, of_cons n (session_ended x) rest)
+
 holds_between : (before rest : List Session) (x : Session) (old new : Counts) → HoldsCounts (before ++ x ∷ rest) old → Ends old (Some x) new → HoldsCounts (before ++ session_ended x ∷ rest) new
 holds_between before rest x old new h ends = record {
   users = record { is = λ n lt. let within : n < length old.users.items = omega (arith, lt, ends.users.len) in ended_at user_of n before rest x _ _ (h.users.is n within) (ends.users.is n within) };
+  grants = subst (CountsAll (before ++ session_ended x ∷ rest)) (sym ends.grants) (record { is = λ n lt. h.grants.is n lt ∙ of_ended n before rest x });
   sources = record { is = λ n. ended_at source_of n before rest x _ _ (h.sources.is n) (ends.sources.is n); only = ends.sources.only h.sources.only };
   pools = places_between before rest x old new h.pools ends.pools;
   inside = inside_between before rest x old new h.inside ends.pools ends.outside;
@@ -202,14 +274,14 @@ pub record IsResetTo (source : ℕ) (rows rest : List Session) (start counts : C
   before : List Session
   split : rows ≡ before ++ rest
   holds : HoldsCounts (map (session_reset source) before ++ rest) counts
-  pub room : spare start.sources ≤ spare counts.sources
+  pub room : KeepsRoom start counts
 
 pub reset_start : (source : ℕ) (rows : List Session) (counts : Counts) → HoldsCounts rows counts → IsResetTo source rows rows counts counts
-reset_start source rows counts h = record { before = []; split = refl; holds = h; room = omega arith }
+reset_start source rows counts h = record { before = []; split = refl; holds = h; room = same_room counts }
 
 module _ (source : ℕ) (rows rest : List Session) (x : Session) (start old new : Counts) (told : IsResetTo source rows (x ∷ rest) start old) where
   -- one more
-  reset_more : HoldsCounts (map (session_reset source) told.before ++ session_reset source x ∷ rest) new → spare old.sources ≤ spare new.sources → IsResetTo source rows rest start new
+  reset_more : HoldsCounts (map (session_reset source) told.before ++ session_reset source x ∷ rest) new → KeepsRoom old new → IsResetTo source rows rest start new
   reset_more h room =
       let before = told.before in
       record {
@@ -218,7 +290,7 @@ module _ (source : ℕ) (rows rest : List Session) (x : Session) (start old new 
         holds = subst (λ xs. HoldsCounts xs new)
             (sym (append_assoc (map (session_reset source) before) (session_reset source x ∷ []) rest) ∙ ap (λ xs. xs ++ rest) (sym (map-append (session_reset source) before (x ∷ []))))
             h;
-        room = omega (arith, told.room, room);
+        room = both_room start old new told.room room;
       }
 
   pub reset_ended : x.source ≡ source → Ends old (Some x) new → IsResetTo source rows rest start new
@@ -226,13 +298,13 @@ module _ (source : ℕ) (rows rest : List Session) (x : Session) (start old new 
       reset_more
       (subst (λ (y : Session). HoldsCounts (map (session_reset source) told.before ++ y ∷ rest) new) (sym (ap (λ b. cond b (session_ended x) x) (eq-eqb x.source source same)))
       (holds_between (map (session_reset source) told.before) rest x old new told.holds ends))
-      ends.sources.room
+      (ends_room (Some x) old new ends)
 
 pub reset_passed : (source : ℕ) (rows rest : List Session) (x : Session) (start counts : Counts) → (x.source ≡ source → ⊥) → IsResetTo source rows (x ∷ rest) start counts → IsResetTo source rows rest start counts
 reset_passed source rows rest x start counts other told =
     reset_more source rows rest x start counts counts told
     (subst (λ (y : Session). HoldsCounts (map (session_reset source) told.before ++ y ∷ rest) counts) (sym (ap (λ b. cond b (session_ended x) x) (ne_eqb x.source source other))) told.holds)
-    (omega arith)
+    (same_room counts)
 
 pub reset_all : (source : ℕ) (rows rest : List Session) (start counts : Counts) → rest ≡ [] → IsResetTo source rows rest start counts → HoldsCounts (map (session_reset source) rows) counts
 reset_all source rows rest start counts none told =
@@ -258,12 +330,30 @@ reset_nothing source (x ∷ rows) none =
     by_test true is zero = by_phase x.phase refl is zero
     by_test false is zero = refl
 
-pub rows_reset : (source : ℕ) (rows rows' : SeenRows Session Spans) (old new : Counts) → CountsRows rows old → HoldsCounts (map (session_reset source) rows.rows) new → spare old.sources ≤ spare new.sources
+pub rows_reset : (source : ℕ) (rows rows' : SeenRows Session Spans) (old new : Counts) → CountsRows rows old → HoldsCounts (map (session_reset source) rows.rows) new → KeepsRoom old new
     → rows'.rows ≡ map (session_reset source) rows.rows → rows'.has_room ≡ rows.has_room → CountsRows rows' new
 rows_reset source rows rows' old new h holds room changed same = record {
   holds = subst (λ xs. HoldsCounts xs new) (sym changed) holds;
-  room = λ r. omega (arith, h.room (sym same ∙ r), room);
+  room = λ r. kept_room old new (h.room (sym same ∙ r)) room;
 }
+
+-- where a session of the source ends first, the sessions are the same after it
+pub stop_first : (source n : ℕ) (rows : List Session) → AllPairs (IsBefore num) rows → IsOfSource source (find (has_number num n) rows)
+    → map (session_reset source) (map (if_numbered session_ended n) rows) ≡ map (session_reset source) rows
+stop_first source n [] rising own = refl
+stop_first source n (row ∷ rows) rising own = by_test (eqb row.number n) refl (stop_first source n rows (rising_rest num row rows (row ∷ rows) refl rising))
+  where
+    by_test : (b : Bool) → eqb row.number n ≡ b → (IsOfSource source (find (has_number num n) rows) → map (session_reset source) (map (if_numbered session_ended n) rows) ≡ map (session_reset source) rows)
+        → map (session_reset source) (map (if_numbered session_ended n) (row ∷ rows)) ≡ map (session_reset source) (row ∷ rows)
+    by_test true e more =
+        let rest : map (if_numbered session_ended n) rows ≡ rows = map_rest n row.number rows (omega (arith, eqb-true row.number n e)) (rest_after num row rows (row ∷ rows) refl rising) in
+        let mine : row.source ≡ source = subst (λ b. IsOfSource source (cond b (Some row) (find (has_number num n) rows))) e own in
+        let same : eqb row.source source ≡ true = eq-eqb row.source source mine in
+        let head : session_reset source (session_ended row) ≡ session_reset source row
+        = ap (λ b. cond b (session_ended (session_ended row)) (session_ended row)) same ∙ sym (ap (λ b. cond b (session_ended row) row) same) in
+        rw (e) (ap (λ y. y ∷ map (session_reset source) (map (if_numbered session_ended n) rows)) head ∙ ap (λ xs. session_reset source row ∷ map (session_reset source) xs) rest)
+    by_test false e more =
+        rw (e) (ap (λ xs. session_reset source row ∷ xs) (more (subst (λ b. IsOfSource source (cond b (Some row) (find (has_number num n) rows))) e own)))
 
 -- ---- a session that comes
 
@@ -282,12 +372,25 @@ module _ (key : Session → ℕ) where
       opened true b e = e
       opened false b e = refl
 
+of_granted : (n : ℕ) (rows rows' : List Session) (session : Session) (old new : ℕ) → old ≡ sessions_of n rows → rows' ≡ rows ++ session ∷ []
+    → new ≡ old + one_of n session → new ≡ sessions_of n rows'
+of_granted n rows rows' session old new h is more = omega (arith, more, h, sum_by_push (one_of n) rows session, ap (sessions_of n) is)
+
+-- one more can be counted
+of_low : (n : ℕ) (rows : List Session) (old : ℕ) → old ≡ sessions_of n rows → length rows + 1 < 2 ^ 64 → old + 1 < 2 ^ 64
+of_low n rows old h few = omega (arith, h, count_by-le-length (λ (session : Session). eqb session.user n) rows, few)
+
 holds_granted : (rows rows' : List Session) (session : Session) (old new : Counts) → HoldsCounts rows old → is_open session.phase ≡ true → length rows + 1 < 2 ^ 64 → rows' ≡ rows ++ session ∷ [] → Comes old session new → HoldsCounts rows' new
 holds_granted rows rows' session old new h open' few is comes = record {
   users = record {
     is = λ n lt.
         let before : n < length old.users.items = omega (arith, lt, comes.users.len) in
         granted_at user_of n rows rows' session _ _ (h.users.is n before) open' is (comes.users.is n before (low_count user_of n rows _ (h.users.is n before) few));
+  };
+  grants = record {
+    is = λ n lt.
+        let before : n < length old.grants.items = omega (arith, lt, comes.grants.len) in
+        of_granted n rows rows' session _ _ (h.grants.is n before) is (comes.grants.is n before (of_low n rows _ (h.grants.is n before) few));
   };
   sources = record {
     is = λ n. granted_at source_of n rows rows' session _ _ (h.sources.is n) open' is (comes.sources.is n (low_count source_of session.source rows _ (h.sources.is session.source) few));
@@ -359,22 +462,26 @@ none_open key counts count is = record {
   is = λ n lt. ap (λ cs. get_or cs n 0) is ∙ get_or-replicate count n 0 0 (omega (arith, lt, ap length is, length-replicate {A = ℕ} count 0));
 }
 
+pub none_of : (counts : List ℕ) (count : ℕ) → counts ≡ replicate count 0 → CountsAll [] counts
+none_of counts count is = record { is = (none_open user_of counts count is).is }
+
 -- no source yet
 pub no_source : (counts : List (ℕ × ℕ)) → counts ≡ [] → CountsSources [] counts
 no_source counts is = subst (CountsSources []) (sym is) (record { is = λ source. refl; only = record { only = λ source zero. refl } })
 
 -- equal counts of equal sessions
-holds_copied : (rows rows' : List Session) (old new : Counts) → HoldsCounts rows old → rows' ≡ rows → new.users.items ≡ old.users.items → new.sources.entries ≡ old.sources.entries → new.pools.items ≡ old.pools.items → new.outside ≡ old.outside → HoldsCounts rows' new
-holds_copied rows rows' old new h is users sources places outside = record {
+holds_copied : (rows rows' : List Session) (old new : Counts) → HoldsCounts rows old → rows' ≡ rows → new.users.items ≡ old.users.items → new.grants.items ≡ old.grants.items → new.sources.entries ≡ old.sources.entries → new.pools.items ≡ old.pools.items → new.outside ≡ old.outside → HoldsCounts rows' new
+holds_copied rows rows' old new h is users grants sources places outside = record {
   users = subst (λ xs. CountsOpen user_of xs new.users.items) (sym is) (subst (CountsOpen user_of rows) (sym users) h.users);
+  grants = subst (λ xs. CountsAll xs new.grants.items) (sym is) (subst (CountsAll rows) (sym grants) h.grants);
   sources = subst (λ xs. CountsSources xs new.sources.entries) (sym is) (subst (CountsSources rows) (sym sources) h.sources);
   pools = places_copied rows rows' old new h.pools is places;
   inside = inside_copied rows rows' old new h.inside is places outside;
 }
 
-pub rows_copied : (rows rows' : SeenRows Session Spans) (old new : Counts) → CountsRows rows old → rows'.rows ≡ rows.rows → new.users.items ≡ old.users.items → new.sources.entries ≡ old.sources.entries
-    → new.pools.items ≡ old.pools.items → new.outside ≡ old.outside → (rows'.has_room ≡ true → 0 < spare new.sources) → CountsRows rows' new
-rows_copied rows rows' old new h is users sources places outside room = record {
-  holds = holds_copied rows.rows rows'.rows old new h.holds is users sources places outside;
+pub rows_copied : (rows rows' : SeenRows Session Spans) (old new : Counts) → CountsRows rows old → rows'.rows ≡ rows.rows → new.users.items ≡ old.users.items → new.grants.items ≡ old.grants.items → new.sources.entries ≡ old.sources.entries
+    → new.pools.items ≡ old.pools.items → new.outside ≡ old.outside → (rows'.has_room ≡ true → HasRoom new) → CountsRows rows' new
+rows_copied rows rows' old new h is users grants sources places outside room = record {
+  holds = holds_copied rows.rows rows'.rows old new h.holds is users grants sources places outside;
   room = room;
 }

@@ -6,33 +6,36 @@ use Rattle.rad_config.specs.declared.pool.Pool.{Pool}
 use Rattle.rad_config.specs.declared.spans.Spans.{Spans}
 use Rattle.rad_places.specs.Places.{SeenPlaces}
 use Rattle.rad_rows.specs.Rows.{Tells, is_dead}
-use Rattle.rad_pool.specs.Counts.{IsCounted, one_open_by, user_of}
-use Rattle.rad_pool.specs.Dead.{IsLeastFreed, TakesLesser, TakesOpen, dead_sessions}
-use Rattle.rad_pool.specs.Grants.{has_address, is_held, least_free, open_sessions}
+use Rattle.rad_pool.specs.Counts.{IsCounted, one_of, one_open_by, user_of}
+use Rattle.rad_pool.specs.Dead.{CountsUser, IsLeastFreed, TakesLesser, TakesOne, dead_sessions}
+use Rattle.rad_pool.specs.Grants.{has_address, is_held, least_free, open_sessions, sessions_of}
 use Rattle.rad_pool.specs.Sessions.{is_live, live_sessions}
 use Rattle.rad_pool.specs.declared.free.LeastFreed.{LeastFreed}
 use Rattle.rad_pool.specs.declared.session.Session.{Session}
-use Rattle.rad_pool.specs.declared.users.LiveOpen.{LiveOpen}
-use Rattle.rad_pool.proofs.CountLemmas.{count_cons}
+use Rattle.rad_pool.specs.declared.users.UserCounts.{UserCounts}
+use Rattle.rad_pool.proofs.CountLemmas.{count_cons, of_cons}
 use Rattle.rad_pool.proofs.PlaceLemmas.{held_by, held_cons, uses_split}
 
--- ---- the open sessions of a user
+-- ---- the sessions of a user
 
-open_fold : (dead : List Session) (old new : LiveOpen) → FoldsTo TakesOpen old dead new → new.count ≡ old.count - open_sessions old.user dead
-open_fold [] old new h = omega (arith, ap (λ (t : LiveOpen). t.count) h)
-open_fold (x ∷ dead) old new h =
-    let step : TakesOpen old x h.0 = h.1 in
-    omega (arith, open_fold dead h.0 new h.2, step.count, count_cons user_of old.user x dead, ap (λ user. open_sessions user dead) step.user)
-
-pub live_open : (spans : Spans) (now : ℕ) (rows : List Session) (old new : LiveOpen) → old.count ≡ open_sessions old.user rows → Tells TakesOpen is_live spans now rows old new
-    → new.count ≡ open_sessions old.user (live_sessions spans now rows)
-live_open spans now rows old new is told =
-    omega (
-      arith,
-      open_fold (dead_sessions spans now rows) old new told,
-      is,
-      sum_by-filter_both (is_live spans now) (is_dead is_live spans now) (λ x. refl) (one_open_by user_of old.user) rows,
+taken : (dead : List Session) (old new : UserCounts) → FoldsTo TakesOne old dead new
+    → (new.open_count ≡ old.open_count - open_sessions old.user dead) × (new.total ≡ old.total - sessions_of old.user dead)
+taken [] old new h = (omega (arith, ap (λ (t : UserCounts). t.open_count) h), omega (arith, ap (λ (t : UserCounts). t.total) h))
+taken (x ∷ dead) old new h =
+    let step : TakesOne old x h.0 = h.1 in
+    let rest = taken dead h.0 new h.2 in (
+      omega (arith, rest.0, step.open_count, count_cons user_of old.user x dead, ap (λ user. open_sessions user dead) step.user),
+      omega (arith, rest.1, step.total, of_cons old.user x dead, ap (λ user. sessions_of user dead) step.user),
     )
+
+pub live_left : (spans : Spans) (now : ℕ) (rows : List Session) (old new : UserCounts) → CountsUser old.user rows old → Tells TakesOne is_live spans now rows old new
+    → CountsUser old.user (live_sessions spans now rows) new
+live_left spans now rows old new is told =
+    let gone = taken (dead_sessions spans now rows) old new told in
+    record {
+      open_count = omega (arith, gone.0, is.open_count, sum_by-filter_both (is_live spans now) (is_dead is_live spans now) (λ x. refl) (one_open_by user_of old.user) rows);
+      total = omega (arith, gone.1, is.total, sum_by-filter_both (is_live spans now) (is_dead is_live spans now) (λ x. refl) (one_of old.user) rows);
+    }
 
 -- ---- the addresses of dead sessions
 

@@ -11,10 +11,10 @@ use Rattle.std.proofs.lemmas.List.Quantifiers.{all_pairs_push}
 use Rattle.std.proofs.lemmas.List.Sums.{count_by-le-length, length-filter, passes_at_first, sum_by-le-sum_by, sum_by_push}
 use Rattle.std.proofs.lemmas.Option.{IfSome_then, get_or_from_slice_get, slice_get_within}
 use Rattle.rad_packet.specs.Ladders.{◌>>=◌, refuse_if}
-use Rattle.rad_config.specs.Configurations.{Configuration}
+use Rattle.rad_config.specs.Configurations.{Configuration, is_reached}
 use Rattle.rad_config.specs.declared.pool.Pool.{Pool}
 use Rattle.rad_config.specs.declared.spans.Spans.{Spans}
-use Rattle.rad_pool.specs.Grants.{address_from, granted, has_address, is_held, last_number, least_free, open_sessions, pool_of, session_limit, with_session}
+use Rattle.rad_pool.specs.Grants.{address_from, grant_limit, granted, has_address, is_held, is_limited, last_number, least_free, open_sessions, pool_of, session_limit, sessions_of, with_session}
 use Rattle.rad_pool.specs.Lawful.{HaveOwnAddresses, IsInPool, IsLawful, IsLawfulSession}
 use Rattle.rad_pool.specs.Sessions.{Sessions, cut, if_numbered, is_live, is_open, opening, renewed, session_ended, session_renewed, session_reset, sessions_max, source_reset, stopped, with_each}
 use Rattle.rad_pool.specs.declared.grant.Grant.{Grant}
@@ -91,8 +91,13 @@ opening_is_lawful configuration clock spans = record {
   rising = λ i j d before within. absurd (omega arith);
   sessions = λ k d within. absurd (omega arith);
   limits = λ user. omega arith;
+  grants = λ user. none_yet (grant_limit configuration user);
   addresses = λ one other address there here is same. absurd (omega arith);
 }
+  where
+    none_yet : (limit : Option ℕ) → IfSome limit (λ most. 0 ≤ most)
+    none_yet None = tt
+    none_yet (Some most) = omega arith
 
 -- ---- time
 
@@ -103,6 +108,7 @@ later_is_lawful configuration clock now table later lawful = record {
   few = lawful.few;
   rising = lawful.rising;
   limits = lawful.limits;
+  grants = lawful.grants;
   addresses = lawful.addresses;
   sessions = All-weaker (IsLawfulSession configuration clock table.next) (IsLawfulSession configuration now table.next) (λ session known. record {
     number = known.number;
@@ -125,6 +131,7 @@ cut_is_lawful configuration now table lawful =
       sessions = All-filter live (IsLawfulSession configuration now table.next) sessions lawful.sessions;
       limits = λ user.
           omega (arith, lawful.limits user, count_by-filter-le (λ session. (session.user == user) && is_open session.phase) live sessions);
+      grants = λ user. IfSome_then (grant_limit configuration user) (lawful.grants user) (λ most within. omega (arith, within, count_by-filter-le (λ session. session.user == user) live sessions));
       addresses = λ one other address there here.
           lawful.addresses one other address (Contains-filter live sessions one there) (Contains-filter live sessions other here);
     }
@@ -154,6 +161,7 @@ address_is_free sessions (Some pool) address is = by_search (least_free sessions
 -- what a grant says of the table
 record AllowsGrant (configuration : Configuration) (user : ℕ) (table : Sessions) (grant : Grant) : Type 0 where
   below : open_sessions user table.sessions < session_limit configuration user
+  spared : is_reached (grant_limit configuration user) (sessions_of user table.sessions) ≡ false
   address : address_from table.sessions (pool_of configuration user) ≡ Ok grant.address
   few : length table.sessions < sessions_max
   last : table.next ≤ last_number
@@ -163,7 +171,7 @@ granted_says : (configuration : Configuration) (user : ℕ) (table : Sessions) (
     → AllowsGrant configuration user table grant
 unfolding granted
 granted_says configuration user table grant is =
-    let at_limit : Bool = nat_le (session_limit configuration user) (open_sessions user table.sessions) in
+    let at_limit : Bool = is_limited configuration user table.sessions in
     let many : Bool = nat_le sessions_max (length table.sessions) in
     let none_left : Bool = not (nat_le table.next last_number) in
     let given : Option ℕ → Result Grant Refusal = λ address. Ok (record { number = table.next; address = address }) in
@@ -173,11 +181,13 @@ granted_says configuration user table grant is =
     let addressed = past_step address last_check grant below.1 in
     let fits = past_refusal (many || none_left) Full (λ fits. given addressed.0) grant addressed.2 in
     let parts = or_parts many none_left fits.0 in
+    let limits = or_parts (nat_le (session_limit configuration user) (open_sessions user table.sessions)) (is_reached (grant_limit configuration user) (sessions_of user table.sessions)) below.0 in
     let made : Grant = record { number = table.next; address = addressed.0 } in
     let same : made ≡ grant = cc in
     let address_in : Grant → Result (Option ℕ) Refusal = λ g. Ok g.address in
     record {
-      below = leb-false (session_limit configuration user) (open_sessions user table.sessions) below.0;
+      below = leb-false (session_limit configuration user) (open_sessions user table.sessions) limits.0;
+      spared = limits.1;
       address = addressed.1 ∙ ap address_in same;
       few = leb-false sessions_max (length table.sessions) parts.0;
       last = leb-true table.next last_number (not-false (nat_le table.next last_number) parts.1);
@@ -229,6 +239,29 @@ limits_with_session configuration user other sessions new own below within =
         let none : ◌≡◌ {A = ℕ} (cond ((new.user == other) && is_open new.phase) 1 0) 0 = rw is refl in
         omega (arith, sum, none, within)
 
+-- one more session of a user who may have one more
+grants_with_session : (configuration : Configuration) (user other : ℕ) (sessions : List Session) (new : Session)
+    → new.user ≡ user → is_reached (grant_limit configuration user) (sessions_of user sessions) ≡ false
+    → IfSome (grant_limit configuration other) (λ most. sessions_of other sessions ≤ most)
+    → IfSome (grant_limit configuration other) (λ most. sessions_of other (sessions ++ new ∷ []) ≤ most)
+grants_with_session configuration user other sessions new own spared within =
+    by_test (new.user == other) refl (sum_by_push (λ (session : Session). cond {A = ℕ} (session.user == other) 1 0) sessions new)
+  where
+    not_reached : (limit : Option ℕ) (count more : ℕ) → is_reached limit count ≡ false → more ≡ count + 1 → IfSome limit (λ most. more ≤ most)
+    not_reached None count more free is = tt
+    not_reached (Some most) count more free is = omega (arith, leb-false most count free, is)
+
+    by_test : (b : Bool) → (new.user == other) ≡ b → sessions_of other (sessions ++ new ∷ []) ≡ sessions_of other sessions + cond (new.user == other) 1 0
+        → IfSome (grant_limit configuration other) (λ most. sessions_of other (sessions ++ new ∷ []) ≤ most)
+    by_test true is sum =
+        let same : user ≡ other = sym own ∙ eqb-true new.user other is in
+        not_reached (grant_limit configuration other) (sessions_of other sessions) _
+        (subst (λ u. is_reached (grant_limit configuration u) (sessions_of u sessions) ≡ false) same spared)
+        (sum ∙ ap (λ b. sessions_of other sessions + cond {A = ℕ} b 1 0) is)
+    by_test false is sum =
+        let none : ◌≡◌ {A = ℕ} (cond (new.user == other) 1 0) 0 = rw is refl in
+        IfSome_then (grant_limit configuration other) within (λ most few. omega (arith, sum, none, few))
+
 -- the address of a session is held
 holds : (sessions : List Session) (session : Session) (address : ℕ) → Contains sessions session → session.address ≡ Some address
     → is_held sessions address ≡ true
@@ -275,6 +308,7 @@ with_session_is_lawful configuration client source user now grant table known_cl
           }) sessions lawful.sessions)
           (new_is_lawful configuration client source user now grant table known_client known_user facts first);
       limits = λ other. limits_with_session configuration user other sessions new refl facts.below (lawful.limits other);
+      grants = λ other. grants_with_session configuration user other sessions new refl facts.spared (lawful.grants other);
       addresses = addresses_with_session sessions new lawful.addresses
           (IfSome_then grant.address (address_is_free sessions (pool_of configuration user) grant.address facts.address) (λ given free. free.1));
     }
@@ -284,6 +318,7 @@ with_session_is_lawful configuration client source user now grant table known_cl
 -- a change of sessions that keeps what the law reads of others, keeps each session lawful, and opens none
 record IsLawfulChange (configuration : Configuration) (clock : ℕ) (change : Session → Session) : Type 0 where
   number : (session : Session) → (change session).number ≡ session.number
+  user : (session : Session) → (change session).user ≡ session.user
   address : (session : Session) → (change session).address ≡ session.address
   law : (next : ℕ) (session : Session) → IsLawfulSession configuration clock next session → IsLawfulSession configuration clock next (change session)
   opens_none : (user : ℕ) (session : Session) → (((change session).user == user) && is_open (change session).phase) ≡ true → ((session.user == user) && is_open session.phase) ≡ true
@@ -293,6 +328,7 @@ chosen : (configuration : Configuration) (clock : ℕ) (test : Session → Bool)
     → IsLawfulChange configuration clock (λ session. cond (test session) (change session) session)
 chosen configuration clock test change lawful = record {
   number = λ session. cond_both (test session) (change session) session (λ s. s.number ≡ session.number) (λ _. lawful.number session) (λ _. refl);
+  user = λ session. cond_both (test session) (change session) session (λ s. s.user ≡ session.user) (λ _. lawful.user session) (λ _. refl);
   address = λ session. cond_both (test session) (change session) session (λ s. s.address ≡ session.address) (λ _. lawful.address session) (λ _. refl);
   law = λ next session known.
       cond_both (test session) (change session) session (IsLawfulSession configuration clock next) (λ _. lawful.law next session known) (λ _. known);
@@ -306,6 +342,7 @@ chosen configuration clock test change lawful = record {
 renewal_is_lawful : (configuration : Configuration) (clock : ℕ) → IsLawfulChange configuration clock (session_renewed clock)
 renewal_is_lawful configuration clock = record {
   number = λ session. cond_both (is_open session.phase) (active session) session (λ s. s.number ≡ session.number) (λ _. refl) (λ _. refl);
+  user = λ session. cond_both (is_open session.phase) (active session) session (λ s. s.user ≡ session.user) (λ _. refl) (λ _. refl);
   address = λ session. cond_both (is_open session.phase) (active session) session (λ s. s.address ≡ session.address) (λ _. refl) (λ _. refl);
   law = λ next session known.
       cond_both (is_open session.phase) (active session) session (IsLawfulSession configuration clock next)
@@ -331,6 +368,7 @@ renewal_is_lawful configuration clock = record {
 end_is_lawful : (configuration : Configuration) (clock : ℕ) → IsLawfulChange configuration clock session_ended
 end_is_lawful configuration clock = record {
   number = λ session. refl;
+  user = λ session. refl;
   address = λ session. refl;
   law = λ next session known. record {
     number = known.number;
@@ -366,6 +404,9 @@ change_is_lawful configuration clock change changes table lawful =
       limits = λ user.
           let is_counted : Session → Bool = λ session. (session.user == user) && is_open session.phase in
           omega (arith, lawful.limits user, count_by-map-le is_counted change sessions (changes.opens_none user));
+      grants = λ user.
+          IfSome_then (grant_limit configuration user) (lawful.grants user)
+          (λ most few. omega (arith, few, count_by-map-le (λ session. session.user == user) change sessions (λ session is. ap (λ u. u == user) (sym (changes.user session)) ∙ is)));
       addresses = λ one other address there here is same.
           let first = Contains-map change sessions one there in
           let second = Contains-map change sessions other here in

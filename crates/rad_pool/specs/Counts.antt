@@ -1,13 +1,14 @@
--- Counts of sessions: of the open ones of each user and of each source, and of those that have each address of a pool; and whether
--- some session may have another address.
+-- Counts of sessions: of the open ones of each user and of each source, of all of each user, and of those that have each address of a
+-- pool; and whether some session may have another address.
 use Rattle.std.specs.Prelude.{◌≡◌, ℕ, ◌+◌, ◌-◌, ◌<◌, ◌≤◌, ◌^◌, ◌==◌, ◌&&◌, ◌||◌, not, Bool, true, false, List, length, slice_index, cond, count_by, map, All, Option, None, Some}
 use Rattle.std.specs.List.{list_any}
 use Rattle.indexmap.specs.IndexMap.{IndexMap, spare}
 use Rattle.rad_places.specs.Places.{SeenPlaces, is_inside, place_of, uses_at, with_note, with_use, without_use}
-use Rattle.rad_pool.specs.Grants.{has_address}
+use Rattle.rad_pool.specs.Grants.{has_address, sessions_of}
 use Rattle.rad_config.specs.declared.spans.Spans.{Spans}
 use Rattle.rad_rows.specs.Rows.{SeenRows}
 use Rattle.rad_rows.specs.declared.hash_key.HashKey.{HashKey}
+use Rattle.rad_pool.specs.Links.{HasLinkRoom, KeepsLinkRoom}
 use Rattle.rad_pool.specs.Sessions.{is_open}
 use Rattle.rad_pool.specs.Sources.{HasNoZero, count_at}
 use Rattle.rad_pool.specs.declared.counts.Counts.{Counts}
@@ -40,11 +41,19 @@ found_open_by key n (Some session) = one_open_by key n session
 abbrev pub open_by : (Session → ℕ) → ℕ → List Session → ℕ
 open_by key n sessions = count_by (is_open_by key n) sessions
 
+-- how many it is of the sessions of this user, ended ones included: one or none
+abbrev pub one_of : ℕ → Session → ℕ
+one_of n session = cond (session.user == n) 1 0
+
 -- ---- the counts of a list of sessions
 
 -- as many as there are open sessions with each key that there is a count for
 pub record CountsOpen (key : Session → ℕ) (sessions : List Session) (counts : List ℕ) : Type 0 where
   pub is : (n : ℕ) → n < length counts → slice_index counts n ≡ open_by key n sessions
+
+-- as many as there are sessions of each user that there is a count for, ended ones included
+pub record CountsAll (sessions : List Session) (counts : List ℕ) : Type 0 where
+  pub is : (n : ℕ) → n < length counts → slice_index counts n ≡ sessions_of n sessions
 
 -- as many for each source as it has open sessions, and nothing for a source that has none
 pub record CountsSources (sessions : List Session) (counts : List (ℕ × ℕ)) : Type 0 where
@@ -67,14 +76,25 @@ pub record IsInside (sessions : List Session) (pools : List SeenPlaces) : Type 0
 -- the counts of all sources, and of the users and the pools that there are counts for
 pub record HoldsCounts (sessions : List Session) (counts : Counts) : Type 0 where
   pub users : CountsOpen user_of sessions counts.users.items
+  pub grants : CountsAll sessions counts.grants.items
   pub sources : CountsSources sessions counts.sources.entries
   pub pools : All (IsCounted sessions) counts.pools.items
   pub inside : counts.outside ≡ false → IsInside sessions counts.pools.items
 
--- the counts of rows, and room for one source more where there is room for one row more
+-- there is room for one source more, and to link one session more
+pub record HasRoom (counts : Counts) : Type 0 where
+  pub sources : 0 < spare counts.sources
+  pub links : HasLinkRoom counts.links
+
+-- there is as much room as there was
+pub record KeepsRoom (old new : Counts) : Type 0 where
+  pub sources : spare old.sources ≤ spare new.sources
+  pub links : KeepsLinkRoom old.links new.links
+
+-- the counts of rows, and room in them where there is room for one row more
 pub record CountsRows (rows : SeenRows Session Spans) (counts : Counts) : Type 0 where
   pub holds : HoldsCounts rows.rows counts
-  pub room : rows.has_room ≡ true → 0 < spare counts.sources
+  pub room : rows.has_room ≡ true → HasRoom counts
 
 -- one use more of each address can be counted
 pub record HasLowUses (places : SeenPlaces) : Type 0 where
@@ -107,9 +127,14 @@ places_left address places = change_at without_use (place_in address places) pla
 -- ---- changes of the counts
 
 -- one more at a place, where one more can be counted
-pub record GainsOpen (at : ℕ) (old new : List ℕ) : Type 0 where
+pub record GainsOne (at : ℕ) (old new : List ℕ) : Type 0 where
   pub len : length new ≡ length old
   pub is : (n : ℕ) → n < length old → slice_index old n + 1 < 2 ^ 64 → slice_index new n ≡ slice_index old n + cond (at == n) 1 0
+
+-- one less at a place
+pub record LosesOne (at : ℕ) (old new : List ℕ) : Type 0 where
+  pub len : length new ≡ length old
+  pub is : (n : ℕ) → n < length old → slice_index new n ≡ slice_index old n - cond (at == n) 1 0
 
 -- one less at a place, if the session whose phase it is was open
 pub record LosesAt (at : ℕ) (phase : Phase) (old new : List ℕ) : Type 0 where
@@ -134,7 +159,8 @@ pub record LosesSource (found : Option Session) (old new : IndexMap ℕ ℕ Hash
 
 -- a session comes, Pending
 pub record Comes (old : Counts) (session : Session) (new : Counts) : Type 0 where
-  pub users : GainsOpen (user_of session) old.users.items new.users.items
+  pub users : GainsOne (user_of session) old.users.items new.users.items
+  pub grants : GainsOne (user_of session) old.grants.items new.grants.items
   pub sources : GainsSource session.source old.sources.entries new.sources.entries
   pub pools : new.pools.items ≡ map (places_come session.address session.number) old.pools.items
   pub outside : new.outside ≡ (old.outside || is_outside old.pools.items session.address)
@@ -142,13 +168,17 @@ pub record Comes (old : Counts) (session : Session) (new : Counts) : Type 0 wher
 -- a session goes
 pub record Leaves (old : Counts) (session : Session) (new : Counts) : Type 0 where
   pub users : LosesOpen user_of (Some session) old.users.items new.users.items
+  pub grants : LosesOne (user_of session) old.grants.items new.grants.items
   pub sources : LosesSource (Some session) old.sources new.sources
+  pub links : KeepsLinkRoom old.links new.links
   pub pools : new.pools.items ≡ map (places_left session.address) old.pools.items
   pub outside : new.outside ≡ old.outside
 
 -- a session that was perhaps found ends, and keeps its address
 pub record Ends (old : Counts) (found : Option Session) (new : Counts) : Type 0 where
   pub users : LosesOpen user_of found old.users.items new.users.items
+  pub grants : new.grants.items ≡ old.grants.items
   pub sources : LosesSource found old.sources new.sources
+  pub links : KeepsLinkRoom old.links new.links
   pub pools : new.pools.items ≡ old.pools.items
   pub outside : new.outside ≡ old.outside

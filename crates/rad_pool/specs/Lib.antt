@@ -2,6 +2,7 @@ pub mod Counts
 pub mod Dead
 pub mod Grants
 pub mod Lawful
+pub mod Links
 pub mod Meant
 pub mod Reports
 pub mod Sessions

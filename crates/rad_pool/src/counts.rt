@@ -1,10 +1,12 @@
-//! How many open sessions each user and each source has, and how many sessions have each address of a pool.
-ghost use Rattle.std.specs.Prelude.{◌≡◌, ◌==◌, ◌<◌, [], All, IfOk, map, replicate};
+//! How many open sessions each user and each source has, how many of any phase each user has, and how many sessions have each address
+//! of a pool.
+ghost use Rattle.std.specs.Prelude.{◌≡◌, ◌==◌, ◌<◌, [], All, IfOk, IsOk, OnOk, map, replicate};
 ghost use Rattle.indexmap.specs.IndexMap.{hasher_of, spare};
 ghost use Rattle.rad_config.specs.Ranges.{IsPool};
-ghost use Rattle.rad_pool.specs.Counts.{Comes, Ends, GainsOpen, HasLowUses, HoldsCounts, IsCounted, Leaves, LosesAt, is_outside, places_come, places_left};
+ghost use Rattle.rad_pool.specs.Counts.{Comes, Ends, GainsOne, HasLowUses, HasRoom, HoldsCounts, IsCounted, Leaves, LosesAt, LosesOne, is_outside, places_come, places_left};
 ghost use Rattle.rad_pool.specs.Sources.{HasNoZero, count_at};
 
+use crate::links::Links;
 use crate::session::{Phase, Session};
 use crate::sources;
 use indexmap::IndexMap;
@@ -18,8 +20,12 @@ use std::alloc::{AllocError, Global};
 pub(crate) struct Counts {
     /// How many Pending and Active sessions each user has.
     pub(crate) users: Vec<u64>,
+    /// How many sessions each user has, ended ones included.
+    pub(crate) grants: Vec<u64>,
     /// How many Pending and Active sessions each source has. A source that has none is not there.
     pub(crate) sources: IndexMap<u32, u64, HashKey>,
+    /// Which these are.
+    pub(crate) links: Links,
     /// How many sessions, ended ones included, have each address, and the number of the one that got it last.
     pub(crate) pools: Vec<Places>,
     /// Whether a session came whose address is of none of the pools.
@@ -33,10 +39,13 @@ impl Counts {
         ensures key { IfOk result (λ counts. hasher_of counts.sources ≡ key) }
     {
         let users = zeros(alloc, config.users().len())?;
+        let grants = zeros(alloc, config.users().len())?;
         let pools = open_pools(alloc, config.pools())?;
         Ok(Counts {
             users,
+            grants,
             sources: IndexMap::with_hasher(alloc, key),
+            links: Links::open(alloc, key),
             pools,
             outside: false,
         })
@@ -45,19 +54,40 @@ impl Counts {
     /// Equal counts.
     pub(crate) fn copy(&self) -> Result<Counts, AllocError>
         ensures users { IfOk result (λ copy. copy.users.items ≡ self.now.users.items) }
+        ensures grants { IfOk result (λ copy. copy.grants.items ≡ self.now.grants.items) }
         ensures sources { IfOk result (λ copy. copy.sources.entries ≡ self.now.sources.entries) }
         ensures pools { IfOk result (λ copy. copy.pools.items ≡ self.now.pools.items) }
         ensures outside { IfOk result (λ copy. copy.outside ≡ self.now.outside) }
     {
         let users = self.users.clone()?;
+        let grants = self.grants.clone()?;
         let sources = self.sources.clone()?;
+        let links = self.links.copy()?;
         let pools = copy_pools(&self.pools)?;
         Ok(Counts {
             users,
+            grants,
             sources,
+            links,
             pools,
             outside: self.outside,
         })
+    }
+
+    /// Makes memory ready for one more session.
+    pub(crate) fn room(&mut self) -> Result<(), AllocError>
+        ensures users { self.new.users ≡ self.old.users }
+        ensures grants { self.new.grants ≡ self.old.grants }
+        ensures sources { self.new.sources.entries ≡ self.old.sources.entries }
+        ensures pools { self.new.pools ≡ self.old.pools }
+        ensures outside { self.new.outside ≡ self.old.outside }
+        ensures ready { OnOk result (HasRoom self.new) }
+        ensures kept { HasRoom self.old → IsOk result }
+        ensures still { HasRoom self.old → HasRoom self.new }
+    {
+        self.sources.reserve(1)?;
+        self.links.newest.reserve(1)?;
+        self.links.neighbours.reserve(1)
     }
 
     /// A session comes, which is Pending. Memory was made ready for its source.
@@ -66,8 +96,10 @@ impl Counts {
         requires pools { All HasLowUses self.old.pools.items }
         ensures { Comes self.old session.now self.new }
     {
-        add_open(&mut self.users, session.user as usize);
+        add_one(&mut self.users, session.user as usize);
+        add_one(&mut self.grants, session.user as usize);
         sources::add_open(&mut self.sources, session.source);
+        self.links.add(session.source, session.number);
         self.outside = self.outside || is_outside(&self.pools, session.address);
         come_to_pools(&mut self.pools, session.address, session.number);
     }
@@ -79,6 +111,7 @@ impl Counts {
         if let Some(session) = found {
             remove_open(&mut self.users, session.user as usize, session.phase);
             sources::remove_open(&mut self.sources, session.source, session.phase);
+            self.links.remove(session.source, session.number);
         }
     }
 
@@ -97,7 +130,9 @@ impl Tally<Session> for Counts {
 
     fn leave(&mut self, session: &Session) {
         remove_open(&mut self.users, session.user as usize, session.phase);
+        remove_one(&mut self.grants, session.user as usize);
         sources::remove_open(&mut self.sources, session.source, session.phase);
+        self.links.remove(session.source, session.number);
         leave_pools(&mut self.pools, session.address);
     }
 }
@@ -108,9 +143,9 @@ fn zeros(alloc: Global, len: usize) -> Result<Vec<u64>, AllocError>
     vec![in alloc; 0; len]
 }
 
-// One open session more at a place.
-fn add_open(counts: &mut [u64], place: usize)
-    ensures { GainsOpen place counts.old counts.new }
+// One session more at a place.
+fn add_one(counts: &mut [u64], place: usize)
+    ensures { GainsOne place counts.old counts.new }
 {
     if place < counts.len() {
         counts[place] = counts[place].saturating_add(1);
@@ -121,7 +156,16 @@ fn add_open(counts: &mut [u64], place: usize)
 fn remove_open(counts: &mut [u64], place: usize, phase: Phase)
     ensures { LosesAt place phase counts.old counts.new }
 {
-    if phase != Phase::Ended && place < counts.len() {
+    if phase != Phase::Ended {
+        remove_one(counts, place);
+    }
+}
+
+// One session less at a place.
+fn remove_one(counts: &mut [u64], place: usize)
+    ensures { LosesOne place counts.old counts.new }
+{
+    if place < counts.len() {
         counts[place] = counts[place].saturating_sub(1);
     }
 }

@@ -18,6 +18,7 @@ mod found;
 mod free;
 mod grant;
 mod lawful;
+mod links;
 mod report;
 mod row;
 mod session;

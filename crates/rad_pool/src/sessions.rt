@@ -1,6 +1,7 @@
 //! The table of sessions.
-ghost use Rattle.std.specs.Prelude.{◌≡◌, ◌≤◌, ◌<◌, ◌↔◌, IsTrue, length, IfOk, IsErrOf, IsOk, OnOk, false, true};
+ghost use Rattle.std.specs.Prelude.{◌≡◌, ◌≤◌, ◌<◌, ◌↔◌, ◌||◌, nat_le, IsTrue, length, IfOk, IsErrOf, IsOk, OnOk, false, true};
 ghost use Rattle.std.specs.Iterator.{YieldsFirst, item_count};
+ghost use Rattle.rad_config.specs.Configurations.{is_reached};
 ghost use Rattle.rad_config.specs.Spans.{moment_max, spans_of};
 ghost use Rattle.rad_pool.specs.Grants.{IsGranted, granted, with_session};
 ghost use Rattle.rad_pool.specs.Meant.{meant};
@@ -10,8 +11,9 @@ use crate::counts::Counts;
 use crate::grant::{Grant, Refusal};
 use crate::report::Report;
 use crate::session::{Phase, Session};
+use crate::users::UserCounts;
 use crate::{changes, found, free, users};
-use rad_config::{Config, Spans};
+use rad_config::{Config, Spans, User};
 use rad_rows::{HashKey, Iter};
 use std::alloc::{AllocError, Global};
 use std::marker::Model;
@@ -102,7 +104,7 @@ impl Sessions {
     {
         let Sessions { rows, counts } = self;
         let asking = config.user_at(user);
-        if asking.sessions as u64 <= users::count_open(rows, counts, now, user) {
+        if is_limited(asking, users::count_live(rows, counts, now, user)) {
             return Err(Refusal::SessionLimit);
         }
         let address = match asking.pool {
@@ -128,7 +130,7 @@ impl Sessions {
         ensures ready { OnOk result (self.new.has_room ≡ true) }
         ensures kept { self.old.has_room ≡ true → IsOk result }
     {
-        self.counts.sources.reserve(1)?;
+        self.counts.room()?;
         self.rows.room()
     }
 
@@ -218,8 +220,8 @@ impl Sessions {
 
     /// An Accounting-On or an Accounting-Off was reported: each session whose Access-Request came from this address has ended.
     ///
-    /// Only the address counts, not the client. The sessions keep their addresses as after a Stop. Where no open session is of that
-    /// address there is nothing to look for, and nothing changes; else it goes over all sessions. Source: RFC 2866, section 5.1.
+    /// Only the address counts, not the client. The sessions keep their addresses as after a Stop. It takes time for the open
+    /// sessions of that address alone. Source: RFC 2866, section 5.1.
     pub fn end_source(&mut self, source: u32)
         ensures reset { self.new.table ≡ source_reset source self.old.table }
         ensures room { self.old.has_room ≡ true → self.new.has_room ≡ true }
@@ -267,6 +269,16 @@ impl Sessions {
     {
         self.rows.same(&other.rows)
     }
+}
+
+// Whether a user who has so many sessions may have no more.
+fn is_limited(user: &User, live: UserCounts) -> bool
+    ensures { result ≡ (nat_le user.now.sessions live.open_count || is_reached user.now.grants live.total) }
+{
+    u64::from(user.sessions) <= live.open_count
+        || user
+            .grants
+            .is_some_and(|most| u64::from(most) <= live.total)
 }
 
 /// The sessions that are left, oldest first. Contracts see them as a list.

@@ -1,9 +1,8 @@
-//! How many open sessions a user has.
+//! How many sessions a user has.
 ghost use Rattle.std.specs.Prelude.{◌≡◌, ◌≤◌};
 ghost use Rattle.rad_config.specs.Spans.{moment_max};
 ghost use Rattle.rad_pool.specs.Counts.{HoldsCounts};
-ghost use Rattle.rad_pool.specs.Dead.{TakesOpen};
-ghost use Rattle.rad_pool.specs.Grants.{open_sessions};
+ghost use Rattle.rad_pool.specs.Dead.{CountsUser, TakesOne};
 ghost use Rattle.rad_pool.specs.Sessions.{live_sessions};
 
 use crate::counts::Counts;
@@ -12,37 +11,49 @@ use crate::walk;
 use rad_config::Spans;
 use rad_rows::{Rows, Tally};
 
-/// The open sessions of a user, of which those that aren't live are taken off.
+/// How many sessions of a user are open, and how many there are in all.
 #[derive(Clone, Copy)]
-pub(crate) struct LiveOpen {
+pub(crate) struct UserCounts {
     pub(crate) user: u32,
-    pub(crate) count: u64,
+    pub(crate) open_count: u64,
+    pub(crate) total: u64,
 }
 
-impl Tally<Session> for LiveOpen {
-    ghost told = { λ old session new. TakesOpen old session new };
+/// The sessions that aren't live are taken off.
+impl Tally<Session> for UserCounts {
+    ghost told = { λ old session new. TakesOne old session new };
 
     fn leave(&mut self, session: &Session) {
-        if session.user == self.user && session.phase != Phase::Ended {
-            self.count = self.count.saturating_sub(1);
+        if session.user != self.user {
+            return;
+        }
+        self.total = self.total.saturating_sub(1);
+        if session.phase != Phase::Ended {
+            self.open_count = self.open_count.saturating_sub(1);
         }
     }
 }
 
-/// How many live sessions of a user are open.
-pub(crate) fn count_open(rows: &Rows<Session, Spans>, counts: &Counts, now: u64, user: u32) -> u64
+/// How many live sessions a user has.
+pub(crate) fn count_live(
+    rows: &Rows<Session, Spans>,
+    counts: &Counts,
+    now: u64,
+    user: u32,
+) -> UserCounts
     requires moment { now ≤ moment_max }
     requires counts { HoldsCounts rows.now.rows counts.now }
-    ensures { result ≡ open_sessions user (live_sessions rows.now.spans now rows.now.rows) }
+    ensures { CountsUser user (live_sessions rows.now.spans now rows.now.rows) result }
 {
     let place = user as usize;
-    if counts.users.len() <= place {
-        return walk::count_open(rows, now, user);
+    if counts.users.len() <= place || counts.grants.len() <= place {
+        return walk::count(rows, now, user);
     }
-    let mut live = LiveOpen {
+    let mut live = UserCounts {
         user,
-        count: counts.users[place],
+        open_count: counts.users[place],
+        total: counts.grants[place],
     };
     rows.tell_dead(&mut live, now);
-    live.count
+    live
 }

@@ -3,11 +3,13 @@
 ghost use Rattle.std.specs.Prelude.{◌≡◌, ◌≤◌, ◌==◌, ◌&&◌, None, Some};
 ghost use Rattle.rad_config.specs.Ranges.{IsPool};
 ghost use Rattle.rad_config.specs.Spans.{moment_max};
-ghost use Rattle.rad_pool.specs.Grants.{has_address, is_held, least_free, open_sessions};
+ghost use Rattle.rad_pool.specs.Dead.{CountsUser};
+ghost use Rattle.rad_pool.specs.Grants.{has_address, is_held, least_free};
 ghost use Rattle.rad_pool.specs.Meant.{is_meant, meant, name_agrees};
 ghost use Rattle.rad_pool.specs.Sessions.{is_live, is_open, live_sessions};
 
 use crate::session::{Phase, Session};
+use crate::users::UserCounts;
 use rad_config::{Pool, Spans};
 use rad_rows::{Row, Rows};
 
@@ -34,19 +36,24 @@ pub(crate) fn has_address(session: &Session, address: u32) -> bool
     }
 }
 
-/// How many live sessions of a user are open.
-pub(crate) fn count_open(rows: &Rows<Session, Spans>, now: u64, user: u32) -> u64
+/// How many live sessions a user has.
+pub(crate) fn count(rows: &Rows<Session, Spans>, now: u64, user: u32) -> UserCounts
     requires { now ≤ moment_max }
-    ensures { result ≡ open_sessions user (live_sessions rows.now.spans now rows.now.rows) }
+    ensures { CountsUser user (live_sessions rows.now.spans now rows.now.rows) result }
 {
     let _len = rows.len();
-    let mut count: u64 = 0;
+    let (mut open_count, mut total): (u64, u64) = (0, 0);
     for row in rows.iter() {
-        if is_live(row, rows.spans(), now) && row.user == user && is_open(row.phase) {
-            count += 1;
+        if is_live(row, rows.spans(), now) && row.user == user {
+            total += 1;
+            open_count += u64::from(is_open(row.phase));
         }
     }
-    count
+    UserCounts {
+        user,
+        open_count,
+        total,
+    }
 }
 
 /// The least address of a pool that no live session has.

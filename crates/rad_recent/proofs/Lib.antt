@@ -1,3 +1,4 @@
+mod ClientLemmas
 mod RecentLemmas
 mod IndexLemmas
 mod NumberedLemmas

@@ -2,12 +2,12 @@
 ghost use Rattle.std.specs.Prelude.{◌≡◌, ◌≤◌, ◌↔◌, IfOk, IsErrOf, IsOk, IsTrue, OnOk, false, option_map, true};
 ghost use Rattle.std.specs.Iterator.{YieldsFirst, item_count};
 ghost use Rattle.rad_config.specs.Spans.{moment_max, spans_of};
-ghost use Rattle.rad_recent.specs.Challenges.{AreSame, IsIssued, answered, cut_challenges, next_number, opening, with_challenge, without_answered};
+ghost use Rattle.rad_recent.specs.Challenges.{AreSame, IsIssued, answered, cut_challenges, next_number, opening, waiting_with, with_challenge, without_answered};
 
 use crate::answers;
-use crate::challenge::{Challenge, Nobody};
+use crate::challenge::{Challenge, Nobody, Party};
 use rad_config::Config;
-use rad_rows::{Iter, Rows};
+use rad_rows::{Iter, Row, Rows};
 use std::alloc::{AllocError, Global};
 use std::marker::Model;
 use thiserror::Error;
@@ -94,6 +94,22 @@ impl Challenges {
             return Err(IssueFault::Full);
         }
         Ok(last + 1)
+    }
+
+    /// How many live challenges of a party wait. It goes over all challenges.
+    pub fn count_of(&self, party: Party, now: u64) -> u64
+        requires { now ≤ moment_max }
+        ensures { result ≡ waiting_with party (cut_challenges now self.now.table) }
+    {
+        let rows = &self.rows;
+        let _len = rows.len();
+        let mut count: u64 = 0;
+        for challenge in rows.iter() {
+            if now < challenge.ends(&rows.spans()) && challenge.is_with(party) {
+                count += 1;
+            }
+        }
+        count
     }
 
     /// Makes memory ready for one more challenge.

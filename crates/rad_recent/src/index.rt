@@ -1,10 +1,12 @@
 //! Which row a key has.
 ghost use Rattle.std.specs.Prelude.{◌≡◌, [], cond, None, OnErr, OnOk, Some};
 ghost use Rattle.indexmap.specs.IndexMap.{hasher_of};
+ghost use Rattle.rad_recent.specs.Index.{Forgets};
 ghost use Rattle.rad_recent.specs.Numbers.{is_for, number_at};
 ghost use Rattle.rad_recent.specs.Recent.{same_key};
 
 use crate::key::Key;
+use crate::numbered::Numbered;
 use indexmap::IndexMap;
 use rad_rows::HashKey;
 use std::alloc::{AllocError, Global};
@@ -42,6 +44,17 @@ impl Index {
             None => false,
         }
     }
+}
+
+/// The row goes. The key for which memory is ready keeps its number, though it has no row then.
+pub(crate) fn leave(index: &mut Index, row: &Numbered)
+    ensures { Forgets index.old row.now index.new }
+{
+    let key = row.kept.key;
+    if index.is_ready(&key) {
+        return;
+    }
+    forget(&mut index.map, &key);
 }
 
 /// The number that a key has.

@@ -1,9 +1,10 @@
 //! Rows of kept replies, and the index that finds them.
-ghost use Rattle.std.specs.Prelude.{◌≡◌, ◌≤◌, ◌&&◌, ◌++◌, ◌∷◌, [], All, false, filter, find, not, option_copied, option_map, IsOk, IsSome, None, OnErr, OnOk, Some};
+ghost use Rattle.std.specs.Prelude.{◌≡◌, ℕ, ◌+◌, ◌≤◌, ◌&&◌, ◌++◌, ◌∷◌, [], All, count_by, false, filter, find, not, option_copied, option_map, IsOk, IsSome, None, OnErr, OnOk, Some};
 ghost use Rattle.rad_config.specs.Spans.{moment_max};
 ghost use Rattle.rad_recent.specs.Index.{HoldsIndex, IsIndexed, is_row_live, replies_of};
 ghost use Rattle.rad_recent.specs.Numbers.{number_at};
-ghost use Rattle.rad_recent.specs.Recent.{is_reply_live, is_reply_to, same_key};
+ghost use Rattle.rad_recent.specs.Notes.{one_of};
+ghost use Rattle.rad_recent.specs.Recent.{is_of, is_reply_live, is_reply_to, same_key};
 
 use crate::index::{self, Index};
 use crate::kept::Kept;
@@ -37,6 +38,23 @@ pub(crate) fn find<'a>(
         return None;
     }
     Some(row)
+}
+
+/// The client whose share the reply of a key takes, live or not; None if there is no such reply, or it takes nobody's.
+pub(crate) fn client_of(rows: &Rows<Numbered, u64>, index: &Index, key: &Key) -> Option<u32>
+    requires { All (IsIndexed index.now.map.entries) rows.now.rows }
+    ensures { (client : ℕ) → count_by (is_of client)
+        (filter (λ reply. not (same_key key.now reply.key)) (replies_of rows.now.rows))
+        + one_of client result ≡ count_by (is_of client) (replies_of rows.now.rows) }
+{
+    let _last = rows.last();
+    let Some(number) = index::find(&index.map, key) else {
+        return None;
+    };
+    let Some(row) = rows.get(number) else {
+        return None;
+    };
+    row.kept.client
 }
 
 // Whether this is the live reply to a request with this key and these octets.

@@ -15,17 +15,18 @@
 mod answers;
 mod challenge;
 mod challenges;
+mod clients;
 mod index;
 mod indexed;
 mod kept;
 mod key;
 mod lawful;
+mod notes;
 mod numbered;
 mod others;
 mod recent;
-mod tally;
 
-pub use challenge::{Challenge, state_value};
+pub use challenge::{Challenge, Party, state_value};
 pub use challenges::{CHALLENGES_MAX, ChallengeRows, Challenges, IssueFault};
 pub use kept::Kept;
 pub use key::Key;

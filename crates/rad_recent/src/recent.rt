@@ -3,13 +3,14 @@ ghost use Rattle.std.specs.Prelude.{◌≡◌, ◌≤◌, ◌↔◌, IfOk, IsErr
 ghost use Rattle.std.specs.Iterator.{YieldsFirstBy, item_count};
 ghost use Rattle.rad_packet.specs.Ladders.{refuse_if};
 ghost use Rattle.rad_config.specs.Spans.{moment_max, spans_of};
-ghost use Rattle.rad_recent.specs.Recent.{IsKept, beside, cut_replies, is_full, opening, reply_to, with_reply, without_key};
+ghost use Rattle.rad_recent.specs.Recent.{IsKept, beside, cut_replies, is_full, opening, replies_for, reply_to, with_reply, without_key};
 
 use crate::index::Index;
 use crate::kept::Kept;
 use crate::key::Key;
+use crate::notes::Notes;
 use crate::numbered::{self, Numbered};
-use crate::{indexed, others};
+use crate::{clients, indexed, others};
 use rad_config::Config;
 use rad_packet::{Body, Octets};
 use rad_rows::{HashKey, Iter, Rows};
@@ -38,22 +39,23 @@ pub enum KeepFault {
 #[derive(Drop)]
 pub struct Recent {
     rows: Rows<Numbered, u64>,
-    index: Index,
+    notes: Notes,
 }
 
 impl Model for Recent {
-    ghost use Rattle.rad_recent.specs.Index.{HoldsIndex, replies_of};
+    ghost use Rattle.rad_recent.specs.Index.{replies_of};
+    ghost use Rattle.rad_recent.specs.Notes.{HoldsNotes};
     ghost use Rattle.rad_recent.specs.Recent.{SeenReplies};
 
     ghost Value = { SeenReplies };
 
     ghost view = { λ recent. record {
       table = record { kept = replies_of recent.rows.rows; window = recent.rows.spans };
-      ready = recent.index.ready;
+      ready = recent.notes.index.ready;
     } };
 
     ghost invariant = { λ recent.
-        HoldsIndex recent.rows.rows recent.rows.last recent.rows.has_room recent.index };
+        HoldsNotes recent.rows.rows recent.rows.last recent.rows.has_room recent.notes };
 }
 
 impl Recent {
@@ -64,18 +66,20 @@ impl Recent {
         ensures table { IfOk result (λ recent. recent.table ≡ opening (spans_of config.now).window) }
         ensures ready { IfOk result (λ recent. recent.ready ≡ None) }
     {
-        Ok(Recent::open_keyed(alloc, config, HashKey::KNOWN))
+        Recent::open_keyed(alloc, config, HashKey::KNOWN)
     }
 
     /// The same table, with a key for the hash of its index. Contracts don't see the key.
-    pub fn open_keyed(alloc: Global, config: &Config, key: HashKey) -> Recent
-        ensures table { result.table ≡ opening (spans_of config.now).window }
-        ensures ready { result.ready ≡ None }
+    pub fn open_keyed(alloc: Global, config: &Config, key: HashKey) -> Result<Recent, AllocError>
+        ensures table { IfOk result (λ recent. recent.table ≡ opening (spans_of config.now).window) }
+        ensures ready { IfOk result (λ recent. recent.ready ≡ None) }
     {
-        Recent {
+        let clients = clients::none(alloc, config.clients().len())?;
+        let index = Index::open(alloc, key);
+        Ok(Recent {
             rows: Rows::open(alloc, config.spans().window),
-            index: Index::open(alloc, key),
-        }
+            notes: Notes { index, clients },
+        })
     }
 
     /// The kept replies, oldest first; also those that are no longer live but not removed yet.
@@ -96,7 +100,7 @@ impl Recent {
         ensures ready { self.new.ready ≡ self.old.ready }
     {
         let _last = self.rows.last();
-        self.rows.expire(&mut self.index, now);
+        self.rows.expire(&mut self.notes, now);
     }
 
     /// The body of the live reply to a request with this key and these octets up to Length.
@@ -107,8 +111,16 @@ impl Recent {
         ensures { option_copied result ≡ option_map (λ reply. reply.body)
             (reply_to key.now octets.now (cut_replies now self.now.table)) }
     {
-        let row = indexed::find(&self.rows, &self.index, key, octets, now)?;
+        let row = indexed::find(&self.rows, &self.notes.index, key, octets, now)?;
         Some(&row.kept.body)
+    }
+
+    /// How many live replies take the share of the client at a place, that to a request with this key left out.
+    pub fn count_of(&self, client: u32, key: &Key, now: u64) -> u64
+        requires { now ≤ moment_max }
+        ensures { result ≡ replies_for client (beside key.now now self.now.table) }
+    {
+        others::count_of(&self.rows, &self.notes, now, client, key)
     }
 
     /// What `keep` would answer at this moment for a request with this key if there is memory.
@@ -117,7 +129,7 @@ impl Recent {
         ensures answer { result ≡ refuse_if (is_full (beside key.now now self.now.table)) Full }
         ensures memory { IsErrOf result NoMemory → ⊥ }
     {
-        if others::are_many(&self.rows, &self.index.map, now, key, KEPT_MAX) {
+        if others::are_many(&self.rows, &self.notes.index.map, now, key, KEPT_MAX) {
             return Err(KeepFault::Full);
         }
         Ok(())
@@ -144,7 +156,7 @@ impl Recent {
         ensures still { self.old.ready ≡ Some key.now → IsOk result }
         ensures unready { OnErr result (self.new.ready ≡ self.old.ready) }
     {
-        indexed::make_room(&mut self.rows, &mut self.index, key)
+        indexed::make_room(&mut self.rows, &mut self.notes.index, key)
     }
 
     /// Keeps a reply as the last, in place of one to a request with its key. Memory was made ready for it.
@@ -153,17 +165,34 @@ impl Recent {
         ensures table { self.new.table ≡ with_reply reply (without_key reply.key self.old.table) }
         ensures ready { self.new.ready ≡ None }
     {
-        indexed::push(&mut self.rows, &mut self.index, reply);
+        let Recent { rows, notes } = self;
+        let Notes { index, clients } = notes;
+        let _last = rows.last();
+        clients::remove_one(clients, indexed::client_of(rows, index, &reply.key));
+        clients::add_one(clients, reply.client);
+        indexed::push(rows, index, reply);
     }
 
-    /// Removes the replies that are no longer live and the one to a request with this key, and keeps a new one as the last.
+    /// Removes the reply to a request with this key, live or not.
+    pub fn remove(&mut self, key: &Key)
+        ensures table { self.new.table ≡ without_key key.now self.old.table }
+        ensures ready { self.new.ready ≡ self.old.ready }
+    {
+        let Recent { rows, notes } = self;
+        let Notes { index, clients } = notes;
+        clients::remove_one(clients, indexed::client_of(rows, index, key));
+        indexed::remove(rows, index, key);
+    }
+
+    /// Removes the replies that are no longer live and the one to a request with this key, and keeps a new one as the last, which
+    /// takes no client's share.
     ///
     /// The octets are those of the request up to Length. Refusals are reported in the order of `KeepFault`. After a refusal the table
     /// is as it was, and the octets and the body are dropped. The first `keep` after `room` with its key doesn't answer `NoMemory`.
     pub fn keep(&mut self, key: Key, octets: Vec<u8>, body: Body, now: u64) -> Result<(), KeepFault>
         requires { now ≤ moment_max }
         ensures outcome { IsKept now
-            (record { key = key; octets = octets.items; body = body; made = now })
+            (record { client = None; key = key; octets = octets.items; body = body; made = now })
             self.old.table result self.new.table }
         ensures after_room { self.old.ready ≡ Some key → IsErrOf result NoMemory → ⊥ }
         ensures unready { IsErrOf result Full → self.new.ready ≡ self.old.ready }
@@ -181,7 +210,7 @@ impl Recent {
     ) -> Result<(), KeepFault>
         requires { now ≤ moment_max }
         ensures outcome { IsKept now
-            (record { key = key; octets = octets; body = body; made = now })
+            (record { client = None; key = key; octets = octets; body = body; made = now })
             self.old.table result self.new.table }
         ensures after_room { self.old.ready ≡ Some key → IsErrOf result NoMemory → ⊥ }
         ensures unready { IsErrOf result Full → self.new.ready ≡ self.old.ready }
@@ -189,6 +218,7 @@ impl Recent {
         self.room(&key, now)?;
         self.expire(now);
         self.put(Kept {
+            client: None,
             key,
             octets,
             body,
@@ -203,10 +233,14 @@ impl Recent {
         ensures ready { IfOk result (λ copy. copy.ready ≡ None) }
     {
         let rows = self.rows.copy()?;
-        let map = self.index.map.clone()?;
+        let map = self.notes.index.map.clone()?;
+        let clients = self.notes.clients.clone()?;
         let mut index = Index { map, ready: None };
-        indexed::forget_vacant(&rows, &mut index, self.index.ready);
-        Ok(Recent { rows, index })
+        indexed::forget_vacant(&rows, &mut index, self.notes.index.ready);
+        Ok(Recent {
+            rows,
+            notes: Notes { index, clients },
+        })
     }
 
     /// Whether the other table has the same replies.

@@ -16,7 +16,7 @@ use Rattle.rad_config.specs.Configurations.{Configuration, user_place}
 use Rattle.rad_config.specs.Ranges.{IsConfiguration}
 use Rattle.rad_config.specs.declared.user.User.{User}
 use Rattle.rad_recent.specs.Challenges.{cut_challenges, has_state, is_challenge_live}
-use Rattle.rad_server.specs.Access.{access, access_with, answer_matches, decided, decision_on_answer, decision_on_password, is_name_of, password_matches, session_for, user_at, user_by_answer, user_by_password, user_challenged, user_decision, without_challenge}
+use Rattle.rad_server.specs.Access.{access, access_with, answer_matches, decided, decision_on_answer, decision_on_password, is_name_of, password_matches, session_for, user_by_answer, user_by_password, user_challenged, user_decision, without_challenge}
 use Rattle.rad_server.specs.Accounting.{account}
 use Rattle.rad_server.specs.Changes.{CanBeMade, changed_by}
 use Rattle.rad_server.specs.Credentials.{Credentials, credentials_in}
@@ -26,6 +26,7 @@ use Rattle.rad_server.specs.Replies.{accounting_response}
 use Rattle.rad_server.specs.States.{State}
 use Rattle.rad_server.specs.Steps.{reply_by_port}
 use Rattle.rad_server.specs.TableStates.{AreUsable, state_for}
+use Rattle.rad_server.specs.Users.{user_at}
 use Rattle.rad_server.specs.declared.change.Change.{Change}
 use Rattle.rad_server.specs.declared.change.Change.TheVariants.{Nothing}
 use Rattle.rad_server.specs.declared.denial.Denial.{Denial}
@@ -187,11 +188,11 @@ answer_is configuration request login answer ranges door known sent user right =
 after_password : (configuration : Configuration) (request : Request) (login : Login) (known : IsLogin configuration request login)
     → known.credentials.state ≡ None → (state : State) (draw : List ℕ)
     → access configuration state request draw
-    ≡ decided configuration state request draw (logged_in login.user (is_right_in login.check) >>= (λ user. user_decision configuration state user))
+    ≡ decided configuration state request draw (logged_in login.user (is_right_in login.check) >>= (λ user. user_decision configuration state request.client user))
 unfolding decision_on_password
 after_password configuration request login known none state draw =
     reads configuration request login None known none state draw
-    ∙ ap (λ found. decided configuration state request draw (found >>= (λ user. user_decision configuration state user)))
+    ∙ ap (λ found. decided configuration state request draw (found >>= (λ user. user_decision configuration state request.client user)))
     (by_password configuration request login known (ap is_some none))
 
 -- it is right
@@ -201,7 +202,7 @@ password_is configuration request login user door known none found right = recor
   within = subst (λ o. IfSome o (λ place. place < length configuration.users)) found known.within;
   says = λ state draw.
       by_access configuration request door state draw ∙ after_password configuration request login known none state draw
-      ∙ ap (λ o. decided configuration state request draw (o >>= (λ place. user_decision configuration state place)))
+      ∙ ap (λ o. decided configuration state request draw (o >>= (λ place. user_decision configuration state request.client place)))
       (ap (λ o. logged_in o (is_right_in login.check)) found ∙ ap (logged_in (Some user)) right);
 }
 
@@ -212,7 +213,7 @@ pub denied_is : (configuration : Configuration) (request : Request) (login : Log
 denied_is configuration request login door known none refused = record {
   says = λ state draw.
       by_access configuration request door state draw ∙ after_password configuration request login known none state draw
-      ∙ ap (λ o. decided configuration state request draw (o >>= (λ place. user_decision configuration state place))) refused;
+      ∙ ap (λ o. decided configuration state request draw (o >>= (λ place. user_decision configuration state request.client place))) refused;
   possible = λ state. tt;
 }
 

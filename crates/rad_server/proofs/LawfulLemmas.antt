@@ -1,7 +1,7 @@
 -- The state before the first request is lawful, and a step for a request that may be answered leads from a lawful state to a lawful
 -- one. The laws of the tables come from rad_pool and rad_recent.
 use Rattle.std.proofs.Common.{◌≡◌, ℕ, ◌≤◌, ◌<◌, Bool, true, false, cond, not, ◌==◌, List, [], ◌∷◌, length, find, All, Option, Some, None, IfSome, option_map, Result, Ok, Err, ok_or, arith, refl, ap, sym, subst, ◌∙◌}
-use Rattle.std.proofs.lemmas.Bool.{cond_both, ltb-true}
+use Rattle.std.proofs.lemmas.Bool.{cond_both, ltb-true, or_parts}
 use Rattle.std.proofs.lemmas.List.Elements.{All-filter, All-head, All-nil, All-push, All-tail, All-weaker, filter_passes}
 use Rattle.std.proofs.lemmas.Option.{IfSome_then, slice_get-get_or}
 use Rattle.std.specs.List.{position_or_len}
@@ -15,11 +15,12 @@ use Rattle.rad_packet.specs.Packets.{packet_octets}
 use Rattle.rad_packet.specs.Types.{type_acct_status_type}
 use Rattle.rad_auth.specs.Admission.{IsAnswerable}
 use Rattle.rad_auth.specs.Authenticators.{sixteen_zeros}
+use Rattle.rad_auth.specs.Clients.{client_place}
 use Rattle.rad_auth.specs.Sealing.{IsReply}
 use Rattle.rad_auth.specs.declared.arrival.Door.{Door}
 use Rattle.rad_auth.specs.declared.arrival.Door.TheVariants.{Auth, Acct}
 use Rattle.rad_auth.specs.declared.arrival.Request.{Request}
-use Rattle.rad_config.specs.Configurations.{Configuration, user_place}
+use Rattle.rad_config.specs.Configurations.{Configuration, is_reached, user_place}
 use Rattle.rad_config.specs.Ranges.{HasLength, IsConfiguration, IsUser}
 use Rattle.rad_config.specs.Spans.{milliseconds, moment_max, spans_of}
 use Rattle.rad_config.specs.declared.spans.Spans.{Spans}
@@ -29,26 +30,30 @@ use Rattle.rad_pool.specs.Lawful.{ExpiryKeepsTheLaw, GrantKeepsTheLaw, IsLawful 
 use Rattle.rad_pool.specs.Sessions.{Sessions, cut, renewed, source_reset, stopped}
 use Rattle.rad_pool.specs.declared.grant.Grant.{Grant}
 use Rattle.rad_pool.specs.declared.grant.Refusal.{Refusal}
-use Rattle.rad_recent.specs.Challenges.{Challenges, answered, has_state, is_challenge_live, next_number}
+use Rattle.rad_recent.specs.Challenges.{Challenges, answered, has_state, is_challenge_live, next_number, waiting_with}
 use Rattle.rad_recent.specs.Lawful.{AnswerLeavesLawfulChallenges, AreLawfulReplies, ExpiryLeavesLawfulChallenges, ExpiryLeavesLawfulReplies, IssueLeavesLawfulChallenges, KeepingLeavesLawfulReplies, OpeningChallengesAreLawful, OpeningRepliesAreLawful, RemovalLeavesLawfulReplies}
-use Rattle.rad_recent.specs.Recent.{Replies, cut_replies, is_full, is_reply_live, same_key, without_key}
+use Rattle.rad_recent.specs.Recent.{Replies, cut_replies, is_full, is_reply_live, replies_for, same_key, without_key}
 use Rattle.rad_recent.specs.Recent as recent
 use Rattle.rad_recent.specs.declared.challenge.Challenge.{Challenge}
+use Rattle.rad_recent.specs.declared.challenge.Party.TheVariants as Party
 use Rattle.rad_recent.specs.declared.challenges.IssueFault.{IssueFault}
 use Rattle.rad_recent.specs.declared.kept.Kept.{Kept}
 use Rattle.rad_server.proofs.AddressLemmas.{KeepsSessions, OutlastReplies, WasSeen, accept_has_session, grant_keeps, live_has, renewal_keeps, reset_keeps, still_has, stop_keeps}
 use Rattle.rad_server.proofs.ReplyLemmas.{accept_is_reply, accounting_is_reply, challenge_is_reply, reject_is_reply}
-use Rattle.rad_server.specs.Access.{Challenged, Decision, Granted, access, access_with, answer_matches, answered_challenge, challenge_for, challenge_or_denial, decided, decision, decision_on_answer, decision_on_password, is_name_of, password_matches, session_for, session_or_denial, user_at, user_by_answer, user_by_password, without_challenge}
+use Rattle.rad_server.proofs.ShareLemmas.{MayWait, challenges_within, none_within, replies_within, shares_with_one, waiting_with_one}
+use Rattle.rad_server.specs.Access.{Challenged, Decision, Granted, access, access_with, answer_matches, answered_challenge, challenge_for, challenge_number, challenge_or_denial, decided, decision, decision_on_answer, decision_on_password, is_name_of, number_or_denial, password_matches, session_for, session_or_denial, user_by_answer, user_by_password, without_challenge}
 use Rattle.rad_server.specs.Accounting.{account, changed, first_integer, reported, session_meant, shows_reset, shows_session, status_stop}
 use Rattle.rad_server.specs.Credentials.{Credentials, credentials_in}
-use Rattle.rad_server.specs.Lawful.{HasItsSession, IsChallengeOf, IsLawful, IsRepeatable}
+use Rattle.rad_server.specs.Lawful.{HasItsSession, IsChallengeOf, IsLawful, IsOwned, IsRepeatable}
 use Rattle.rad_server.specs.Replies.{accounting_response}
+use Rattle.rad_server.specs.Shares.{challenges_limit, challenges_share, lacks_room, replies_share}
 use Rattle.rad_server.specs.States.{State, at_moment, opening}
 use Rattle.rad_server.specs.Steps.{answer, answer_with, key_of, reply_by_port, reply_kept, sent_and_kept, step, with_reply, without_reply}
+use Rattle.rad_server.specs.Users.{user_at}
 use Rattle.rad_server.specs.declared.answer.Answer.{Answer}
 use Rattle.rad_server.specs.declared.answer.Answer.TheVariants.{Busy}
 use Rattle.rad_server.specs.declared.denial.Denial.{Denial}
-use Rattle.rad_server.specs.declared.denial.Denial.TheVariants.{AccessDenied, StateUnknown, WrongState}
+use Rattle.rad_server.specs.declared.denial.Denial.TheVariants.{AccessDenied, ServerFull, SessionLimit, StateUnknown, WrongState}
 
 -- what holds of the tables of the opening state
 pub record OpeningLaws : Type 0 where
@@ -151,9 +156,15 @@ opening_is_lawful laws configuration = record {
   hold = refl;
   sessions = laws.sessions configuration 0 (spans_of configuration);
   replies = laws.replies 0 (spans_of configuration).window;
+  owned = All-nil (IsOwned configuration);
+  shares = λ client. none_within (replies_share configuration client);
   repeatable = All-nil IsRepeatable;
   addresses = All-nil (HasIts (opening configuration).sessions);
   challenges = laws.challenges 0 (spans_of configuration).hold;
+  waiting = record {
+    clients = λ client. none_within (challenges_share configuration client);
+    users = λ user. none_within (challenges_limit configuration user);
+  };
   configured = All-nil (IsChallengeOf configuration);
 }
 
@@ -174,9 +185,12 @@ at_moment_is_lawful laws configuration state moment valid within lawful =
       hold = lawful.hold;
       sessions = laws.sessions configuration state.clock now state.sessions later lawful.sessions;
       replies = laws.replies state.clock now state.replies later lawful.replies;
+      owned = All-filter (is_reply_live state.replies.window now) (IsOwned configuration) state.replies.kept lawful.owned;
+      shares = replies_within configuration (is_reply_live state.replies.window now) state.replies lawful.shares;
       repeatable = All-filter (is_reply_live state.replies.window now) IsRepeatable state.replies.kept lawful.repeatable;
       addresses = addresses_live now state.sessions state.replies same outlast seen lawful.addresses;
       challenges = laws.challenges state.clock now state.challenges later lawful.challenges;
+      waiting = challenges_within configuration (is_challenge_live state.challenges.hold now) state.challenges lawful.waiting;
       configured = All-filter (is_challenge_live state.challenges.hold now) (IsChallengeOf configuration) state.challenges.challenges lawful.configured;
     }
 
@@ -240,64 +254,76 @@ place_by_answer configuration request challenged credentials known =
 
 -- ---- the decision
 
--- What a decision promises: a challenge is for a user who has one, where one more may be made; a session is what the rule grants.
-abbrev IsSound : Configuration → State → Result Decision Denial → Type 0
-IsSound configuration state (Err denial) = Unit {0}
-IsSound configuration state (Ok (Challenged user)) =
+-- What a decision promises: a challenge is for a user who has one, where one more may be made for that user and the client; a session
+-- is what the rule grants.
+abbrev IsSound : Configuration → State → ℕ → Result Decision Denial → Type 0
+IsSound configuration state client (Err denial) = Unit {0}
+IsSound configuration state client (Ok (Challenged user)) =
     IsPlace configuration user × (is_some (user_at configuration user).challenge ≡ true) × IsOk (next_number state.challenges)
-IsSound configuration state (Ok (Granted user grant)) = IsPlace configuration user × (granted configuration user state.sessions ≡ Ok grant)
+    × MayWait configuration client user state.challenges
+IsSound configuration state client (Ok (Granted user grant)) = IsPlace configuration user × (granted configuration user state.sessions ≡ Ok grant)
 
 -- a session that is granted to a user of the configuration is sound
-session_is_sound : (configuration : Configuration) (state : State) (user : ℕ) → IsPlace configuration user
-    → IsSound configuration state (session_for configuration state user)
-session_is_sound configuration state user within = at (granted configuration user state.sessions) refl
+session_is_sound : (configuration : Configuration) (state : State) (client user : ℕ) → IsPlace configuration user
+    → IsSound configuration state client (session_for configuration state user)
+session_is_sound configuration state client user within = at (granted configuration user state.sessions) refl
   where
-    at : (r : Result Grant Refusal) → granted configuration user state.sessions ≡ r → IsSound configuration state (session_or_denial user r)
+    at : (r : Result Grant Refusal) → granted configuration user state.sessions ≡ r → IsSound configuration state client (session_or_denial user r)
     at (Ok grant) is = (within, is)
     at (Err refusal) is = tt
 
 -- a challenge for a user of the configuration who has one is sound
-challenge_is_sound : (configuration : Configuration) (state : State) (user : ℕ) → IsPlace configuration user
-    → is_some (user_at configuration user).challenge ≡ true → IsSound configuration state (challenge_for state user)
-challenge_is_sound configuration state user within has = at (next_number state.challenges) refl
+challenge_is_sound : (configuration : Configuration) (state : State) (client user : ℕ) → IsPlace configuration user
+    → is_some (user_at configuration user).challenge ≡ true → IsSound configuration state client (challenge_for configuration state client user)
+unfolding challenge_number
+challenge_is_sound configuration state client user within has =
+    by_checks (is_reached (challenges_limit configuration user) (waiting_with (Party.User user) state.challenges)) refl
+    (is_reached (challenges_share configuration client) (waiting_with (Party.Client client) state.challenges)) refl
   where
-    at : (r : Result ℕ IssueFault) → next_number state.challenges ≡ r → IsSound configuration state (challenge_or_denial user r)
-    at (Ok number) is = (within, has, rw (is) refl)
-    at (Err fault) is = tt
+    at : MayWait configuration client user state.challenges → (r : Result ℕ IssueFault) → next_number state.challenges ≡ r → IsSound configuration state client (challenge_or_denial user (number_or_denial r))
+    at may (Ok number) is = (within, has, rw (is) refl, may)
+    at may (Err fault) is = tt
+
+    by_checks : (own : Bool) → is_reached (challenges_limit configuration user) (waiting_with (Party.User user) state.challenges) ≡ own
+        → (shared : Bool) → is_reached (challenges_share configuration client) (waiting_with (Party.Client client) state.challenges) ≡ shared
+        → IsSound configuration state client (challenge_or_denial user (refuse_if own SessionLimit >>= (λ own. refuse_if shared ServerFull >>= (λ shared. number_or_denial (next_number state.challenges)))))
+    by_checks true own shared shared_is = tt
+    by_checks false own true shared_is = tt
+    by_checks false own false shared_is = at (record { own = own; shared = shared_is }) (next_number state.challenges) refl
 
 -- what is decided for a user is sound, if it is for each user of the configuration
-sound_step : (configuration : Configuration) (state : State) (user : Result ℕ Denial) (next : ℕ → Result Decision Denial)
-    → IfOk user (IsPlace configuration) → ((place : ℕ) → IsPlace configuration place → IsSound configuration state (next place))
-    → IsSound configuration state (user >>= next)
-sound_step configuration state (Err denial) next known sound = tt
-sound_step configuration state (Ok place) next known sound = sound place known
+sound_step : (configuration : Configuration) (state : State) (client : ℕ) (user : Result ℕ Denial) (next : ℕ → Result Decision Denial)
+    → IfOk user (IsPlace configuration) → ((place : ℕ) → IsPlace configuration place → IsSound configuration state client (next place))
+    → IsSound configuration state client (user >>= next)
+sound_step configuration state client (Err denial) next known sound = tt
+sound_step configuration state client (Ok place) next known sound = sound place known
 
 -- the decision on a request that answers a challenge is sound
 on_answer_is_sound : (configuration : Configuration) (state : State) (request : Request) (challenged : Option ℕ) (credentials : Credentials)
-    → IfSome challenged (IsPlace configuration) → IsSound configuration state (decision_on_answer configuration state request challenged credentials)
+    → IfSome challenged (IsPlace configuration) → IsSound configuration state request.client (decision_on_answer configuration state request challenged credentials)
 unfolding decision_on_answer
 on_answer_is_sound configuration state request challenged credentials known =
-    sound_step configuration state (user_by_answer configuration request challenged credentials) (session_for configuration state)
-    (place_by_answer configuration request challenged credentials known) (session_is_sound configuration state)
+    sound_step configuration state request.client (user_by_answer configuration request challenged credentials) (session_for configuration state)
+    (place_by_answer configuration request challenged credentials known) (session_is_sound configuration state request.client)
 
 -- the decision on another request is sound
 on_password_is_sound : (configuration : Configuration) (state : State) (request : Request) (credentials : Credentials)
-    → IsSound configuration state (decision_on_password configuration state request credentials)
+    → IsSound configuration state request.client (decision_on_password configuration state request credentials)
 unfolding decision_on_password
 on_password_is_sound configuration state request credentials =
-    sound_step configuration state (user_by_password configuration request credentials) _ (place_by_password configuration request credentials)
+    sound_step configuration state request.client (user_by_password configuration request credentials) _ (place_by_password configuration request credentials)
     (λ user within.
-    let challenge : Result Decision Denial = challenge_for state user in
+    let challenge : Result Decision Denial = challenge_for configuration state request.client user in
     let session : Result Decision Denial = session_for configuration state user in
-    cond_both (is_some (user_at configuration user).challenge) challenge session (IsSound configuration state)
-    (challenge_is_sound configuration state user within) (λ _. session_is_sound configuration state user within))
+    cond_both (is_some (user_at configuration user).challenge) challenge session (IsSound configuration state request.client)
+    (challenge_is_sound configuration state request.client user within) (λ _. session_is_sound configuration state request.client user within))
 
 -- the decision is sound
 decision_is_sound : (configuration : Configuration) (state : State) (request : Request) (challenged : Option ℕ) (credentials : Credentials)
-    → IfSome challenged (IsPlace configuration) → IsSound configuration state (decision configuration state request challenged credentials)
+    → IfSome challenged (IsPlace configuration) → IsSound configuration state request.client (decision configuration state request challenged credentials)
 decision_is_sound configuration state request challenged credentials known =
     cond_both (is_some credentials.state) (decision_on_answer configuration state request challenged credentials)
-    (decision_on_password configuration state request credentials) (IsSound configuration state)
+    (decision_on_password configuration state request credentials) (IsSound configuration state request.client)
     (λ _. on_answer_is_sound configuration state request challenged credentials known)
     (λ _. on_password_is_sound configuration state request credentials)
 
@@ -320,7 +346,7 @@ record IsLawfulResult (configuration : Configuration) (state : State) (result : 
 
 -- a sound decision gives a lawful result
 decided_is_lawful : TableLaws → (configuration : Configuration) (state : State) (request : Request) (draw : List ℕ) (d : Result Decision Denial)
-    → IsGiven configuration request draw → IsLawful configuration state → IsSound configuration state d
+    → IsGiven configuration request draw → IsLawful configuration state → IsSound configuration state request.client d
     → IsLawfulResult configuration state (decided configuration state request draw d)
 decided_is_lawful laws configuration state request draw (Err denial) given lawful sound = record {
   reply = reject_is_reply denial request.packet given.answerable.proxy_states;
@@ -343,9 +369,12 @@ decided_is_lawful laws configuration state request draw (Ok (Challenged user)) g
         hold = lawful.hold;
         sessions = lawful.sessions;
         replies = lawful.replies;
+        owned = lawful.owned;
+        shares = lawful.shares;
         repeatable = lawful.repeatable;
         addresses = lawful.addresses;
         challenges = laws.challenges.issue request.client user state.clock draw state.challenges sound.2 lawful.challenges;
+        waiting = waiting_with_one configuration request.client user draw state.clock state.challenges sound.3 lawful.waiting;
         configured = All-push (IsChallengeOf configuration) state.challenges.challenges _ lawful.configured (record {
           draw = given.drawn;
           client = given.answerable.client;
@@ -369,10 +398,13 @@ decided_is_lawful laws configuration state request draw (Ok (Granted user grant)
         hold = lawful.hold;
         sessions = laws.sessions.grant configuration request.client request.source user state.clock grant state.sessions given.answerable.client sound.0 sound.1 lawful.sessions;
         replies = lawful.replies;
+        owned = lawful.owned;
+        shares = lawful.shares;
         repeatable = lawful.repeatable;
         addresses = addresses_kept state.sessions (with_session request.client request.source user state.clock grant state.sessions) state.replies.kept
             (grant_keeps request.client request.source user state.clock grant state.sessions) lawful.addresses;
         challenges = lawful.challenges;
+        waiting = lawful.waiting;
         configured = lawful.configured;
       };
       clock = refl;
@@ -390,9 +422,12 @@ without_challenge_is_lawful laws configuration client (Some value) state lawful 
   hold = lawful.hold;
   sessions = lawful.sessions;
   replies = lawful.replies;
+  owned = lawful.owned;
+  shares = lawful.shares;
   repeatable = lawful.repeatable;
   addresses = lawful.addresses;
   challenges = laws.challenges.answer state.clock client value state.challenges lawful.challenges;
+  waiting = challenges_within configuration (λ challenge. not (has_state value client challenge)) state.challenges lawful.waiting;
   configured = All-filter (λ challenge. not (has_state value client challenge)) (IsChallengeOf configuration) state.challenges.challenges lawful.configured;
 }
 
@@ -447,9 +482,12 @@ account_is_lawful laws configuration state request answerable lawful =
         hold = lawful.hold;
         sessions = kept.0;
         replies = lawful.replies;
+        owned = lawful.owned;
+        shares = lawful.shares;
         repeatable = lawful.repeatable;
         addresses = addresses_kept state.sessions table state.replies.kept kept.2 lawful.addresses;
         challenges = lawful.challenges;
+        waiting = lawful.waiting;
         configured = lawful.configured;
       };
       clock = refl;
@@ -496,18 +534,23 @@ without_reply_is_lawful laws configuration state request lawful =
       hold = lawful.hold;
       sessions = lawful.sessions;
       replies = laws.replies.removal state.clock (key_of request) state.replies lawful.replies;
+      owned = All-filter other (IsOwned configuration) state.replies.kept lawful.owned;
+      shares = replies_within configuration other state.replies lawful.shares;
       repeatable = All-filter other IsRepeatable state.replies.kept lawful.repeatable;
       addresses = All-filter other (HasIts state.sessions) state.replies.kept lawful.addresses;
       challenges = lawful.challenges;
+      waiting = lawful.waiting;
       configured = lawful.configured;
     }
 
 -- a reply to this request can take the place of the one with its key among these replies, of which the state has the others
-record TakesPlace (replies : Replies) (request : Request) (state : State) : Type 0 where
+record TakesPlace (configuration : Configuration) (replies : Replies) (request : Request) (state : State) : Type 0 where
+  -- its client is that of its source
+  place : client_place configuration.clients request.source ≡ Some request.client
   -- the request is no Status-Server
   other : (request.packet.code == code_status_server) ≡ false
-  -- there is room for the reply
-  room : is_full (without_key (key_of request) replies) ≡ false
+  -- there is room for the reply, in the client's share too
+  room : lacks_room configuration request.client (without_key (key_of request) replies) ≡ false
   -- the others are what the state has
   left : state.replies ≡ without_key (key_of request) replies
   -- the replies are lawful
@@ -515,11 +558,14 @@ record TakesPlace (replies : Replies) (request : Request) (state : State) : Type
 
 -- a lawful state is lawful with such a reply
 with_reply_is_lawful : TableLaws → (configuration : Configuration) (replies : Replies) (state : State) (request : Request) (body : Body)
-    → TakesPlace replies request state → IsReply body → HasItsSession state.sessions body state.clock → IsLawful configuration state
+    → TakesPlace configuration replies request state → IsReply body → HasItsSession state.sessions body state.clock → IsLawful configuration state
     → IsLawful configuration (with_reply request body state)
 with_reply_is_lawful laws configuration replies state request body place sealable its lawful =
-    let reply : Kept = record { key = key_of request; octets = packet_octets request.packet; body = body; made = state.clock } in
-    let kept = laws.replies.keeping state.clock reply replies place.room (omega arith) place.lawful in
+    let reply : Kept = record { client = Some request.client; key = key_of request; octets = packet_octets request.packet; body = body; made = state.clock } in
+    let room = or_parts (is_full (without_key (key_of request) replies)) (is_reached (replies_share configuration request.client) (replies_for request.client (without_key (key_of request) replies))) place.room in
+    let kept = laws.replies.keeping state.clock reply replies room.0 (omega arith) place.lawful in
+    let spare : is_reached (replies_share configuration request.client) (replies_for request.client state.replies) ≡ false =
+    subst (λ left. is_reached (replies_share configuration request.client) (replies_for request.client left) ≡ false) (sym place.left) room.1 in
     record {
       clock = lawful.clock;
       spans = lawful.spans;
@@ -527,19 +573,24 @@ with_reply_is_lawful laws configuration replies state request body place sealabl
       hold = lawful.hold;
       sessions = lawful.sessions;
       replies = subst (λ left. AreLawfulReplies state.clock (recent.with_reply reply left)) (sym place.left) kept;
+      owned = All-push (IsOwned configuration) state.replies.kept reply lawful.owned (sym place.place);
+      shares = shares_with_one configuration request.client reply state.replies refl spare lawful.shares;
       repeatable = All-push IsRepeatable state.replies.kept reply lawful.repeatable (record { sealable = sealable; request = place.other });
       addresses = All-push (HasIts state.sessions) state.replies.kept reply lawful.addresses its;
       challenges = lawful.challenges;
+      waiting = lawful.waiting;
       configured = lawful.configured;
     }
 
 -- the state after a lawful result is sent and kept is lawful
 kept_is_lawful : TableLaws → (configuration : Configuration) (before : State) (request : Request) (result : Body × State)
-    → (request.packet.code == code_status_server) ≡ false → is_full (without_reply request before).replies ≡ false
+    → client_place configuration.clients request.source ≡ Some request.client
+    → (request.packet.code == code_status_server) ≡ false → lacks_room configuration request.client (without_reply request before).replies ≡ false
     → AreLawfulReplies before.clock before.replies → IsLawfulResult configuration (without_reply request before) result
     → IsLawful configuration (sent_and_kept request result).1
-kept_is_lawful laws configuration before request (body, state) other room lawful known =
+kept_is_lawful laws configuration before request (body, state) place other room lawful known =
     with_reply_is_lawful laws configuration before.replies state request body (record {
+      place = place;
       other = other;
       room = room;
       left = known.replies;
@@ -569,8 +620,8 @@ answer_is_lawful laws configuration state request draw given lawful =
     with_kept other (Some reply) = lawful
     with_kept other None =
         let result : Body × State = reply_by_port request.door configuration left request draw in
-        cond_both (is_full left.replies) (Busy, left) (sent_and_kept request result) Keeps (λ _. left_lawful)
-        (λ room. kept_is_lawful laws configuration state request result other room lawful.replies (by_port request.door))
+        cond_both (lacks_room configuration request.client left.replies) (Busy, left) (sent_and_kept request result) Keeps (λ _. left_lawful)
+        (λ room. kept_is_lawful laws configuration state request result given.answerable.place other room lawful.replies (by_port request.door))
 
 -- the state after a step is lawful
 pub step_is_lawful : TableLaws → (configuration : Configuration) (state : State) (request : Request) (moment : ℕ) (draw : List ℕ)

@@ -8,3 +8,4 @@ mod RepeatLemmas
 mod ReplyLemmas
 mod ReportLemmas
 mod RunLemmas
+mod ShareLemmas

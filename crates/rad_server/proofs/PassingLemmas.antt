@@ -11,7 +11,6 @@ use Rattle.rad_pool.specs.declared.session.Session.{Session}
 use Rattle.rad_recent.specs.Challenges.{Challenges, cut_challenges, is_challenge_live}
 use Rattle.rad_recent.specs.Recent.{Replies, cut_replies, is_reply_live}
 use Rattle.rad_server.specs.Runs.{HistoriesAfterTime, IsExchange, LeadsTo, Run, StepsAfterTime, not_before}
-use Rattle.rad_server.specs.Servers.{Server}
 use Rattle.rad_server.specs.States.{State, at_moment, when_passed}
 use Rattle.rad_server.specs.Steps.{answer}
 use Rattle.rad_server.specs.declared.entry.Entry.{Entry}

@@ -1,21 +1,21 @@
 -- What a plan answers: a kept reply again, nothing at all, or a new reply.
-use Rattle.std.proofs.Common.{◌≡◌, ℕ, ◌≤◌, Bool, true, false, not, cond, List, [], ◌∷◌, length, filter, find, All, Option, Some, None, IfSome, option_map, Result, Ok, Err, Bor, arith, refl, sym, ap, ◌∙◌}
+use Rattle.std.proofs.Common.{◌≡◌, ℕ, Bool, true, false, cond, List, [], ◌∷◌, find, All, Option, Some, None, IfSome, option_map, Result, Ok, Err, Bor, refl, sym, ap, ◌∙◌}
 use Rattle.std.specs.Prelude.{◌==◌, IfOk, option_copied, unwrap_or}
-use Rattle.std.proofs.lemmas.Bool.{leb-true}
 use Rattle.std.proofs.lemmas.List.Elements.{All-head, All-tail}
 use Rattle.rad_packet.specs.Bodies.{Body}
 use Rattle.rad_packet.specs.Codes.{code_status_server}
 use Rattle.rad_auth.specs.declared.arrival.Request.{Request}
 use Rattle.rad_config.specs.Configurations.{Configuration}
-use Rattle.rad_recent.specs.Recent.{is_full, kept_max, same_key, without_key}
+use Rattle.rad_recent.specs.Recent.{without_key}
 use Rattle.rad_recent.specs.declared.kept.Kept.{Kept}
 use Rattle.rad_server.specs.Access.{Decision, decided, without_challenge}
 use Rattle.rad_server.specs.Decisions.{CanBeGiven, Gives, decision_of}
 use Rattle.rad_server.specs.FixedReplies.{fixed_body}
 use Rattle.rad_server.specs.Plans.{IsDecidedReply, IsNewReply}
 use Rattle.rad_server.specs.Prepared.{IsBodyOf, IsFixed, fixed_reply}
+use Rattle.rad_server.specs.Shares.{lacks_room}
 use Rattle.rad_server.specs.States.{State}
-use Rattle.rad_server.specs.Steps.{answer, answer_with, key_of, reply_by_port, reply_kept, without_reply}
+use Rattle.rad_server.specs.Steps.{answer, answer_with, key_of, reply_by_port, reply_kept, sent_and_kept, without_reply}
 use Rattle.rad_server.specs.declared.access.Decision.{Decision as DecisionOfCode}
 use Rattle.rad_server.specs.declared.access.Decision.TheVariants as decisions
 use Rattle.rad_server.specs.declared.answer.Answer.TheVariants.{Send, Busy}
@@ -39,25 +39,6 @@ pub image_has : {X Y : Type 0} (P : Y → Type 0) (f : X → Y) (o : Option X) �
 image_has P f None holds = tt
 image_has P f (Some x) holds = holds
 
--- a filter doesn't lengthen a list
-pub filter_short : {X : Type 0} (p : X → Bool) (xs : List X) → length (filter p xs) ≤ length xs
-filter_short p [] = omega arith
-filter_short p (x ∷ xs) = at p x xs (p x) (filter_short p xs)
-  where
-    at : {X : Type 0} (p : X → Bool) (x : X) (xs : List X) (b : Bool) → length (filter p xs) ≤ length xs → length (cond b (x ∷ filter p xs) (filter p xs)) ≤ length (x ∷ xs)
-    at p x xs true short = omega (arith, short)
-    at p x xs false short = omega (arith, short)
-
--- a filter that doesn't shorten a list changes nothing
-filter_whole : {X : Type 0} (p : X → Bool) (xs : List X) → length xs ≤ length (filter p xs) → filter p xs ≡ xs
-filter_whole p [] long = refl
-filter_whole p (x ∷ xs) long = at p x xs (p x) long (filter_whole p xs)
-  where
-    at : {X : Type 0} (p : X → Bool) (x : X) (xs : List X) (b : Bool) → length (x ∷ xs) ≤ length (cond b (x ∷ filter p xs) (filter p xs))
-        → (length xs ≤ length (filter p xs) → filter p xs ≡ xs) → cond b (x ∷ filter p xs) (filter p xs) ≡ x ∷ xs
-    at p x xs true long more = ap (λ rest. x ∷ rest) (more (omega (arith, long)))
-    at p x xs false long more = absurd (omega (arith, long, filter_short p xs))
-
 -- a repeat is answered by the kept reply
 pub kept_again : (configuration : Configuration) (current : State) (request : Request) (draw : List ℕ) (body : Body) → (request.packet.code == code_status_server) ≡ false
     → option_map (λ reply. reply.body) (reply_kept request current) ≡ Some body → answer configuration current request draw ≡ (Send body, current)
@@ -71,22 +52,26 @@ kept_again configuration current request draw body other found = rw (other) (at 
         body_or None = body
         body_or (Some found) = found
 
--- without room for one more reply, none is kept to a request with the same key
-nothing_removed : (current : State) (request : Request) → is_full (without_key (key_of request) current.replies) ≡ true
-    → length current.replies.kept ≤ kept_max → without_reply request current ≡ current
-nothing_removed current request full few =
-    ap (λ kept. record current { replies = record current.replies { kept = kept } })
-    (filter_whole (λ reply. not (same_key (key_of request) reply.key)) current.replies.kept (omega (arith, leb-true _ _ full, few)))
-
 -- without room for one more reply, a request that is no repeat isn't answered
 pub no_answer : (configuration : Configuration) (current : State) (request : Request) (draw : List ℕ) → (request.packet.code == code_status_server) ≡ false
-    → option_map (λ reply. reply.body) (reply_kept request current) ≡ None → is_full (without_key (key_of request) current.replies) ≡ true
-    → length current.replies.kept ≤ kept_max → answer configuration current request draw ≡ (Busy, current)
-no_answer configuration current request draw other found full few = rw (other) (at (reply_kept request current) found)
+    → option_map (λ reply. reply.body) (reply_kept request current) ≡ None → lacks_room configuration request.client (without_key (key_of request) current.replies) ≡ true
+    → answer configuration current request draw ≡ (Busy, without_reply request current)
+no_answer configuration current request draw other found full = rw (other) (at (reply_kept request current) found)
   where
-    at : (o : Option Kept) → option_map (λ reply. reply.body) o ≡ None → answer_with configuration current request draw o ≡ (Busy, current)
+    at : (o : Option Kept) → option_map (λ reply. reply.body) o ≡ None → answer_with configuration current request draw o ≡ (Busy, without_reply request current)
     at (Some reply) e = absurd cc
-    at None e = rw (full) (ap (λ state. (Busy, state)) (nothing_removed current request full few))
+    at None e = rw (full) refl
+
+-- with room, it is answered by the rule of its port, and the reply is kept
+pub new_answer : (configuration : Configuration) (current : State) (request : Request) (draw : List ℕ) → (request.packet.code == code_status_server) ≡ false
+    → option_map (λ reply. reply.body) (reply_kept request current) ≡ None → lacks_room configuration request.client (without_key (key_of request) current.replies) ≡ false
+    → answer configuration current request draw ≡ sent_and_kept request (reply_by_port request.door configuration (without_reply request current) request draw)
+new_answer configuration current request draw other found room = rw (other) (at (reply_kept request current) found)
+  where
+    at : (o : Option Kept) → option_map (λ reply. reply.body) o ≡ None
+        → answer_with configuration current request draw o ≡ sent_and_kept request (reply_by_port request.door configuration (without_reply request current) request draw)
+    at (Some reply) e = absurd cc
+    at None e = rw (room) refl
 
 -- ---- new replies
 

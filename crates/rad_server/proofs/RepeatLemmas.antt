@@ -19,13 +19,15 @@ use Rattle.std.proofs.lemmas.Option.{get_or_from_slice_get, slice_get-get_or, sl
 use Rattle.rad_packet.specs.Bodies.{Body}
 use Rattle.rad_packet.specs.Codes.{code_status_server}
 use Rattle.rad_packet.specs.Packets.{packet_octets}
+use Rattle.rad_auth.specs.Admission.{AdmittedAreAnswerable}
 use Rattle.rad_auth.specs.Datagrams.{Datagram}
 use Rattle.rad_auth.specs.declared.arrival.Door.{Door}
 use Rattle.rad_auth.specs.declared.arrival.Door.TheVariants.{Auth, Acct}
 use Rattle.rad_auth.specs.declared.arrival.Request.{Request}
+use Rattle.rad_auth.specs.Clients.{Client, client_place}
 use Rattle.rad_config.specs.Configurations.{Configuration}
 use Rattle.rad_recent.specs.Lawful.{HaveDifferentKeys}
-use Rattle.rad_recent.specs.Recent.{is_full, is_reply_live, is_reply_to, same_key}
+use Rattle.rad_recent.specs.Recent.{is_reply_live, is_reply_to, same_key}
 use Rattle.rad_recent.specs.declared.kept.Kept.{Kept}
 use Rattle.rad_recent.specs.declared.key.Key.{Key}
 use Rattle.rad_server.specs.Access.{Challenged, Decision, Granted, access_with, decided, without_challenge}
@@ -33,6 +35,7 @@ use Rattle.rad_server.specs.Credentials.{Credentials, credentials_in}
 use Rattle.rad_server.specs.Repeats.{AreExchanges, Exchange, RepeatsFollow, RunsRepeat, Source, covers, entry_key, first_sources, followed_by, is_in_force, is_status_server, next_sources, source_of, spares}
 use Rattle.rad_server.specs.Replies.{status_reply}
 use Rattle.rad_server.specs.Runs.{IsExchange}
+use Rattle.rad_server.specs.Shares.{lacks_room}
 use Rattle.rad_server.specs.States.{State, at_moment}
 use Rattle.rad_server.specs.Steps.{answer, answer_with, reply_by_port, reply_kept, sent_and_kept, with_reply, without_reply}
 use Rattle.rad_server.specs.declared.answer.Answer.{Answer}
@@ -196,10 +199,10 @@ append_in_force window now sources more =
     ap (map reply_of) (filter-append (is_in_force window now) sources more) ∙ map-append reply_of _ _
 
 -- a new source is in force
-new_in_force : (window now : ℕ) (entry : Entry) (answer : Answer) → 0 < window
-    → replies_in_force window now (source_of now entry answer) ≡ map reply_of (source_of now entry answer)
-new_in_force window now entry Busy lasts = refl
-new_in_force window now entry (Send body) lasts = rw (lt-ltb now (now + window) (omega arith)) refl
+new_in_force : (clients : List Client) (window now : ℕ) (entry : Entry) (answer : Answer) → 0 < window
+    → replies_in_force window now (source_of clients now entry answer) ≡ map reply_of (source_of clients now entry answer)
+new_in_force clients window now entry Busy lasts = refl
+new_in_force clients window now entry (Send body) lasts = rw (lt-ltb now (now + window) (omega arith)) refl
 
 -- ---- the rules
 
@@ -244,11 +247,11 @@ record IsReady (state : State) (sources : List Source) : Type 0 where
 
 -- what the answer to an entry, and the state after it, owe to the sources: a covered entry is answered again and changes nothing,
 -- and the replies that are kept are again those of the sources in force
-record IsRight (state : State) (sources : List Source) (entry : Entry) (after : State) : Type 0 where
+record IsRight (clients : List Client) (state : State) (sources : List Source) (entry : Entry) (after : State) : Type 0 where
   again : (source : Source) → Contains sources source → IsTrue (covers state.replies.window state.clock entry source)
       → (entry.answer ≡ Send source.reply.body) × (after ≡ state)
   kept : after.replies.kept
-      ≡ replies_in_force state.replies.window state.clock (next_sources state.replies.window state.clock entry sources)
+      ≡ replies_in_force state.replies.window state.clock (next_sources clients state.replies.window state.clock entry sources)
   keys : AllPairs HaveDifferentKeys after.replies.kept
   clock : after.clock ≡ state.clock
   window : after.replies.window ≡ state.replies.window
@@ -261,7 +264,7 @@ answers entry = is_reply_to (entry_key entry) entry.octets
 abbrev is_other : Entry → Kept → Bool
 is_other entry reply = not (same_key (entry_key entry) reply.key)
 
-module _ (state : State) (sources : List Source) (ready : IsReady state sources) (entry : Entry) where
+module _ (clients : List Client) (state : State) (sources : List Source) (ready : IsReady state sources) (entry : Entry) where
   -- the replies that are kept
   abbrev kept : List Kept
   kept = state.replies.kept
@@ -276,10 +279,10 @@ module _ (state : State) (sources : List Source) (ready : IsReady state sources)
 
   -- the reply that is kept for repeats of the entry if it is answered anew
   abbrev own : Answer → List Kept
-  own answer = map reply_of (source_of state.clock entry answer)
+  own answer = map reply_of (source_of clients state.clock entry answer)
 
   -- a Status-Server leaves all as it is
-  status_is_right : is_status_server entry ≡ true → IsRight state sources entry state
+  status_is_right : is_status_server entry ≡ true → IsRight clients state sources entry state
   status_is_right is = record {
     again = λ source there covered. absurd (both_ways _ (and_left _ _ (not_from_true (is_status_server entry) is)) covered);
     kept = rw is ready.kept;
@@ -297,20 +300,20 @@ module _ (state : State) (sources : List Source) (ready : IsReady state sources)
 
   -- after it, the replies in force are those that spare it, and its own if it is not covered
   next_in_force : (covered : Bool) → is_status_server entry ≡ false → list_any covering sources ≡ covered
-      → in_force (next_sources state.replies.window state.clock entry sources)
+      → in_force (next_sources clients state.replies.window state.clock entry sources)
       ≡ filter (λ reply. spares reply entry) kept ++ cond covered [] (own entry.answer)
   next_in_force covered other is =
       let followed = followed_in_force state.replies.window state.clock entry sources ∙ ap (filter (λ reply. spares reply entry)) (sym ready.kept) in
       let new = at covered in
       rw (other, is) (append_in_force state.replies.window state.clock (map (followed_by entry) sources) _ ∙ cc)
     where
-      at : (b : Bool) → in_force (cond b [] (source_of state.clock entry entry.answer)) ≡ cond b [] (own entry.answer)
+      at : (b : Bool) → in_force (cond b [] (source_of clients state.clock entry entry.answer)) ≡ cond b [] (own entry.answer)
       at true = refl
-      at false = new_in_force state.replies.window state.clock entry entry.answer ready.lasts
+      at false = new_in_force clients state.replies.window state.clock entry entry.answer ready.lasts
 
   -- a repeat is answered again
   repeat_is_right : (reply : Kept) → is_status_server entry ≡ false → find (answers entry) kept ≡ Some reply
-      → entry.answer ≡ Send reply.body → IsRight state sources entry state
+      → entry.answer ≡ Send reply.body → IsRight clients state sources entry state
   repeat_is_right reply other found answered = record {
     again = λ source there covered.
         let parts = and_parts _ _ (and_parts (not (is_status_server entry)) _ covered).1 in
@@ -358,7 +361,7 @@ module _ (state : State) (sources : List Source) (ready : IsReady state sources)
   -- an entry that is no repeat ends the reply with its key, and its own is kept
   new_is_right : (after : State) → is_status_server entry ≡ false → find (answers entry) kept ≡ None
       → after.replies.kept ≡ filter (is_other entry) kept ++ own entry.answer
-      → after.clock ≡ state.clock → after.replies.window ≡ state.replies.window → IsRight state sources entry after
+      → after.clock ≡ state.clock → after.replies.window ≡ state.replies.window → IsRight clients state sources entry after
   new_is_right after other none with_own clock window = record {
     again = λ source there covered. absurd (both_ways _ none_covers (list_any-from_Contains covering sources source there covered));
     kept = with_own ∙ sym (next_in_force false other none_covers ∙ ap (λ (replies : List Kept). replies ++ own entry.answer) spared);
@@ -390,39 +393,40 @@ asking request entry answer = record entry {
 
 -- the answer of a step is right
 answer_is_right : (configuration : Configuration) (state : State) (sources : List Source) (request : Request) (entry : Entry) (draw : List ℕ) → IsReady state sources
-    → IsRight state sources (asking request entry (answer configuration state request draw).0) (answer configuration state request draw).1
-answer_is_right configuration state sources request entry draw ready = by_code (request.packet.code == code_status_server) refl
+    → client_place configuration.clients request.source ≡ Some request.client
+    → IsRight configuration.clients state sources (asking request entry (answer configuration state request draw).0) (answer configuration state request draw).1
+answer_is_right configuration state sources request entry draw ready place = by_code (request.packet.code == code_status_server) refl
   where
     Right : Answer × State → Type 0
-    Right r = IsRight state sources (asking request entry r.0) r.1
+    Right r = IsRight configuration.clients state sources (asking request entry r.0) r.1
 
     by_room : (request.packet.code == code_status_server) ≡ false → reply_kept request state ≡ None → (full : Bool)
         → Right (cond full (Busy, without_reply request state) (sent_and_kept request (reply_by_port request.door configuration (without_reply request state) request draw)))
     by_room other none true =
-        new_is_right state sources ready (asking request entry Busy) (without_reply request state) other none (sym (append-nil _)) refl refl
+        new_is_right configuration.clients state sources ready (asking request entry Busy) (without_reply request state) other none (sym (append-nil _)) refl refl
     by_room other none false =
         let reply : Body × State = reply_by_port request.door configuration (without_reply request state) request draw in
         let left = reply_leaves request.door configuration (without_reply request state) request draw in
-        new_is_right state sources ready (asking request entry (Send reply.0)) (with_reply request reply.0 reply.1) other none
-        (rw (left.clock, left.replies) refl) left.clock (ap (λ r. r.window) left.replies)
+        new_is_right configuration.clients state sources ready (asking request entry (Send reply.0)) (with_reply request reply.0 reply.1) other none
+        (rw (left.clock, left.replies, place) refl) left.clock (ap (λ r. r.window) left.replies)
 
     by_lookup : (request.packet.code == code_status_server) ≡ false → (o : Option Kept) → reply_kept request state ≡ o
         → Right (answer_with configuration state request draw o)
-    by_lookup other (Some reply) found = repeat_is_right state sources ready (asking request entry (Send reply.body)) reply other found refl
-    by_lookup other None none = by_room other none (is_full (without_reply request state).replies)
+    by_lookup other (Some reply) found = repeat_is_right configuration.clients state sources ready (asking request entry (Send reply.body)) reply other found refl
+    by_lookup other None none = by_room other none (lacks_room configuration request.client (without_reply request state).replies)
 
     by_code : (b : Bool) → (request.packet.code == code_status_server) ≡ b
         → Right (cond b (Send (status_reply request.door request.packet), state) (answer_with configuration state request draw (reply_kept request state)))
-    by_code true is = status_is_right state sources ready (asking request entry (Send (status_reply request.door request.packet))) is
+    by_code true is = status_is_right configuration.clients state sources ready (asking request entry (Send (status_reply request.door request.packet))) is
     by_code false other = by_lookup other (reply_kept request state) refl
 
 -- so each exchange is right: its entry asks what its request asks
-exchange_is_right : (configuration : Configuration) (before : State) (sources : List Source) (entry : Entry) (after : State) → IsReady (at_moment entry.moment before) sources
-    → IsExchange configuration before entry after → IsRight (at_moment entry.moment before) sources entry after
-exchange_is_right configuration before sources entry after ready exchange =
-    subst (λ (d : Datagram). IsRight state sources (record entry { source = d.source; port = d.port; door = d.door; octets = d.octets }) after) exchange.asked.own
-    (subst (λ (r : Answer × State). IsRight state sources (asking exchange.request entry r.0) r.1) exchange.answered
-    (answer_is_right configuration state sources exchange.request entry entry.draw ready))
+exchange_is_right : AdmittedAreAnswerable → (configuration : Configuration) (before : State) (sources : List Source) (entry : Entry) (after : State) → IsReady (at_moment entry.moment before) sources
+    → IsExchange configuration before entry after → IsRight configuration.clients (at_moment entry.moment before) sources entry after
+exchange_is_right answerable configuration before sources entry after ready exchange =
+    subst (λ (d : Datagram). IsRight configuration.clients state sources (record entry { source = d.source; port = d.port; door = d.door; octets = d.octets }) after) exchange.asked.own
+    (subst (λ (r : Answer × State). IsRight configuration.clients state sources (asking exchange.request entry r.0) r.1) exchange.answered
+    (answer_is_right configuration state sources exchange.request entry entry.draw ready (answerable configuration.clients exchange.request exchange.asked.admitted).place))
   where
     state : State
     state = at_moment entry.moment before
@@ -430,39 +434,39 @@ exchange_is_right configuration before sources entry after ready exchange =
 -- ---- the history
 
 -- after an exchange, the state is ready again at any moment
-ready_again : (state : State) (sources : List Source) (entry : Entry) (after : State) → IsReady state sources → IsRight state sources entry after
-    → (moment : ℕ) → IsReady (at_moment moment after) (next_sources state.replies.window state.clock entry sources)
-ready_again state sources entry after ready right moment = record {
+ready_again : (clients : List Client) (state : State) (sources : List Source) (entry : Entry) (after : State) → IsReady state sources → IsRight clients state sources entry after
+    → (moment : ℕ) → IsReady (at_moment moment after) (next_sources clients state.replies.window state.clock entry sources)
+ready_again clients state sources entry after ready right moment = record {
   lasts = omega (arith, ready.lasts, right.window);
   keys = AllPairs-filter HaveDifferentKeys _ after.replies.kept right.keys;
   kept = rw (right.window, right.kept) (sym (later_in_force state.replies.window state.clock (max after.clock moment) _ (omega (arith, right.clock))));
 }
 
 -- from a state that is ready at any moment, all exchanges answer repeats again
-repeats_follow : (configuration : Configuration) (before : State) (sources : List Source) (exchanges : List Exchange)
+repeats_follow : AdmittedAreAnswerable → (configuration : Configuration) (before : State) (sources : List Source) (exchanges : List Exchange)
     → ((moment : ℕ) → IsReady (at_moment moment before) sources) → AreExchanges configuration before exchanges
-    → RepeatsFollow before.replies.window before.clock before sources exchanges
-repeats_follow configuration before sources [] ready made = tt
-repeats_follow configuration before sources (exchange ∷ rest) ready made =
+    → RepeatsFollow configuration.clients before.replies.window before.clock before sources exchanges
+repeats_follow answerable configuration before sources [] ready made = tt
+repeats_follow answerable configuration before sources (exchange ∷ rest) ready made =
     let state = at_moment exchange.entry.moment before in
-    let next = next_sources state.replies.window state.clock exchange.entry sources in
+    let next = next_sources configuration.clients state.replies.window state.clock exchange.entry sources in
     let now = ready exchange.entry.moment in
-    let right = exchange_is_right configuration before sources exchange.entry exchange.after now made.0 in
-    let follow = repeats_follow configuration exchange.after next rest (ready_again state sources exchange.entry exchange.after now right) made.1 in (
+    let right = exchange_is_right answerable configuration before sources exchange.entry exchange.after now made.0 in
+    let follow = repeats_follow answerable configuration exchange.after next rest (ready_again configuration.clients state sources exchange.entry exchange.after now right) made.1 in (
       λ source there covered.
           let again = right.again source there covered in
           record { answer = again.0; sessions = ap (λ s. s.sessions) again.1; challenges = ap (λ s. s.challenges) again.1 },
       (
         right.kept,
-        subst (λ (w : ℕ). RepeatsFollow w state.clock exchange.after next rest) right.window
-            (subst (λ (c : ℕ). RepeatsFollow exchange.after.replies.window c exchange.after next rest) right.clock follow),
+        subst (λ (w : ℕ). RepeatsFollow configuration.clients w state.clock exchange.after next rest) right.window
+            (subst (λ (c : ℕ). RepeatsFollow configuration.clients exchange.after.replies.window c exchange.after next rest) right.clock follow),
       ),
     )
 
 -- every history that a server runs from a lawful state answers repeats again
-pub histories_repeat : RunsRepeat
-histories_repeat configuration before history within lawful exchanges same made =
-    repeats_follow configuration before (first_sources before.replies.kept) exchanges (λ moment. record {
+pub histories_repeat : AdmittedAreAnswerable → RunsRepeat
+histories_repeat answerable configuration before history within lawful exchanges same made =
+    repeats_follow answerable configuration before (first_sources before.replies.kept) exchanges (λ moment. record {
       lasts = omega (arith, lawful.window, within.window);
       keys = AllPairs-filter HaveDifferentKeys _ before.replies.kept lawful.replies.keys;
       kept = first_in_force before.replies.window (max before.clock moment) before.replies.kept;

@@ -1,6 +1,6 @@
 -- Who is granted access (RFC 2865, sections 2 and 4.1 to 4.4): the user whose password was sent, after a challenge if the
 -- user has one, as far as sessions and addresses allow.
-use Rattle.std.specs.Prelude.{ℕ, not, Bool, false, if◌then◌else◌, List, [], Option, Some, None, is_some, option_map, slice_get, unwrap_or, Result, Ok, Err, ok_or}
+use Rattle.std.specs.Prelude.{ℕ, not, Bool, false, if◌then◌else◌, List, Option, Some, None, is_some, option_map, unwrap_or, Result, Ok, Err, ok_or}
 use Rattle.std.specs.Str.{bytes_eq}
 use Rattle.rad_packet.specs.Bodies.{Body}
 use Rattle.rad_packet.specs.Ladders.{◌>>=◌, refuse_if}
@@ -8,21 +8,24 @@ use Rattle.rad_auth.specs.Chap.{chap_right}
 use Rattle.rad_auth.specs.Clients.{secret_at}
 use Rattle.rad_auth.specs.Passwords.{password_right}
 use Rattle.rad_auth.specs.declared.arrival.Request.{Request}
-use Rattle.rad_config.specs.Configurations.{Configuration, user_place}
+use Rattle.rad_config.specs.Configurations.{Configuration, is_reached, user_place}
 use Rattle.rad_config.specs.declared.user.User.{User}
 use Rattle.rad_pool.specs.Grants.{granted, with_session}
 use Rattle.rad_pool.specs.declared.grant.Grant.{Grant}
 use Rattle.rad_pool.specs.declared.grant.Refusal.{Refusal}
-use Rattle.rad_recent.specs.Challenges.{Challenges, answered, next_number, without_answered}
+use Rattle.rad_recent.specs.Challenges.{Challenges, answered, next_number, waiting_with, without_answered}
 use Rattle.rad_recent.specs.Challenges as challenges
 use Rattle.rad_recent.specs.declared.challenge.Challenge.{Challenge}
+use Rattle.rad_recent.specs.declared.challenge.Party.TheVariants as parties
 use Rattle.rad_recent.specs.declared.challenges.IssueFault.{IssueFault}
 use Rattle.rad_server.specs.Credentials.{Credentials, SentPassword, UserPassword, ChapPassword, credentials_in}
 use Rattle.rad_server.specs.Denials.{denial_of}
 use Rattle.rad_server.specs.Replies.{access_accept, access_challenge, access_reject}
+use Rattle.rad_server.specs.Shares.{challenges_limit, challenges_share}
 use Rattle.rad_server.specs.States.{State}
+use Rattle.rad_server.specs.Users.{user_at}
 use Rattle.rad_server.specs.declared.denial.Denial.{Denial}
-use Rattle.rad_server.specs.declared.denial.Denial.TheVariants.{StateUnknown, WrongState, AccessDenied, ServerFull}
+use Rattle.rad_server.specs.declared.denial.Denial.TheVariants.{StateUnknown, WrongState, AccessDenied, SessionLimit, ServerFull}
 
 -- what the user at a place is given, if access isn't denied: a challenge, or a session
 pub data Decision : Type 0 where
@@ -30,21 +33,6 @@ pub data Decision : Type 0 where
   Granted : ℕ → Grant → Decision
 
 -- ---- passwords
-
--- the user at this place; where there is none, one of whom nothing is used
-abbrev pub user_at : Configuration → ℕ → User
-user_at configuration place = unwrap_or (slice_get configuration.users place) (record {
-  name = [];
-  password = [];
-  pool = None;
-  sessions = 0;
-  service = None;
-  protocol = None;
-  timeout = None;
-  message = None;
-  challenge = None;
-  answer = None;
-})
 
 -- whether this password was sent in a request; without a CHAP-Challenge, the challenge is the Request Authenticator
 abbrev pub password_matches : Configuration → Request → SentPassword → List ℕ → Bool
@@ -93,13 +81,26 @@ user_by_answer configuration request challenged credentials = do
   right ← refuse_if (not (answer_matches configuration request credentials.password (user_at configuration user).answer)) AccessDenied
   Ok user
 
--- a challenge for a user, or why there is none
-abbrev pub challenge_or_denial : ℕ → Result ℕ IssueFault → Result Decision Denial
-challenge_or_denial user (Ok number) = Ok (Challenged user)
-challenge_or_denial user (Err fault) = Err ServerFull
+-- the number of a new challenge, or why there is none
+abbrev pub number_or_denial : Result ℕ IssueFault → Result ℕ Denial
+number_or_denial (Ok number) = Ok number
+number_or_denial (Err fault) = Err ServerFull
 
-abbrev pub challenge_for : State → ℕ → Result Decision Denial
-challenge_for state user = challenge_or_denial user (next_number state.challenges)
+-- the same, as far as the user and the client who sent the request may have one more
+unfoldable pub challenge_number : Configuration → Challenges → ℕ → ℕ → Result ℕ Denial
+challenge_number configuration challenges client user = do
+  own ← refuse_if (is_reached (challenges_limit configuration user) (waiting_with (parties.User user) challenges)) SessionLimit
+  shared ← refuse_if (is_reached (challenges_share configuration client) (waiting_with (parties.Client client) challenges)) ServerFull
+  number_or_denial (next_number challenges)
+
+-- a challenge for a user, or why there is none
+abbrev pub challenge_or_denial : ℕ → Result ℕ Denial → Result Decision Denial
+challenge_or_denial user (Ok number) = Ok (Challenged user)
+challenge_or_denial user (Err denial) = Err denial
+
+abbrev pub challenge_for : Configuration → State → ℕ → ℕ → Result Decision Denial
+challenge_for configuration state client user =
+    challenge_or_denial user (challenge_number configuration state.challenges client user)
 
 -- the state with a challenge for a user
 abbrev pub with_challenge : ℕ → ℕ → List ℕ → State → State
@@ -122,16 +123,17 @@ decision_on_answer configuration state request challenged credentials = do
   user ← user_by_answer configuration request challenged credentials
   session_for configuration state user
 
--- what a user whose password was sent is given: a challenge, or else a session
-abbrev pub user_decision : Configuration → State → ℕ → Result Decision Denial
-user_decision configuration state user =
-    if is_some (user_at configuration user).challenge then challenge_for state user else session_for configuration state user
+-- what a user whose password a client sent is given: a challenge, or else a session
+abbrev pub user_decision : Configuration → State → ℕ → ℕ → Result Decision Denial
+user_decision configuration state client user =
+    if is_some (user_at configuration user).challenge then challenge_for configuration state client user
+    else session_for configuration state user
 
 -- a request without a State: with the password, the user is challenged or else granted a session
 unfoldable pub decision_on_password : Configuration → State → Request → Credentials → Result Decision Denial
 decision_on_password configuration state request credentials = do
   user ← user_by_password configuration request credentials
-  user_decision configuration state user
+  user_decision configuration state request.client user
 
 -- the decision, given the user whose challenge is answered, if one is
 abbrev pub decision : Configuration → State → Request → Option ℕ → Credentials → Result Decision Denial

@@ -7,6 +7,7 @@ use Rattle.rad_packet.specs.Codes.{code_access_accept, code_status_server}
 use Rattle.rad_packet.specs.Types.{type_class, type_framed_ip_address}
 use Rattle.rad_auth.specs.Admission.{IsAnswerable}
 use Rattle.rad_auth.specs.Authenticators.{sixteen_zeros}
+use Rattle.rad_auth.specs.Clients.{client_place}
 use Rattle.rad_auth.specs.Sealing.{IsReply}
 use Rattle.rad_auth.specs.declared.arrival.Request.{Request}
 use Rattle.rad_config.specs.Configurations.{Configuration}
@@ -18,10 +19,11 @@ use Rattle.rad_pool.specs.declared.session.Session.{Session}
 use Rattle.rad_recent.specs.Lawful.{AreLawfulChallenges, AreLawfulReplies}
 use Rattle.rad_recent.specs.declared.challenge.Challenge.{Challenge}
 use Rattle.rad_recent.specs.declared.kept.Kept.{Kept}
-use Rattle.rad_server.specs.Access.{user_at}
 use Rattle.rad_server.specs.Replies.{class_value, four_octets}
+use Rattle.rad_server.specs.Shares.{AreSharedChallenges, AreSharedReplies}
 use Rattle.rad_server.specs.States.{State, at_moment, opening}
 use Rattle.rad_server.specs.Steps.{step}
+use Rattle.rad_server.specs.Users.{user_at}
 
 -- ---- kept replies
 
@@ -31,6 +33,10 @@ pub record IsRepeatable (reply : Kept) : Type 0 where
   pub sealable : IsReply reply.body
   -- its request was no Status-Server, whose Code would be the first octet
   pub request : (slice_index_or reply.octets 0 0 == code_status_server) ≡ false
+
+-- it takes the share of the client of its source
+abbrev pub IsOwned : Configuration → Kept → Type 0
+IsOwned configuration reply = reply.client ≡ client_place configuration.clients reply.key.source
 
 -- a session has an address that a reply gives, and its Class has the session's number
 pub record IsSessionOf (body : Body) (value : List ℕ) (session : Session) : Type 0 where
@@ -70,12 +76,17 @@ pub record IsLawful (configuration : Configuration) (state : State) : Type 0 whe
   pub sessions : AreLawfulSessions configuration state.clock state.sessions
   -- the table of kept replies is lawful: no two have one key
   pub replies : AreLawfulReplies state.clock state.replies
+  -- each takes the share of the client of its source, and no client has more of them than its share
+  pub owned : All (IsOwned configuration) state.replies.kept
+  pub shares : AreSharedReplies configuration state.replies
   -- each kept reply may be sent again
   pub repeatable : All IsRepeatable state.replies.kept
   -- the address that a kept Access-Accept gives is still its session's
   pub addresses : All (λ reply. HasItsSession state.sessions reply.body reply.made) state.replies.kept
   -- the table of challenges that wait for an answer is lawful
   pub challenges : AreLawfulChallenges state.clock state.challenges
+  -- no client and no user has too many of them
+  pub waiting : AreSharedChallenges configuration state.challenges
   -- each challenge is one of this configuration
   pub configured : All (IsChallengeOf configuration) state.challenges.challenges
 

@@ -18,5 +18,7 @@ pub mod Runs
 pub mod SentCredentials
 pub mod Servers
 pub mod States
+pub mod Shares
 pub mod Steps
 pub mod TableStates
+pub mod Users

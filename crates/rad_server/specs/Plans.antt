@@ -35,6 +35,7 @@ pub record IsNewReply (configuration : Configuration) (current : State) (request
 
 -- what is kept of a reply at a moment is what it says, with what its request is recognised by
 pub record IsToBeKept (now : ℕ) (request : Request) (body : Body) (kept : Kept) : Type 0 where
+  pub client : kept.client ≡ Some request.client
   pub key : kept.key ≡ key_of request
   pub octets : kept.octets ≡ packet_octets request.packet
   pub says : kept.body ≡ body
@@ -50,7 +51,7 @@ pub record IsNewAnswer (configuration : Configuration) (current : State) (reques
 -- a plan says the answer to a request in the current state, and what the next state is
 abbrev pub IsPlanOf : Configuration → State → Request → List ℕ → Plan → Type 0
 IsPlanOf configuration current request draw (plans.Unchanged body) = answer configuration current request draw ≡ (Send body, current)
-IsPlanOf configuration current request draw plans.Busy = answer configuration current request draw ≡ (Busy, current)
+IsPlanOf configuration current request draw plans.Busy = answer configuration current request draw ≡ (Busy, without_reply request current)
 IsPlanOf configuration current request draw (plans.New reply kept) = IsNewAnswer configuration current request draw reply kept
 
 -- the answer of a plan

@@ -10,13 +10,14 @@ use Rattle.rad_auth.specs.declared.arrival.Door.TheVariants.{Auth}
 use Rattle.rad_auth.specs.declared.arrival.Request.{Request}
 use Rattle.rad_auth.specs.declared.discard.Discard.{Discard}
 use Rattle.rad_config.specs.Configurations.{Configuration, user_place}
-use Rattle.rad_server.specs.Access.{answer_matches, decided, user_at, user_challenged, user_decision}
+use Rattle.rad_server.specs.Access.{answer_matches, decided, user_challenged, user_decision}
 use Rattle.rad_server.specs.Changes.{CanBeMade, changed_by}
 use Rattle.rad_server.specs.Credentials.{Credentials, credentials_in}
 use Rattle.rad_server.specs.Decisions.{access_by_answer}
 use Rattle.rad_server.specs.FixedReplies.{fixed_body}
 use Rattle.rad_server.specs.States.{State}
 use Rattle.rad_server.specs.Steps.{reply_by_port}
+use Rattle.rad_server.specs.Users.{user_at}
 use Rattle.rad_server.specs.declared.change.Change.{Change}
 use Rattle.rad_server.specs.declared.change.Change.TheVariants.{Nothing}
 use Rattle.rad_server.specs.declared.denial.Denial.{Denial}
@@ -59,7 +60,7 @@ denied denial = Fixed (Denied denial) Nothing
 pub record IsPasswordOf (configuration : Configuration) (request : Request) (user : ℕ) : Type 0 where
   pub within : user < length configuration.users
   pub says : (state : State) (draw : List ℕ)
-      → reply_by_port request.door configuration state request draw ≡ decided configuration state request draw (user_decision configuration state user)
+      → reply_by_port request.door configuration state request draw ≡ decided configuration state request draw (user_decision configuration state request.client user)
 
 -- the users who are challenged are those of the configuration
 abbrev pub AreUsers : Configuration → Request → State → Type 0

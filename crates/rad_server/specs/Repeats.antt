@@ -9,6 +9,7 @@ use Rattle.std.specs.Prelude.{◌≡◌, ℕ, ◌+◌, ◌==◌, ◌&&◌, ◌||
 use Rattle.std.specs.List.{list_all, list_any}
 use lib.Pointwise.{pointwise}
 use Rattle.rad_packet.specs.Codes.{code_status_server}
+use Rattle.rad_auth.specs.Clients.{Client, client_place}
 use Rattle.rad_config.specs.Configurations.{Configuration}
 use Rattle.rad_config.specs.Ranges.{IsConfiguration}
 use Rattle.rad_config.specs.Spans.{lasts}
@@ -55,22 +56,30 @@ covers window now entry source =
 abbrev pub first_sources : List Kept → List Source
 first_sources kept = map (λ reply. record { reply = reply; later = [] }) kept
 
--- an entry that gets a reply is a source
-abbrev pub source_of : ℕ → Entry → Answer → List Source
-source_of now entry Busy = []
-source_of now entry (Send body) =
-    record { reply = record { key = entry_key entry; octets = entry.octets; body = body; made = now }; later = [] } ∷ []
+-- an entry that gets a reply is a source, which takes the share of its client
+abbrev pub source_of : List Client → ℕ → Entry → Answer → List Source
+source_of clients now entry Busy = []
+source_of clients now entry (Send body) = record {
+  reply = record {
+    client = client_place clients entry.source;
+    key = entry_key entry;
+    octets = entry.octets;
+    body = body;
+    made = now;
+  };
+  later = [];
+} ∷ []
 
 -- a source that one more entry follows
 abbrev pub followed_by : Entry → Source → Source
 followed_by entry source = record source { later = source.later ++ entry ∷ [] }
 
 -- the sources after the next entry, at this moment
-abbrev pub next_sources : ℕ → ℕ → Entry → List Source → List Source
-next_sources window now entry sources =
+abbrev pub next_sources : List Client → ℕ → ℕ → Entry → List Source → List Source
+next_sources clients window now entry sources =
     if is_status_server entry then sources
     else map (followed_by entry) sources
-    ++ (if list_any (covers window now entry) sources then [] else source_of now entry entry.answer)
+    ++ (if list_any (covers window now entry) sources then [] else source_of clients now entry entry.answer)
 
 -- ---- repeats
 
@@ -87,15 +96,15 @@ pub record IsAnsweredAgain (now : ℕ) (before : State) (exchange : Exchange) (s
 
 -- What holds of the exchanges that follow a state, whose sources are given, when the latest moment so far was `clock`: what a
 -- source covers is answered again, and just the replies of the sources that are in force are kept.
-abbrev pub RepeatsFollow : ℕ → ℕ → State → List Source → List Exchange → Type 0
-RepeatsFollow window clock before sources [] = Unit {0}
-RepeatsFollow window clock before sources (exchange ∷ rest) =
+abbrev pub RepeatsFollow : List Client → ℕ → ℕ → State → List Source → List Exchange → Type 0
+RepeatsFollow clients window clock before sources [] = Unit {0}
+RepeatsFollow clients window clock before sources (exchange ∷ rest) =
     let now = max clock exchange.entry.moment in
-    let next = next_sources window now exchange.entry sources in
+    let next = next_sources clients window now exchange.entry sources in
     ((source : Source) → Contains sources source → IsTrue (covers window now exchange.entry source)
     → IsAnsweredAgain now before exchange source)
     × ((exchange.after.replies.kept ≡ map (λ source. source.reply) (filter (is_in_force window now) next))
-    × RepeatsFollow window now exchange.after next rest)
+    × RepeatsFollow clients window now exchange.after next rest)
 
 -- the exchanges are made by the step, one after another
 abbrev pub AreExchanges : Configuration → State → List Exchange → Type 0
@@ -107,7 +116,7 @@ AreExchanges configuration before (exchange ∷ rest) =
 abbrev pub Repeat : Configuration → State → List Entry → Type 0
 Repeat configuration before history =
     (exchanges : List Exchange) → map (λ exchange. exchange.entry) exchanges ≡ history → AreExchanges configuration before exchanges
-    → RepeatsFollow before.replies.window before.clock before (first_sources before.replies.kept) exchanges
+    → RepeatsFollow configuration.clients before.replies.window before.clock before (first_sources before.replies.kept) exchanges
 
 -- ---- the law
 

@@ -10,13 +10,14 @@ use Rattle.rad_auth.specs.declared.arrival.Door.{Door}
 use Rattle.rad_auth.specs.declared.arrival.Door.TheVariants.{Auth, Acct}
 use Rattle.rad_auth.specs.declared.arrival.Request.{Request}
 use Rattle.rad_config.specs.Configurations.{Configuration}
-use Rattle.rad_recent.specs.Recent.{is_full, reply_to, without_key}
+use Rattle.rad_recent.specs.Recent.{reply_to, without_key}
 use Rattle.rad_recent.specs.Recent as replies
 use Rattle.rad_recent.specs.declared.kept.Kept.{Kept}
 use Rattle.rad_recent.specs.declared.key.Key.{Key}
 use Rattle.rad_server.specs.Access.{access}
 use Rattle.rad_server.specs.Accounting.{account}
 use Rattle.rad_server.specs.Replies.{status_reply}
+use Rattle.rad_server.specs.Shares.{lacks_room}
 use Rattle.rad_server.specs.States.{State, at_moment}
 use Rattle.rad_server.specs.declared.answer.Answer.{Answer}
 use Rattle.rad_server.specs.declared.answer.Answer.TheVariants.{Send, Busy}
@@ -44,6 +45,7 @@ without_reply request state = record state { replies = without_key (key_of reque
 abbrev pub with_reply : Request → Body → State → State
 with_reply request body state = record state {
   replies = replies.with_reply (record {
+    client = Some request.client;
     key = key_of request;
     octets = packet_octets request.packet;
     body = body;
@@ -62,10 +64,11 @@ reply_by_port Acct configuration state request draw = account configuration stat
 abbrev pub sent_and_kept : Request → Body × State → Answer × State
 sent_and_kept request (body, state) = (Send body, with_reply request body state)
 
--- the answer to a request that is no repeat, and the state after it; without room to keep a reply it is `Busy`
+-- the answer to a request that is no repeat, and the state after it; without room to keep a reply to its client it is `Busy`
 abbrev pub new_answer : Configuration → State → Request → List ℕ → Answer × State
 new_answer configuration state request draw =
-    if is_full state.replies then (Busy, state) else sent_and_kept request (reply_by_port request.door configuration state request draw)
+    if lacks_room configuration request.client state.replies then (Busy, state)
+    else sent_and_kept request (reply_by_port request.door configuration state request draw)
 
 -- the answer to a request, given the kept reply if it is a repeat, and the state after it
 abbrev pub answer_with : Configuration → State → Request → List ℕ → Option Kept → Answer × State

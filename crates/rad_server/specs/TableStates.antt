@@ -1,11 +1,11 @@
 -- The tables of a server as a state, and what holds of them. No other crate cites these.
-use Rattle.std.specs.Prelude.{◌≡◌, ℕ, ◌<◌, ◌≤◌, true, length, All}
+use Rattle.std.specs.Prelude.{◌≡◌, ℕ, ◌<◌, true, length, All}
 use Rattle.rad_auth.specs.Sealing.{IsReply}
 use Rattle.rad_auth.specs.declared.arrival.Request.{Request}
 use Rattle.rad_config.specs.Configurations.{Configuration}
 use Rattle.rad_pool.specs.Sessions.{AreSame as AreSameSessions, cut}
 use Rattle.rad_recent.specs.Challenges.{AreSame as AreSameChallenges, cut_challenges}
-use Rattle.rad_recent.specs.Recent.{cut_replies, kept_max}
+use Rattle.rad_recent.specs.Recent.{cut_replies}
 use Rattle.rad_server.specs.Servers.{state_with}
 use Rattle.rad_server.specs.States.{State, without_expired}
 use Rattle.rad_server.specs.Steps.{without_reply}
@@ -19,10 +19,8 @@ live_state now tables = without_expired (state_with now tables)
 abbrev pub state_for : Request → ℕ → Tables → State
 state_for request now tables = without_reply request (live_state now tables)
 
--- what plans rest on, which each lawful state has: no more replies than may be kept, which all can be sealed, and challenges of users
--- of the configuration
+-- what plans rest on, which each lawful state has: kept replies that can be sealed, and challenges of users of the configuration
 pub record AreUsable (configuration : Configuration) (tables : Tables) : Type 0 where
-  pub few : length tables.replies.table.kept ≤ kept_max
   pub sealable : All (λ reply. IsReply reply.body) tables.replies.table.kept
   pub users : All (λ challenge. challenge.user < length configuration.users) tables.challenges.table.challenges
 

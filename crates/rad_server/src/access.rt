@@ -1,17 +1,19 @@
 //! Who is granted access.
-ghost use Rattle.std.specs.Prelude.{◌≡◌, ◌≤◌, ◌<◌, IfOk, IfSome, Some, length, option_map};
+ghost use Rattle.std.specs.Prelude.{◌≡◌, ◌≤◌, ◌<◌, IfOk, IfSome, Ok, Some, length, option_map};
 ghost use Rattle.rad_config.specs.Configurations.{Configuration};
 ghost use Rattle.rad_config.specs.Spans.{moment_max};
-ghost use Rattle.rad_recent.specs.Challenges.{answered, cut_challenges};
-ghost use Rattle.rad_server.specs.Access.{user_challenged, user_decision, without_challenge};
+ghost use Rattle.rad_recent.specs.Challenges.{answered, cut_challenges, next_number};
+ghost use Rattle.rad_server.specs.Access.{challenge_number, user_challenged, user_decision, without_challenge};
 ghost use Rattle.rad_server.specs.Decisions.{CanBeGiven, Gives, decision_answering, decision_of, is_named, place_given, user_answering};
 ghost use Rattle.rad_server.specs.TableStates.{AreUsable, live_state, state_for};
 
 use crate::denial::Denial;
+use crate::shares;
 use crate::tables::Tables;
 use rad_auth::Request;
 use rad_config::Config;
 use rad_pool::Grant;
+use rad_recent::{Challenges, Party};
 
 /// An answer to a challenge.
 #[derive(Clone, Copy)]
@@ -50,18 +52,45 @@ pub(crate) fn decide_for_user(
     requires moment { now ≤ moment_max }
     requires within { user < length config.now.users }
     ensures decided { Gives decision_of result
-        (user_decision config.now (state_for request.now now tables.now) user) }
+        (user_decision config.now (state_for request.now now tables.now)
+        request.now.client user) }
     ensures given { IfOk result (CanBeGiven (live_state now tables.now)) }
     ensures within { IfOk result (λ given. place_given given < length config.now.users) }
 {
     if config.user_at(user).challenge.is_some() {
-        return match tables.challenges.peek(now) {
-            Ok(number) => Ok(Decision::Challenge(user, number)),
-            Err(_) => Err(Denial::ServerFull),
-        };
+        let number = next_challenge(config, &tables.challenges, now, request.client, user)?;
+        return Ok(Decision::Challenge(user, number));
     }
     let grant = tables.sessions.peek(config, request.client, user, now)?;
     Ok(Decision::Session(NewSession { user, grant }))
+}
+
+// The number of a challenge for a user, as far as the user and the client who sent the request may have one more.
+#[tactic(auto, unfolding(crate::specs::Access::challenge_number))]
+fn next_challenge(
+    config: &Config,
+    challenges: &Challenges,
+    now: u64,
+    client: u32,
+    user: u32,
+) -> Result<u64, Denial>
+    requires moment { now ≤ moment_max }
+    requires within { user < length config.now.users }
+    ensures number { result ≡ challenge_number config.now
+        (cut_challenges now challenges.now.table) client user }
+    ensures next { IfOk result (λ number.
+        (next_number (cut_challenges now challenges.now.table) ≡ Ok number)
+        × (number ≡ challenges.now.table.next)) }
+{
+    let limit = config.user_at(user).challenges.map(u64::from);
+    if shares::has_reached(challenges, Party::User(user), limit, now) {
+        return Err(Denial::SessionLimit);
+    }
+    let share = shares::of_challenges(config, client);
+    if shares::has_reached(challenges, Party::Client(client), share, now) {
+        return Err(Denial::ServerFull);
+    }
+    challenges.peek(now).map_err(|_| Denial::ServerFull)
 }
 
 /// What a request that answers a challenge is given at a moment: a session for the user who was challenged.

@@ -10,7 +10,7 @@ ghost use Rattle.rad_server.specs.Steps.{answer};
 
 use crate::answer::Answer;
 use crate::change::{Change, make_change};
-use crate::plan::{NewReply, Plan};
+use crate::plan::{NewReply, Plan, key_of};
 use crate::tables::Tables;
 use rad_auth::Request;
 use rad_config::Config;
@@ -58,7 +58,10 @@ pub(crate) fn commit(
     tables.expire(now);
     match plan {
         Plan::Unchanged(body) => Answer::Send(body),
-        Plan::Busy => Answer::Busy,
+        Plan::Busy => {
+            tables.replies.remove(&key_of(request));
+            Answer::Busy
+        }
         Plan::New(reply, kept) => {
             let NewReply {
                 body,

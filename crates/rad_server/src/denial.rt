@@ -18,11 +18,11 @@ pub enum Denial {
     WrongState,
     /// No user has the name, or the password is wrong.
     AccessDenied,
-    /// The user has as many sessions as the configuration allows.
+    /// The user has as many sessions, or as many challenges that wait, as the configuration allows.
     SessionLimit,
     /// Each address of the user's pool belongs to a session.
     NoAddressLeft,
-    /// There are as many sessions or challenges as there may be, or no number is left.
+    /// There are as many sessions or challenges as there may be, or as many challenges of the client; or no number is left.
     ServerFull,
 }
 

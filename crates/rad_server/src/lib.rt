@@ -32,6 +32,7 @@ mod reply;
 mod rule;
 mod runs;
 mod server;
+mod shares;
 mod tables;
 
 pub use accounting::{

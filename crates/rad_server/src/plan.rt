@@ -6,7 +6,6 @@ ghost use Rattle.rad_auth.specs.Admission.{proxy_states_max, proxy_states_size};
 ghost use Rattle.rad_auth.specs.Sealing.{IsReply};
 ghost use Rattle.rad_config.specs.Configurations.{Configuration};
 ghost use Rattle.rad_config.specs.Spans.{moment_max};
-ghost use Rattle.rad_recent.specs.Recent.{beside, is_full};
 ghost use Rattle.rad_server.specs.Decisions.{place_given};
 ghost use Rattle.rad_server.specs.FixedReplies.{fixed_body};
 ghost use Rattle.rad_server.specs.Plans.{IsDecidedReply, IsNewReply, IsPlanOf, planned_answer};
@@ -24,10 +23,11 @@ use crate::fixed_reply::FixedReply;
 use crate::prepared::{Prepared, Ruled, Told};
 use crate::reply::{access_accept, access_challenge, access_reject};
 use crate::rule::Rule;
+use crate::shares;
 use crate::tables::Tables;
 use rad_auth::Request;
 use rad_packet::{Body, Octets, Packet};
-use rad_recent::{Kept, Key, Recent};
+use rad_recent::{Kept, Key};
 use std::alloc::{AllocError, Global};
 
 /// A reply by a rule, and what changes with it.
@@ -44,7 +44,7 @@ pub(crate) struct NewReply<'a> {
 pub(crate) enum Plan<'a> {
     /// It sends this, and nothing changes, except that what is no longer live is removed.
     Unchanged(Body),
-    /// It sends nothing, since no more replies may be kept.
+    /// It sends nothing, since no more replies may be kept, or none of the client's. A reply to a request with the same key goes.
     Busy,
     /// It sends a new reply, and keeps it.
     New(NewReply<'a>, Kept),
@@ -90,12 +90,19 @@ pub(crate) fn plan_step<'a>(
     if let Some(kept) = tables.replies.look(&key, request.packet.octets(), now) {
         return Ok(Plan::Unchanged(kept.copy()?));
     }
-    if is_full(&tables.replies, &key, now) {
+    if shares::lacks_room(
+        prepared.config(),
+        &tables.replies,
+        request.client,
+        &key,
+        now,
+    ) {
         return Ok(Plan::Busy);
     }
     let mut reply = plan_reply(alloc, tables, now, prepared, ruled, draw)?;
     reply.body.share()?;
     let kept = Kept {
+        client: Some(request.client),
         key,
         octets: octets_to_keep(alloc, &request.packet, octets)?,
         body: reply.body.copy()?,
@@ -138,8 +145,8 @@ fn octets_to_keep(
     }
 }
 
-// What a request is recognised by, besides its octets.
-fn key_of(request: &Request) -> Key
+/// What a request is recognised by, besides its octets.
+pub(crate) fn key_of(request: &Request) -> Key
     ensures { result ≡ key_of request.now }
 {
     Key {
@@ -148,14 +155,6 @@ fn key_of(request: &Request) -> Key
         door: request.door,
         id: request.packet.identifier(),
     }
-}
-
-// Whether a reply to a request with this key can't be kept, since too many others are.
-fn is_full(replies: &Recent, key: &Key, now: u64) -> bool
-    requires { now ≤ moment_max }
-    ensures { result ≡ is_full (beside key.now now replies.now.table) }
-{
-    replies.peek(key, now).is_err()
 }
 
 // The reply by a rule.

@@ -10,7 +10,9 @@ use rad_auth::admitted_are_answerable;
 /// The call costs nothing: it does nothing at run time.
 pub fn runs_repeat()
     ensures { RunsRepeat }
-{}
+{
+    admitted_are_answerable();
+}
 
 /// Every history that a server runs from a lawful state leads through lawful states alone.
 ///

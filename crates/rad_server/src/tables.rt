@@ -27,7 +27,7 @@ impl Tables {
     {
         Ok(Tables {
             sessions: Sessions::open_keyed(alloc, config, key)?,
-            replies: Recent::open_keyed(alloc, config, key),
+            replies: Recent::open_keyed(alloc, config, key)?,
             challenges: Challenges::open(alloc, config)?,
         })
     }

@@ -14,6 +14,7 @@ mod replies;
 mod requests;
 mod resets;
 mod sessions;
+mod shares;
 mod stale;
 mod status;
 mod texts;

@@ -90,9 +90,10 @@ const RUNS: &[(&str, Run)] = &[
         Run::Table(tables::Call::GrantAfterRoom),
     ),
     ("Sessions::copy", Run::Table(tables::Call::SessionsCopy)),
+    ("Recent::open", Run::Table(tables::Call::RecentOpen)),
     (
-        "Recent::open, without memory",
-        Run::Table(tables::Call::RecentOpen),
+        "Recent::open_keyed",
+        Run::Table(tables::Call::RecentOpenKeyed),
     ),
     ("Recent::room", Run::Table(tables::Call::RecentRoom)),
     ("Recent::make_ready", Run::Table(tables::Call::MakeReady)),

@@ -24,6 +24,7 @@ pub(crate) enum Call {
     GrantAfterRoom,
     SessionsCopy,
     RecentOpen,
+    RecentOpenKeyed,
     RecentRoom,
     MakeReady,
     Keep,
@@ -64,6 +65,7 @@ fn judge_with(alloc: Global, config: &Config, call: Call) -> Verdict {
         | Call::GrantAfterRoom
         | Call::SessionsCopy => judge(alloc, SessionsTrial::ready(alloc, config, call)),
         Call::RecentOpen
+        | Call::RecentOpenKeyed
         | Call::RecentRoom
         | Call::MakeReady
         | Call::Keep
@@ -261,6 +263,10 @@ impl<'c> Trial for RecentTrial<'c> {
     fn call(&mut self) -> Called {
         match self.call {
             Call::RecentOpen => keep(&mut self.given, Recent::open(self.alloc, self.config)),
+            Call::RecentOpenKeyed => keep(
+                &mut self.given,
+                Recent::open_keyed(self.alloc, self.config, HASH_KEY),
+            ),
             Call::RecentRoom => kept(self.recent.room(&KEY, 0)),
             Call::MakeReady => Called::by(self.recent.make_ready(&KEY).is_ok()),
             Call::RecentCopy => keep(&mut self.given, self.recent.copy()),
@@ -293,6 +299,7 @@ fn reply(alloc: Global) -> Result<Kept, AllocError> {
     let mut body = Body::new(alloc, ACCESS_ACCEPT);
     body.push(USER_NAME, b"nemo")?;
     Ok(Kept {
+        client: Some(0),
         key: KEY,
         octets: Octets::new(b"a request".to_vec(alloc)?),
         body,

@@ -10,6 +10,13 @@ const WHOLE: &str = "hold = 120\n\
     [[pool]]\nname = \"b\"\nfirst = \"10.0.1.1\"\nlast = \"10.0.1.9\"\n\
     [[user]]\nname = \"u\"\npassword = \"p\"\npool = \"b\"\n";
 
+/// Two clients, and two of which one has a share.
+const TWO: &str = "[[client]]\naddress = \"192.168.1.16\"\nsecret = \"s\"\n\
+    [[client]]\naddress = \"192.168.1.17\"\nsecret = \"t\"\n";
+
+const SHARED: &str = "[[client]]\naddress = \"192.168.1.16\"\nsecret = \"s\"\n\
+    [[client]]\naddress = \"192.168.1.17\"\nsecret = \"t\"\nshare = 9\n";
+
 /// A pool, and addresses that are held for less than two minutes.
 const BRIEF: &str =
     "hold = 119\n[[pool]]\nname = \"a\"\nfirst = \"10.0.0.1\"\nlast = \"10.0.0.9\"\n";
@@ -35,6 +42,9 @@ fn warnings_apply_where_something_is_missing(rt: HostRuntime) {
         (WHOLE, Warning::NoClient, false),
         (WHOLE, Warning::NoUser, false),
         (WHOLE, Warning::ShortHold, false),
+        (WHOLE, Warning::NoShare, false),
+        (TWO, Warning::NoShare, true),
+        (SHARED, Warning::NoShare, false),
         (WHOLE, Warning::IdlePool(0), true),
         (WHOLE, Warning::IdlePool(1), false),
     ];

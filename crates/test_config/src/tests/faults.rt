@@ -125,6 +125,22 @@ fn the_first_fault_is_reported(rt: HostRuntime) {
             "config fault 2 Missing at pool 2 last",
         ),
         (
+            "client = [{address = \"1.2.3.4\", secret = \"s\", share = 0}, 5]",
+            "config fault 3 BadValue at client 2 entry",
+        ),
+        (
+            "pool = 3\nclient = [{address = \"1.2.3.4\", secret = \"s\", share = \"1\"}]",
+            "config fault 3 BadValue at client 1 share",
+        ),
+        (
+            "user = [{name = \"a\", password = \"b\", challenges = 0, challenge = \"c\"}]",
+            "config fault 2 Missing at user 1 answer",
+        ),
+        (
+            "user = [{name = \"a\", password = \"b\", grants = 0, challenges = 0}]",
+            "config fault 3 BadValue at user 1 challenges",
+        ),
+        (
             "user = [{name = \"a\", sessions = 0, pool = \"x\"}]",
             "config fault 2 Missing at user 1 password",
         ),

@@ -46,6 +46,24 @@ const NUMBERS: &[(&str, [i64; 2], [i64; 2], &str)] = &[
         [0, 4_294_967_296],
         "config fault 3 BadValue at user 1 timeout",
     ),
+    (
+        "[[user]]\nname = \"a\"\npassword = \"b\"\nchallenges",
+        [1, 1_024],
+        [0, 1_025],
+        "config fault 3 BadValue at user 1 challenges",
+    ),
+    (
+        "[[user]]\nname = \"a\"\npassword = \"b\"\ngrants",
+        [1, 65_536],
+        [0, 65_537],
+        "config fault 3 BadValue at user 1 grants",
+    ),
+    (
+        "[[client]]\naddress = \"1.2.3.4\"\nsecret = \"s\"\nshare",
+        [1, 100],
+        [0, 101],
+        "config fault 3 BadValue at client 1 share",
+    ),
 ];
 
 // Asserts the outcome of a text with this value at a key.

@@ -137,6 +137,8 @@ fn is_nemo(rt: &impl Abort, nemo: &User) {
     holds(rt, nemo.message.is_none(), "no message");
     holds(rt, nemo.challenge.is_none(), "no challenge");
     holds(rt, nemo.answer.is_none(), "no answer");
+    holds(rt, nemo.challenges.is_none(), "no limit of challenges");
+    holds(rt, nemo.grants.is_none(), "no limit of grants");
 }
 
 // Asserts what the campus says of kay.
@@ -166,7 +168,7 @@ fn a_user_has_what_the_text_says(rt: HostRuntime) -> Result<(), Fail> {
     Ok(())
 }
 
-const LINE_COUNT: usize = 19;
+const LINE_COUNT: usize = 22;
 
 // The lines of a configuration, each with another that says something else.
 const LINES: &[(&str, &str); LINE_COUNT] = &[
@@ -182,6 +184,7 @@ const LINES: &[(&str, &str); LINE_COUNT] = &[
         "require_message_authenticator = true",
         "require_message_authenticator = false",
     ),
+    ("share = 50", "share = 51"),
     ("[[pool]]\nname = \"a\"", "[[pool]]\nname = \"A\""),
     ("first = \"1.0.0.2\"", "first = \"1.0.0.1\""),
     ("last = \"1.0.0.3\"", "last = \"1.0.0.4\""),
@@ -198,6 +201,8 @@ const LINES: &[(&str, &str); LINE_COUNT] = &[
     ("message = \"m\"", "message = \"M\""),
     ("challenge = \"c\"", "challenge = \"d\""),
     ("answer = \"4711\"", "answer = \"4712\""),
+    ("challenges = 2", ""),
+    ("grants = 9", "grants = 10"),
 ];
 
 // The text in which this one line says something else.
@@ -242,6 +247,27 @@ fn differs_at_each<R: Abort + AllocGlobal>(rt: &R, config: &Config) -> Result<()
     for place in 0..LINE_COUNT {
         differs_at(rt, config, place)?;
     }
+    Ok(())
+}
+
+// Asserts the shares of three clients.
+fn are_shared(rt: &impl Abort, config: &Config) {
+    holds(rt, config.shares().len() == 3, "three");
+    holds(rt, config.share(0).is_none(), "the first has none");
+    holds(rt, config.share(1) == Some(60), "the second's");
+    holds(rt, config.share(2) == Some(100), "the third's");
+    holds(rt, config.share(3).is_none(), "there is no fourth");
+}
+
+#[test]
+fn clients_have_shares(rt: HostRuntime) -> Result<(), Fail> {
+    let config = Config::read(
+        rt.alloc(),
+        "[[client]]\naddress = \"1.2.3.4\"\nsecret = \"a\"\n\
+        [[client]]\naddress = \"1.2.3.5\"\nsecret = \"b\"\nshare = 60\n\
+        [[client]]\naddress = \"1.2.3.6\"\nsecret = \"c\"\nshare = 100\n",
+    )?;
+    are_shared(&rt, &config);
     Ok(())
 }
 

@@ -1,7 +1,7 @@
 use super::CAMPUS;
 use crate::tests::holds;
 use rad_config::{Config, MOMENT_MAX};
-use rad_recent::{Challenge, Challenges, IssueFault, state_value};
+use rad_recent::{Challenge, Challenges, IssueFault, Party, state_value};
 use std::alloc::Global;
 use std::process::Abort;
 use std::test::Fail;
@@ -14,6 +14,8 @@ enum Call {
     /// A State of a number and a draw, cut to so many octets, and a client; and the user and the moment of the challenge that is
     /// answered.
     Take(u64, u8, usize, u32, Option<(u32, u64)>),
+    /// So many live challenges of a party wait.
+    Count(Party, u64),
     Expire,
     /// The number of each challenge, oldest first.
     Rows(&'static [u64]),
@@ -23,7 +25,7 @@ enum Call {
     Fill,
 }
 
-use Call::{Copy, Expire, Fill, Issue, Rows, Take};
+use Call::{Copy, Count, Expire, Fill, Issue, Rows, Take};
 
 /// The moment of a call in milliseconds, the call, and what is said if it has another outcome.
 type Row = (u64, Call, &'static str);
@@ -61,6 +63,7 @@ fn make(challenges: &mut Challenges, now: u64, call: &Call) -> bool {
             let state = &state[..(*len).min(24)];
             takes(challenges, state, *client, now, challenge)
         }
+        Count(party, count) => counts(challenges, *party, now) == Some(*count),
         Expire => expire(challenges, now),
         Rows(wanted) => are_rows(challenges, wanted),
         Copy(number) => copies(challenges, *number, now),
@@ -83,6 +86,14 @@ fn issue(
     challenges.room().ok()?;
     let issued = challenges.issue(client, user, &[draw; 16], now);
     if peeked == issued { Some(issued) } else { None }
+}
+
+// How many live challenges of a party wait.
+fn counts(challenges: &Challenges, party: Party, now: u64) -> Option<u64> {
+    if MOMENT_MAX < now {
+        return None;
+    }
+    Some(challenges.count_of(party, now))
 }
 
 fn expire(challenges: &mut Challenges, now: u64) -> bool {
@@ -141,6 +152,33 @@ fn fills(challenges: &mut Challenges, now: u64) -> bool {
         is_right = is_right && issue(challenges, 0, 3, 7, now) == Some(Ok(number));
     }
     is_right
+}
+
+#[test]
+fn clients_and_users_have_their_challenges(rt: HostRuntime) -> Result<(), Fail> {
+    const ROWS: &[Row] = &[
+        (0, Issue(0, 3, 7, Ok(1)), "one"),
+        (1_000, Issue(0, 2, 7, Ok(2)), "another user's"),
+        (2_000, Issue(1, 3, 7, Ok(3)), "another client's"),
+        (
+            2_000,
+            Count(Party::Client(0), 2),
+            "the first client has two",
+        ),
+        (2_000, Count(Party::Client(1), 1), "the second has one"),
+        (2_000, Count(Party::Client(2), 0), "a third has none"),
+        (2_000, Count(Party::User(3), 2), "the first user has two"),
+        (2_000, Count(Party::User(2), 1), "the other has one"),
+        (60_000, Count(Party::User(3), 1), "the first one is over"),
+        (
+            60_000,
+            Take(3, 7, 24, 1, Some((3, 2_000))),
+            "one is answered",
+        ),
+        (60_000, Count(Party::User(3), 0), "none is left"),
+        (60_000, Count(Party::Client(0), 1), "but the other user's"),
+    ];
+    play(&rt, rt.alloc(), ROWS)
 }
 
 #[test]

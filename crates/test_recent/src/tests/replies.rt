@@ -3,7 +3,7 @@ use crate::tests::holds;
 use rad_auth::Door;
 use rad_config::{Config, MOMENT_MAX};
 use rad_packet::{Body, Octets};
-use rad_recent::{KeepFault, Key, Recent};
+use rad_recent::{KeepFault, Kept, Key, Recent};
 use std::alloc::Global;
 use std::process::Abort;
 use std::test::Fail;
@@ -33,13 +33,17 @@ enum Call {
     Copy(u32),
     /// Each row of `REPEATS` is or isn't found.
     Repeats,
+    /// A reply to the request of this place is kept, which takes this client's share.
+    Put(u32, u32),
+    /// So many live replies take a client's share, that to the request of this place left out.
+    Count(u32, u32, u64),
     /// A reply to each of 65,536 requests is kept.
     Fill,
     /// A reply to the request of this place isn't kept, and nothing changes.
     Refuse(u32),
 }
 
-use Call::{Copy, Expire, Fill, Keep, Look, Refuse, Repeats, Rows, Share};
+use Call::{Copy, Count, Expire, Fill, Keep, Look, Put, Refuse, Repeats, Rows, Share};
 
 /// The moment of a call in milliseconds, the call, and what is said if it has another outcome.
 type Row = (u64, Call, &'static str);
@@ -81,6 +85,8 @@ fn make(recent: &mut Recent, alloc: Global, now: u64, call: &Call) -> bool {
         Rows(wanted) => are_rows(recent, wanted),
         Copy(place) => copies(recent, alloc, *place, now),
         Repeats => are_repeats(recent),
+        Put(place, client) => puts(recent, alloc, *place, *client, now),
+        Count(client, place, count) => counts(recent, *client, *place, now) == Some(*count),
         Fill => fills(recent, alloc, now),
         Refuse(place) => refuses(recent, alloc, *place, now),
     }
@@ -176,6 +182,30 @@ fn refuses(recent: &mut Recent, alloc: Global, place: u32, now: u64) -> bool {
     (kept, recent.same(&before)) == (Some(Err(KeepFault::Full)), true)
 }
 
+// Whether memory is made ready for a reply of a client, which is then kept.
+fn puts(recent: &mut Recent, alloc: Global, place: u32, client: u32, now: u64) -> bool {
+    let key = key_at(place);
+    if recent.make_ready(&key).is_err() {
+        return false;
+    }
+    recent.put(Kept {
+        client: Some(client),
+        key,
+        octets: Octets::new(Vec::new(alloc)),
+        body: Body::new(alloc, 2),
+        made: now,
+    });
+    true
+}
+
+// How many live replies take a client's share.
+fn counts(recent: &Recent, client: u32, place: u32, now: u64) -> Option<u64> {
+    if MOMENT_MAX < now {
+        return None;
+    }
+    Some(recent.count_of(client, &key_at(place), now))
+}
+
 // Whether as many replies are kept as there may be: to all Identifiers of 256 ports.
 fn fills(recent: &mut Recent, alloc: Global, now: u64) -> bool {
     let mut is_right = true;
@@ -245,6 +275,43 @@ fn replies_expire_each_in_its_turn(rt: HostRuntime) -> Result<(), Fail> {
         (30_000, Rows(&[(2, 5_000)]), "the first stays"),
         (35_000, Expire, "the first's end"),
         (35_000, Rows(&[]), "none is left"),
+    ];
+    play(&rt, rt.alloc(), ROWS)
+}
+
+#[test]
+fn a_client_has_the_replies_that_take_its_share(rt: HostRuntime) -> Result<(), Fail> {
+    const ROWS: &[Row] = &[
+        (0, Put(1, 0), "a reply of the first client"),
+        (0, Put(2, 0), "another"),
+        (5_000, Put(3, 1), "one of the second client"),
+        (5_000, Keep(4, FIRST, 2, Ok(())), "one of nobody"),
+        (5_000, Put(5, 300), "one of a client that isn't there"),
+        (5_000, Count(0, 9, 2), "the first client has two"),
+        (5_000, Count(0, 1, 1), "one without the key's own"),
+        (5_000, Count(0, 3, 2), "another's key is not its own"),
+        (5_000, Count(1, 9, 1), "the second client has one"),
+        (5_000, Count(2, 9, 0), "a third has none"),
+        (5_000, Count(300, 9, 1), "one that isn't there has one"),
+        (
+            6_000,
+            Put(1, 1),
+            "the first key's reply is the second client's",
+        ),
+        (6_000, Count(0, 9, 1), "the first client has one less"),
+        (6_000, Count(1, 9, 2), "the second has one more"),
+        (30_000, Count(0, 9, 0), "the last one of the first is over"),
+        (30_000, Expire, "its end"),
+        (30_000, Count(0, 9, 0), "it has none"),
+        (30_000, Put(2, 0), "and then one again"),
+        (30_000, Count(0, 9, 1), "one"),
+        (35_000, Expire, "others end"),
+        (
+            35_000,
+            Count(1, 9, 1),
+            "the later one of the second lives on",
+        ),
+        (35_000, Count(300, 9, 0), "the one of nobody known doesn't"),
     ];
     play(&rt, rt.alloc(), ROWS)
 }

@@ -1,4 +1,4 @@
-use Rattle.std.proofs.Common.{◌+◌, Ok, arith, subst, sym}
+use Rattle.std.proofs.Common.{Ok, arith, subst, sym}
 use Rattle.std.proofs.lemmas.Result.{err_from_is_err_and}
 use Rattle.rad_config.specs.Ranges.{IsConfiguration}
 use Rattle.rad_server.specs.Lawful.{IsLawful}
