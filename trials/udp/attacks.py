@@ -3,11 +3,12 @@
 All of the good client's requests must be answered and, but in a flood that takes all of the server's time, half of them within three
 times the time that half of them took without the attack: before it, or after it if they took longer then. So that it isn't judged how busy
 the machine is, a trial is made anew, up to three times, until all is as it must be. All attackers and the good client are addresses of
-127/8, which is one client's network.
+127/8, which is one client's network; where one takes what all need, two of them are clients.
 """
 
 import contextlib
 import functools
+import itertools
 import math
 import os
 import re
@@ -18,7 +19,7 @@ import subprocess
 import time
 from typing import NamedTuple
 
-from serving import SECRET, access_request, accounting_request, compiled, judge, limited, path, serving, status_server
+from serving import SECRET, access_request, accounting_request, attribute, compiled, judge, limited, path, serving, status_server
 
 TRIES = 3
 SLOWER = 3  # how many times as long as without an attack half of the replies may take
@@ -43,11 +44,35 @@ STEP = 0.3  # seconds from one log-in to the next meanwhile: a turn waits up to 
 REFUSED = 3  # log-ins that must get no reply before memory comes back
 KEYS = 60_000  # that collide: they leave room for the kept replies of the good client
 
+GREEDY = 0x7F000004  # a client that takes what all need
+CHALLENGES = 8  # of a user
+KEPT = 65_536  # replies
+SHARE = 50  # of a client, in percent
+GRANTS = 3  # of a user
+LOG_INS = 12  # of another, who needs as many addresses
+
 
 def configuration(window=60, hold=3_600):
     """One client, and sixteen users with as many sessions as may be."""
-    users = "".join(f'[[user]]\nname = "u{number}"\npassword = "pw"\nsessions = 4096\n' for number in range(16))
-    return f'window = {window}\nhold = {hold}\n[[client]]\naddress = "127.0.0.0/8"\nsecret = "{SECRET.decode()}"\n{users}'
+    users = "".join(user(f"u{number}", "sessions = 4096") for number in range(16))
+    return f"window = {window}\nhold = {hold}\n{client_at('127.0.0.0/8')}{users}"
+
+
+def two_clients(*entries, key=""):
+    """The good client, a greedy one, perhaps with a further key, and these entries."""
+    return f"window = 60\nhold = 3600\n{client_at('127.0.0.1')}{client_at(dotted(GREEDY), key)}{''.join(entries)}"
+
+
+def client_at(address, key=""):
+    return f'[[client]]\naddress = "{address}"\nsecret = "{SECRET.decode()}"\n{key}\n'
+
+
+def user(name, *keys):
+    return "\n".join((f'[[user]]\nname = "{name}"\npassword = "pw"', *keys, ""))
+
+
+def dotted(address):
+    return ".".join(map(str, address.to_bytes(4, "big")))
 
 
 # ---- the good client
@@ -61,45 +86,81 @@ class Figures(NamedTuple):
     middle: float  # microseconds until a reply: half of them took no longer
 
 
-def has_reply(client, request, code):
-    """Whether a reply with this Code comes within a second. Late ones to earlier requests don't count."""
+@contextlib.contextmanager
+def client_of(port, source="127.0.0.1"):
+    """The socket of a client of this port."""
+    with socket.socket(socket.AF_INET, socket.SOCK_DGRAM) as client:
+        client.bind((source, 0))
+        client.connect(("127.0.0.1", port))
+        client.settimeout(1)
+        yield client
+
+
+def reply_to(client, request):
+    """The reply, if it comes within a second. Late ones to earlier requests don't count."""
     client.send(request)
     until = time.monotonic() + 1
     while time.monotonic() < until:
         try:
             reply = client.recv(4096)
         except socket.timeout:
-            return False
-        if reply[:2] == bytes([code, request[1]]):
-            return True
-    return False
+            return b""
+        if reply[1] == request[1]:
+            return reply
+    return b""
 
 
-def good_client(port, request_of, code, source="127.0.0.1"):
-    """What a client sees that asks one request after the other, each of which is new and is to get a reply with this Code."""
+def good_client(port, requests, source="127.0.0.1"):
+    """What a client sees that asks one request after the other, each of which is new and is to get a reply with a certain Code.
+
+    A generator gives request and Code, and gets the reply.
+    """
     asked, times = 0, []
-    with socket.socket(socket.AF_INET, socket.SOCK_DGRAM) as client:
-        client.bind((source, 0))
-        client.connect(("127.0.0.1", port))
-        client.settimeout(1)
+    with client_of(port, source) as client:
+        request, code = next(requests)
         until = time.monotonic() + SPAN
         while time.monotonic() < until:
-            request = request_of(asked)
             asked += 1
             began = time.perf_counter()
-            if has_reply(client, request, code):
+            reply = reply_to(client, request)
+            if reply[:1] == bytes([code]):
                 times.append(1e6 * (time.perf_counter() - began))
             time.sleep(0.002)
+            request, code = requests.send(reply)
+    return figures(asked, times)
+
+
+def figures(asked, times):
     return Figures(asked, len(times), statistics.median(times) if times else math.inf)
 
 
 def logging_in(server):
-    return good_client(server.auth, lambda number: access_request(number % 256, GOOD, authenticator=os.urandom(16)), 2)
+    return good_client(server.auth, ((log_in(number), 2) for number in itertools.count()))
+
+
+def log_in(number, name=GOOD, password=b"pw", rest=b""):
+    return access_request(number % 256, name, password, os.urandom(16), rest)
 
 
 def reporting(server):
     """An Interim-Update of one session after the other."""
-    return good_client(server.acct, lambda number: accounting_request(number % 256, 3, class_of(number)), 5)
+    return reporting_as(3, server)
+
+
+def reporting_as(status, server, source="127.0.0.1"):
+    reports = ((accounting_request(number % 256, status, class_of(number)), 5) for number in itertools.count())
+    return good_client(server.acct, reports, source)
+
+
+def answering(server):
+    """Log-ins that are challenged, each followed by the answer."""
+    return good_client(server.auth, challenges_and_answers())
+
+
+def challenges_and_answers():
+    for number in itertools.count(0, 2):
+        state = attribute((yield log_in(number, b"kay"), 11), 24)
+        yield log_in(number + 1, b"kay", b"4711", bytes([24, 2 + len(state)]) + state), 2
 
 
 def class_of(number):
@@ -291,12 +352,30 @@ def unsigned(keys, password):
 
 
 def cost_of_an_accounting_on():
-    """An Accounting-On of a source without sessions costs what an Interim-Update costs."""
-    source = ".".join(map(str, SHARER.to_bytes(4, "big")))
+    """An Accounting-On of a source costs what an Interim-Update costs, whether it has no session or one."""
     with full_server() as server:
         before = reporting(server)
-        ons = good_client(server.acct, lambda number: accounting_request(number % 256, 7, class_of(number)), 5, source)
-        return [compared("Accounting-Ons that end nothing, beside Interim-Updates", ons, before, reporting(server))]
+        nothing, one = reporting_as(7, server, dotted(SHARER)), ending(server, dotted(SHARER))
+        after = reporting(server)
+    return [
+        compared("Accounting-Ons that end nothing, beside Interim-Updates", nothing, before, after),
+        compared("Accounting-Ons that end a session, beside Interim-Updates", one, before, after),
+    ]
+
+
+def ending(server, source):
+    """Accounting-Ons, each after a log-in of its source."""
+    asked, times = 0, []
+    with client_of(server.auth, source) as auth, client_of(server.acct, source) as acct:
+        until = time.monotonic() + SPAN
+        while time.monotonic() < until:
+            reply_to(auth, log_in(asked))
+            began = time.perf_counter()
+            if reply_to(acct, accounting_request(asked % 256, 7, class_of(SESSIONS + asked)))[:1] == b"\x05":
+                times.append(1e6 * (time.perf_counter() - began))
+            asked += 1
+            time.sleep(0.002)
+    return figures(asked, times)
 
 
 class LogIns:
@@ -357,10 +436,10 @@ def short_of_memory(limit):
         yield log_ins
 
 
-def rejects(rest, port):
+def rejects(rest, port, source=FORGER, count=REJECTS):
     """Log-ins with a wrong password from ports from this one on."""
-    for number in range(REJECTS):
-        yield FORGER, port + number // 256, access_request(number % 256, GOOD, b"no", rest=rest)
+    for number in range(count):
+        yield source, port + number // 256, access_request(number % 256, GOOD, b"no", rest=rest)
 
 
 def come_back(meanwhile, log_ins):
@@ -371,6 +450,61 @@ def come_back(meanwhile, log_ins):
     return Seen(line, is_so and refused >= REFUSED and pause < 3 * STEP)
 
 
+def one_user_fills_the_challenges():
+    """Log-ins of a user who never answers, more of them than challenges may wait."""
+    challenged = ('challenge = "code?"', 'answer = "4711"', "sessions = 4096")
+    text = two_clients(user("kay", *challenged), user("eve", *challenged, f"challenges = {CHALLENGES}"))
+    log_ins = [(GREEDY, 20_000 + number // 256, access_request(number % 256, b"eve")) for number in range(10_000)]
+    with serving(configuration=text) as server, client_of(server.auth, dotted(GREEDY)) as greedy:
+        before = messages(greedy, 2 * CHALLENGES)
+        seen = attacked("challenges beside those of another user", answering, server, server.auth, log_ins, 5_000)
+        after = messages(greedy, CHALLENGES)
+    line = f"that user: {before.count(b'code?')} log-ins challenged, then {(before + after).count(b'session limit')} rejected"
+    return [seen, Seen(line, before + after == [b"code?"] * CHALLENGES + [b"session limit"] * 2 * CHALLENGES)]
+
+
+def messages(client, count):
+    """The Reply-Messages that eve's log-ins get."""
+    return [attribute(reply_to(client, log_in(number, b"eve")), 18) for number in range(count)]
+
+
+def one_client_fills_the_replies():
+    """Rejected log-ins of a client, more of them than its share of the kept replies."""
+    first, changed, another = log_in(0, GOOD, b"no"), log_in(0, GOOD, b"no"), log_in(1, GOOD, b"no")
+    text = two_clients(user(GOOD.decode(), "sessions = 4096"), key=f"share = {SHARE}")
+    with serving(configuration=text) as server, client_of(server.auth, dotted(GREEDY)) as greedy:
+        reply = reply_to(greedy, first)
+        asked, replies = ask(server.auth, rejects(b"", 10_000, GREEDY, KEPT))
+        more = list(rejects(b"", 20_000, GREEDY, 10_000))
+        seen = attacked("log-ins beside those of a client that has its share", logging_in, server, server.auth, more, 10_000)
+        again = [reply_to(greedy, another), reply_to(greedy, first), reply_to(greedy, changed)[:1]]
+    line = f"that client: {1 + replies} of {1 + asked} answered, then a new, a repeated and a changed request: {list(map(bool, again))}"
+    return [seen, Seen(line, 1 + replies == KEPT * SHARE // 100 and again == [b"", reply, b"\x03"])]
+
+
+def one_user_takes_a_pool():
+    """Log-ins of a user, each with a Stop, beside log-ins of another from the same small pool."""
+    pool = f'[[pool]]\nname = "small"\nfirst = "10.0.0.1"\nlast = "10.0.0.{GRANTS + LOG_INS}"\n'
+    eve = user("eve", 'pool = "small"', "sessions = 1", f"grants = {GRANTS}")
+    ann = user("ann", 'pool = "small"', f"sessions = {LOG_INS}")
+    said, times = [], []
+    with serving(configuration=two_clients(pool, eve, ann)) as server, client_of(server.auth) as good:
+        with client_of(server.auth, dotted(GREEDY)) as greedy, client_of(server.acct, dotted(GREEDY)) as stopping:
+            for number in range(LOG_INS):
+                reply = reply_to(greedy, log_in(number, b"eve"))
+                said.append(reply[:1] + attribute(reply, 18))
+                reply_to(stopping, accounting_request(number, 2, attribute(reply, 25)))
+                began = time.perf_counter()
+                if attribute(reply_to(good, log_in(number, b"ann")), 8):
+                    times.append(1e6 * (time.perf_counter() - began))
+                time.sleep(0.1)
+    seen = answered("log-ins from a pool whose addresses another user takes", figures(LOG_INS, times))
+    accepted, rejected = b"\x02", b"\x03session limit"
+    line = f"that user: {said.count(accepted)} log-ins accepted, then {said.count(rejected)} rejected"
+    return [seen, Seen(line, said == [accepted] * GRANTS + [rejected] * (LOG_INS - GRANTS))]
+
+
 TRIALS = tuple(map(tried, (
-    storm_of_accounting_ons, storm_of_forgeries, floods, memory_that_comes_back, colliding_keys, cost_of_an_accounting_on
+    storm_of_accounting_ons, storm_of_forgeries, floods, memory_that_comes_back, colliding_keys, cost_of_an_accounting_on,
+    one_user_fills_the_challenges, one_client_fills_the_replies, one_user_takes_a_pool,
 )))
