@@ -203,7 +203,7 @@ impl<'p, 'c> Pair<'p, 'c> {
 // Whether there are so many sessions and kept replies at least.
 fn has_rows(server: &Server, rows: u64) -> bool {
     let last = rows.saturating_sub(1) as usize;
-    server.sessions().rows().nth(last).is_some() && server.replies().rows().nth(last).is_some()
+    server.sessions().rows().nth(last).is_some() && server.recent().rows().nth(last).is_some()
 }
 
 fn time_alone<R: Clock>(

@@ -83,6 +83,12 @@ pub record IsWhole (octets : List ℕ) : Type 0 where
   pub field : take 2 (drop 2 octets) ≡ to_be_bytes w16 (length octets)
   pub attributes : AreAttributes (drop header_size octets) (attributes_in (drop header_size octets))
 
+abbrev pub read_fault_number : ReadFault → ℕ
+read_fault_number Short = 1
+read_fault_number BadLength = 2
+read_fault_number Truncated = 3
+read_fault_number BadAttributes = 4
+
 -- What each fault says, where none before it applies.
 abbrev pub IsFault : List ℕ → ReadFault → Type 0
 IsFault datagram Short = length datagram < header_size

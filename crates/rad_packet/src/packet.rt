@@ -2,7 +2,7 @@ ghost use Rattle.std.specs.Prelude.{◌≡◌, ◌≤◌, length, IfOk, IfErr, I
 ghost use Rattle.std.specs.List.{AllByRecursion};
 ghost use Rattle.std.specs.Option.{option_copied};
 ghost use Rattle.rad_packet.specs.Attributes.{IsAttribute, first_value, first_value_of_len, count};
-ghost use Rattle.rad_packet.specs.Packets.{Packet, packet_of, packet_octets, packet_length, length_field, length_max, IsPacket, IsFault};
+ghost use Rattle.rad_packet.specs.Packets.{Packet, packet_of, read_fault_number, packet_octets, packet_length, length_field, length_max, IsPacket, IsFault};
 
 use crate::attribute::{Attributes, are_attributes};
 use std::marker::Model;
@@ -25,6 +25,20 @@ pub enum ReadFault {
     Truncated,
     #[error("octets that are no attributes")]
     BadAttributes,
+}
+
+impl ReadFault {
+    /// The number under which it is reported.
+    pub fn number(self) -> u8
+        ensures { result ≡ read_fault_number self }
+    {
+        match self {
+            ReadFault::Short => 1,
+            ReadFault::BadLength => 2,
+            ReadFault::Truncated => 3,
+            ReadFault::BadAttributes => 4,
+        }
+    }
 }
 
 /// A packet, borrowed from the datagram that it came in. Contracts see its parts.

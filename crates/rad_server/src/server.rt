@@ -119,7 +119,7 @@ impl<'c> Server<'c> {
     }
 
     /// The kept replies.
-    pub fn replies(&self) -> &Recent
+    pub fn recent(&self) -> &Recent
         ensures { result.now.table ≡ self.now.state.replies }
     {
         &self.tables.replies

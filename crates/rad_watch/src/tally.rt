@@ -53,7 +53,7 @@ impl Tally {
 
 fn count_replies(server: &Server) -> u64 {
     let mut count = 0;
-    for _reply in server.replies().rows() {
+    for _reply in server.recent().rows() {
         add_one(&mut count);
     }
     count

@@ -153,6 +153,19 @@ fn reports_the_first_fault(rt: HostRuntime) {
     }
 }
 
+#[test]
+fn numbers_faults_in_their_order(rt: HostRuntime) {
+    const FAULTS: &[ReadFault] = &[
+        ReadFault::Short,
+        ReadFault::BadLength,
+        ReadFault::Truncated,
+        ReadFault::BadAttributes,
+    ];
+    for (fault, number) in FAULTS.iter().zip(1..=4) {
+        holds(&rt, Ok(fault.number() == number), "its number");
+    }
+}
+
 // A packet of so many octets, which are the request's header and octets 2: attributes with no Value.
 fn filled(alloc: Global, len: u16) -> Result<Vec<u8>, AllocError> {
     let mut octets = REQUEST[..HEADER_SIZE].to_vec(alloc)?;

@@ -61,7 +61,7 @@ impl<'c> Run<'c> {
                 let server = self.book.server();
                 server.clock() == moment && are_sessions(server.sessions(), wanted)
             }
-            Step::Replies(wanted) => are_replies(self.book.server().replies(), wanted),
+            Step::Replies(wanted) => are_replies(self.book.server().recent(), wanted),
             Step::Challenges(wanted) => are_challenges(self.book.server().challenges(), wanted),
         }
     }

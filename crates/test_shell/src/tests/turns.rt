@@ -228,7 +228,7 @@ fn is_left_idle<R: Threads + Wait + Sync>(
         ports.set_clock(moment);
     }
     let ended = serve(rt, service, &mut ports, &mut random, 1);
-    let mut left = service.server().replies().rows();
+    let mut left = service.server().recent().rows();
     is_replied && is_sum(ended, 1, 0, 0, 0) && left.next().is_some() == is_kept
 }
 
@@ -398,7 +398,7 @@ fn fails<R: Threads + Wait + Sync>(
 // Whether so many replies are kept.
 fn keeps(service: &Service, count: usize) -> bool {
     let mut kept: usize = 0;
-    for _reply in service.server().replies().rows() {
+    for _reply in service.server().recent().rows() {
         kept = kept.wrapping_add(1);
     }
     kept == count
