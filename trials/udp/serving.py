@@ -78,8 +78,23 @@ def access_request(identifier, name=b"kay", password=b"pw", authenticator=bytes(
     """An Access-Request (RFC 2865) of a user, each of whom has the same password, perhaps with further attributes."""
     digest = hashlib.md5(SECRET + authenticator).digest()
     hidden = bytes(one ^ other for one, other in zip(password.ljust(16, b"\0"), digest))
-    attributes = bytes([1, 2 + len(name)]) + name + b"\x02\x12" + hidden + rest
+    return access_request_with(identifier, attributes_of((1, name), (2, hidden)) + rest, authenticator)
+
+
+def chap_request(identifier, name, password=b"pw", challenge=None):
+    """The same with a CHAP-Password, the response to a CHAP-Challenge or to the Request Authenticator."""
+    response = b"\x07" + hashlib.md5(b"\x07" + password + (challenge or bytes(16))).digest()
+    rest = attributes_of((60, challenge)) if challenge else b""
+    return access_request_with(identifier, attributes_of((1, name), (3, response)) + rest)
+
+
+def access_request_with(identifier, attributes, authenticator=bytes(16)):
     return struct.pack(">BBH", 1, identifier, 20 + len(attributes)) + authenticator + attributes
+
+
+def attributes_of(*pairs):
+    """The octets of attributes, each by its Type and Value."""
+    return b"".join(bytes([kind, 2 + len(value)]) + value for kind, value in pairs)
 
 
 # ---- server and client

@@ -1,8 +1,12 @@
 -- What a failed call on a UDP socket means, by the error number that Linux gives.
-use Rattle.std.specs.Prelude.{ℕ, ℤ, pos, int_lt, unsigned_abs, List, [], ◌∷◌, ◌==◌, if◌then◌else◌, Option, Some, None}
+use Rattle.std.specs.Prelude.{ℕ, ◌-◌, ◌^◌, ℤ, pos, int_lt, unsigned_abs, List, [], ◌∷◌, ◌==◌, if◌then◌else◌, Option, Some, None}
 use Rattle.std.specs.List.{list_any}
 use Rattle.rad_serve.specs.declared.failure.Failure.{Failure}
 use Rattle.rad_serve.specs.declared.failure.Failure.TheVariants.{WouldBlock, Datagram, Socket}
+
+-- the most failures that are counted
+abbrev pub failures_max : ℕ
+failures_max = 2 ^ 64 - 1
 
 -- EAGAIN: no datagram waits, or the queue is full
 abbrev pub would_block : ℕ

@@ -1,4 +1,6 @@
 //! The files of `serve`.
+ghost use Rattle.std.specs.Prelude.{IfSome, OnSome};
+ghost use Rattle.std.specs.Io.KnownBytes.{Consumes, IsAtEnd};
 
 use crate::serve_error::ServeError;
 use rad_config::{InputFault, read_text};
@@ -38,7 +40,11 @@ pub(crate) fn open_seed<R: Files>(rt: &R, path: &str) -> Result<[u8; SEED_SIZE],
 }
 
 // The seed of a reader that has one, and nothing after it.
-fn read_seed<R: Read>(reader: &mut R) -> Option<[u8; SEED_SIZE]> {
+fn read_seed<R: Read>(reader: &mut R) -> Option<[u8; SEED_SIZE]>
+    ensures read { IfSome result (λ seed.
+        Consumes (R.remaining reader.old) (R.remaining reader.new) seed) }
+    ensures end { OnSome result (IsAtEnd (R.remaining reader.new)) }
+{
     let mut seed = [0; SEED_SIZE];
     reader.read_exact(&mut seed).ok()?;
     match reader.read(&mut [0]) {

@@ -1,5 +1,5 @@
 //! The options of `serve`.
-ghost use Rattle.std.specs.Prelude.{◌≡◌, ◌≤◌, IfSome};
+ghost use Rattle.std.specs.Prelude.{◌≡◌, ◌≤◌, ◌↔◌, IfSome, IsSome};
 ghost use Rattle.rad_shell.specs.Rounds.{workers_max};
 
 use rad_shell::WORKERS_MAX;
@@ -72,6 +72,7 @@ impl Workers {
     /// So many workers, if they are neither none nor too many.
     pub fn new(count: u64) -> Option<Workers>
         ensures count { IfSome result (λ workers. workers ≡ count) }
+        ensures given { IsSome result ↔ ((1 ≤ count) × (count ≤ workers_max)) }
     {
         if count >= 1 && count <= WORKERS_MAX {
             Some(Workers { count })

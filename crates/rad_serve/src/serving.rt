@@ -1,4 +1,5 @@
 //! The command `serve`.
+ghost use Rattle.rad_serve.specs.Calls.{HaveServed};
 
 use crate::input::{open_seed, open_text};
 use crate::options::Options;
@@ -12,7 +13,7 @@ use crossbeam_channel::bounded;
 use rad_auth::Door;
 use rad_check::{push_warning, warn, warn_of_file};
 use rad_config::{Config, read_configuration};
-use rad_server::HashKey;
+use rad_server::{HashKey, time_passes_unseen};
 use rad_shell::{Gate, OpenGate, Ports, Served, Service, Turns, Unwatched, Watch};
 use rad_text::lines::divide;
 use rad_watch::Watcher;
@@ -255,7 +256,12 @@ fn serve_turns<R: Print + Threads + Wait + Sync, P: Ports, D: Rng, G: Gate + Syn
     service: &mut Service,
     turns: &mut Turns<D, G, W>,
     ports: &mut P,
-) -> Result<(), ServeError> {
+) -> Result<(), ServeError>
+    ensures { HaveServed
+        (record { server = service.old; random = D.stream turns.old.random.now; passed = P.passed ports.old })
+        (record { server = service.new; random = D.stream turns.new.random.now; passed = P.passed ports.new }) }
+{
+    time_passes_unseen();
     let rounds = options.rounds.unwrap_or(u32::MAX);
     let workers = options.workers.count();
     let mut served = Served::nothing();

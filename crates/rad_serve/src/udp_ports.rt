@@ -1,7 +1,10 @@
 //! The authentication port and the accounting port as UDP sockets.
-ghost use Rattle.std.specs.Prelude.{◌≡◌, ◌≤◌, ◌<◌, IfErr, IfOk, IfSome, IsTrue};
+ghost use Rattle.std.specs.Prelude.{◌≡◌, ◌≤◌, ◌<◌, ◌+◌, ◌↔◌, IfErr, IfOk, IfSome, IsErr, None, cond, false};
 ghost use Rattle.rad_config.specs.Spans.{moment_max};
+ghost use Rattle.rad_serve.specs.declared.failure.Failure.TheVariants.{Socket};
 ghost use Rattle.rad_serve.specs.Asking.{with_one};
+ghost use Rattle.rad_serve.specs.Failures.{failures_max};
+ghost use Rattle.rad_shell.specs.Passages.{reported_by};
 ghost use Rattle.rad_shell.specs.Serving.{IsReceived};
 
 use crate::asking::Asking;
@@ -65,6 +68,9 @@ pub struct UdpPorts<'r, C> {
     acct_port: u16,
     asking: Asking,
     failures: u64,
+    // How many of them meant that a socket can't be used.
+    reported: u64,
+    ghost counted: { reported ≤ failures },
 }
 
 impl<'r, C: Clock> UdpPorts<'r, C> {
@@ -87,6 +93,7 @@ impl<'r, C: Clock> UdpPorts<'r, C> {
             acct_port,
             asking: Asking::new(),
             failures: 0,
+            reported: 0,
         })
     }
 
@@ -107,8 +114,9 @@ impl<'r, C: Clock> UdpPorts<'r, C> {
 
     // Counts a failure, up to the last count. Whether it was counted.
     fn count(&mut self) -> bool
-        ensures counted { self.old.failures ≤ self.new.failures }
-        ensures risen { IsTrue result → self.old.failures < self.new.failures }
+        ensures counted { self.new.failures ≡ self.old.failures + cond result 1 0 }
+        ensures last { (result ≡ false) → self.old.failures ≡ failures_max }
+        ensures reported { self.new.reported ≡ self.old.reported }
     {
         if self.failures == u64::MAX {
             return false;
@@ -119,6 +127,8 @@ impl<'r, C: Clock> UdpPorts<'r, C> {
 
     // Counts a failed call, and reports it if the socket can't be used.
     fn judge(&mut self, failure: Failure) -> Result<(), PortFault>
+        ensures cause { IsErr result ↔ ((failure ≡ Socket) × (self.old.failures < failures_max)) }
+        ensures reported { self.new.reported ≡ self.old.reported + reported_by result }
         ensures counted { self.old.failures ≤ self.new.failures }
         ensures fault { IfErr result (λ _. self.old.failures < self.new.failures) }
     {
@@ -128,7 +138,10 @@ impl<'r, C: Clock> UdpPorts<'r, C> {
                 self.count();
                 Ok(())
             }
-            Failure::Socket if self.count() => Err(PortFault),
+            Failure::Socket if self.count() => {
+                self.reported += 1;
+                Err(PortFault)
+            }
             Failure::Socket => Ok(()),
         }
     }
@@ -154,6 +167,7 @@ impl<'r, C: Clock> UdpPorts<'r, C> {
         ensures received { IfOk result (λ got. IfSome got IsReceived) }
         ensures noted { IfOk result (λ got.
             IfSome got (λ _. self.new.asking ≡ with_one door self.old.asking)) }
+        ensures reported { self.new.reported ≡ self.old.reported + reported_by result }
         ensures counted { self.old.failures ≤ self.new.failures }
         ensures fault { IfErr result (λ _. self.old.failures < self.new.failures) }
     {
@@ -186,7 +200,8 @@ impl<'r, C: Clock> UdpPorts<'r, C> {
     // Waits so long at most for events of the sockets, and marks those that have any. If the wait fails nobody knows what has come, so
     // both are marked.
     fn wait_for_events(&mut self, longest: Duration)
-        ensures { self.old.failures ≤ self.new.failures }
+        ensures reported { self.new.reported ≡ self.old.reported }
+        ensures counted { self.old.failures ≤ self.new.failures }
     {
         if self.poll.poll(&mut self.events, Some(longest)).is_err() {
             self.count();
@@ -208,6 +223,11 @@ impl<'r, C: Clock> UdpPorts<'r, C> {
 
 impl<'r, C: Clock> Ports for UdpPorts<'r, C> {
     ghost failures = { λ ports. ports.failures };
+
+    ghost reported = { λ ports. ports.reported };
+
+    // The system knows what passed, and no memory here.
+    ghost passed = { λ _. None };
 
     fn wait<R: Wait>(&mut self, _rt: &R) {
         let seconds = if self.asking.may_be_left() {
@@ -249,7 +269,7 @@ impl<'r, C: Clock> Ports for UdpPorts<'r, C> {
         self.failures
     }
 
-    fn moment(&self) -> Option<u64> {
+    fn moment(&mut self) -> Option<u64> {
         Some(self.now())
     }
 }

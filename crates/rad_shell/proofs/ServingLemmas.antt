@@ -1,10 +1,10 @@
 -- Serving: a round has an entry for each outcome of an exchange, and turns go on from one another.
-use Rattle.std.proofs.Common.{◌≡◌, ◌≢◌, ◌<◌, ◌≤◌, ℕ, zero, suc, ◌+◌, max, Bool, true, false, cond, List, [], ◌∷◌, ◌++◌, length, take, drop, filter, get_or, Option, Some, None, Ok, Err, slice_get, arith, refl, sym, ap, subst, ◌∙◌}
+use Rattle.std.proofs.Common.{◌≡◌, ◌≢◌, ◌<◌, ◌≤◌, ℕ, zero, suc, ◌+◌, max, Bool, true, false, cond, List, [], ◌∷◌, ◌++◌, length, map, take, filter, get_or, Option, IfSome, Some, None, Result, Ok, Err, is_err, slice_get, arith, refl, sym, ap, subst, ◌∙◌, inl, inr}
 use lib.ListN.{length-append}
 use Rattle.std.proofs.lemmas.Option.{get_or_from_slice_get, none-some, slice_get-get_or, slice_get_within}
-use Rattle.std.proofs.lemmas.List.{take_all}
+use Rattle.std.proofs.lemmas.List.{append-nil, take_all}
 use Rattle.std.proofs.lemmas.List.Filters.{length-filter_more}
-use Rattle.std.proofs.lemmas.List.Sums.{length-filter, sum_by-cons, sum_by-drop_more, sum_by_push}
+use Rattle.std.proofs.lemmas.List.Sums.{length-filter, sum_by-cons}
 use Rattle.rad_auth.specs.Clients.{Client}
 use Rattle.rad_config.specs.Ranges.{IsConfiguration}
 use Rattle.rad_config.specs.Spans.{moment_max}
@@ -12,24 +12,21 @@ use Rattle.rad_server.specs.Lawful.{IsLawful}
 use Rattle.rad_server.specs.Repeats.{RunsRepeat}
 use Rattle.rad_server.specs.Runs.{HistoriesAfterTime, IsHistory, LeadsTo, RunsAreLawful, not_before}
 use Rattle.rad_server.specs.Servers.{Server}
-use Rattle.rad_server.specs.States.{at_moment}
+use Rattle.rad_server.specs.States.{when_passed}
 use Rattle.rad_server.specs.declared.entry.Entry.{Entry}
 use Rattle.rad_round.specs.Rounds.{HasArrival, HasEntry, HaveOwnTags, IsEntryOf, IsOutcome, Round, arrivals_max}
-use Rattle.rad_shell.specs.Serving.{AddTurn, AddUp, HasServed, IsRoundMade, IsServed, IsTurn, exchange_count, is_exchanged, is_replied, is_reply, octet_count, replied_count, reply_count}
+use Rattle.rad_shell.specs.Passages.{Came, HavePassed, In, Out, Passage, Went, told}
+use Rattle.rad_shell.specs.Serving.{AddTurn, AddUp, AreSent, AreTurns, HasDrawn, HasServed, IsBetween, IsCounted, IsLost, IsMade, IsRoundMade, IsServed, IsTurn, IsUnreceived, Situation, after_draws, between, came_of, exchange_count, is_exchanged, is_replied, is_reply, no_turn, one_more, passages, replied_count, replies, reply_count}
 use Rattle.rad_round.specs.declared.outcome.Outcome.{Outcome}
 use Rattle.rad_round.specs.declared.outcome.Outcome.TheVariants.{Dropped, Busy, NoMemory, Reply}
-use Rattle.rad_shell.specs.declared.ports.Got.{Got}
+use Rattle.rad_shell.specs.declared.ports.PortFault.{PortFault}
 use Rattle.rad_shell.specs.declared.serve_fault.ServeFault.{ServeFault}
+use Rattle.rad_shell.specs.declared.serve_fault.ServeFault.TheVariants as faults
+use Rattle.rad_shell.proofs.PassageLemmas.{all_came, both_passed, none_passed, passed_as}
 use Rattle.rad_shell.specs.declared.served.Served.{Served}
 use Rattle.rad_round.specs.declared.timed.Timed.{Timed}
 
--- ---- datagrams and outcomes, one more
-
-pub octets_more : (got : List Got) (one : Got) → octet_count (got ++ one ∷ []) ≡ octet_count got + one.len
-octets_more got one = sum_by_push (λ g. g.len) got one
-
-pub octets_left : (got : List Got) (i : ℕ) (d : Got) → i < length got → octet_count (drop i got) ≡ (get_or got i d).len + octet_count (drop (i + 1) got)
-octets_left got i d lt = sum_by-drop_more (λ g. g.len) got i d lt
+-- ---- outcomes, one more
 
 pub one_more_outcome : (outcomes : List Outcome) (i : ℕ) (d : Outcome) → i < length outcomes
     → exchange_count (take (i + 1) outcomes) ≡ exchange_count (take i outcomes) + cond (is_exchanged (get_or outcomes i d)) 1 0
@@ -285,6 +282,11 @@ in_time before history after is = record {
   now = refl;
 }
 
+-- no entry comes before a moment
+none_not_before : (passed : Option ℕ) → not_before passed [] ≡ []
+none_not_before None = refl
+none_not_before (Some moment) = refl
+
 -- entries that don't come before a moment are as many, and have as many replies
 as_many : (passed : Option ℕ) (history : List Entry) → length (not_before passed history) ≡ length history
 as_many None history = refl
@@ -304,123 +306,260 @@ as_many_replies (Some moment) (entry ∷ rest) = by_answer (is_reply entry.answe
     by_answer false = refl
 
 -- a round was made
-pub round_made : (before : Server) (arrivals : List Timed) (outcomes : List Outcome) (history : List Entry) (after : Server)
-    → length arrivals ≤ arrivals_max → Round before arrivals outcomes history after → IsRoundMade before outcomes after
-round_made before arrivals outcomes history after few round = record {
+pub round_made : (before : Server) (came : List Came) (drawn : List (List ℕ)) (arrivals : List Timed) (outcomes : List Outcome)
+    (history : List Entry) (after : Server) → length arrivals ≤ arrivals_max → map came_of arrivals ≡ came
+    → map (λ timed. timed.draw) arrivals ≡ drawn → Round before arrivals outcomes history after
+    → IsRoundMade before came drawn outcomes after
+round_made before came drawn arrivals outcomes history after few arrived drawn_are round = record {
+  arrivals = arrivals;
   history = history;
-  run = round.run;
+  arrived = arrived;
+  drawn_are = drawn_are;
+  round = round;
   exchanged = sym (count_every history) ∙ counted_in_round is_exchanged every exchanges_counted before arrivals outcomes history after round;
   replied = counted_in_round is_replied (λ entry. is_reply entry.answer) replies_counted before arrivals outcomes history after round;
   few = subst (λ n. n ≤ arrivals_max) (sym round.count) few;
 }
 
--- a turn whose round is lost
-pub lost_turn : {A : Type 0} (before : Server) (served : Served) (result : A) (after : Server) (served_after : Served)
-    → after ≡ before → AddTurn 0 0 served served_after → IsTurn before served (Ok result) after served_after
-lost_turn before served result after served_after is sums = record {
+-- ---- one turn
+
+-- a turn without a round
+nothing_done : (before after : Server) → after ≡ before → IsHistory before [] after
+nothing_done before after is = subst (IsHistory before []) (sym is) (no_exchange before)
+
+lost : {A : Type 0} (before : Situation) (served : Served) (result : A) (after : Situation) (served_after : Served) → IsLost before [] after
+    → AddTurn 0 0 1 served served_after → IsCounted before served (Ok result) after served_after
+lost before served result after served_after is sums = record {
   history = [];
-  run = subst (IsHistory before []) (sym is) (no_exchange before);
+  lost = 1;
+  turn = inr (is, refl);
+  run = nothing_done before.server after.server is.server;
   sums = sums;
 }
 
+-- a turn without room for datagrams
+pub idle_turn : {A : Type 0} (before : Situation) (served : Served) (waited : Option (List Passage)) (result : A) (after : Situation)
+    (served_after : Served) → HavePassed [] before.passed waited → HavePassed [] waited after.passed
+    → after.random ≡ before.random → after.server ≡ before.server → AddTurn 0 0 1 served served_after
+    → IsCounted before served (Ok result) after served_after
+idle_turn before served waited result after served_after first then random server sums =
+    lost before served result after served_after (record {
+      came = [];
+      passed = both_passed [] [] before.passed waited after.passed first then;
+      random = random;
+      server = server;
+      unanswered = refl;
+    }) sums
+
+-- a turn whose round is lost
+pub lost_turn : {A : Type 0} (before : Situation) (served : Served) (came : List Came) (drawn : List (List ℕ)) (passed : Option (List Passage))
+    (result : A) (after : Situation) (served_after : Served) → HasDrawn before came drawn after.random passed
+    → HavePassed [] passed after.passed → after.server ≡ before.server
+    → AddTurn 0 0 1 served served_after → IsCounted before served (Ok result) after served_after
+lost_turn before served came drawn passed result after served_after has paused server sums =
+    lost before served result after served_after (record {
+      came = came;
+      passed = all_came came before.passed passed after.passed has.passed_is paused;
+      random = has.random_is;
+      server = server;
+      unanswered = refl;
+    }) sums
+
 -- a turn whose round isn't made
-pub failed_turn : {A : Type 0} (before : Server) (served : Served) (fault : ServeFault) (after : Server) (served_after : Served)
-    → after ≡ before → IsTurn {A = A} before served (Err fault) after served_after
-failed_turn before served fault after served_after is = record {
+pub unreceived_turn : {A : Type 0} (before : Situation) (served : Served) (came : List Came) (waited : Option (List Passage)) (after : Situation)
+    (served_after : Served) → HavePassed [] before.passed waited → HavePassed (map In came) waited after.passed
+    → after.random ≡ before.random → after.server ≡ before.server → IsCounted {A = A} before served (Err faults.Receive) after served_after
+unreceived_turn before served came waited after served_after first then random server = record {
   history = [];
-  run = subst (IsHistory before []) (sym is) (no_exchange before);
+  lost = 0;
+  turn = (
+    record {
+      came = came;
+      passed = both_passed [] (passages came []) before.passed waited after.passed first
+          (passed_as (map In came) (passages came []) waited after.passed (sym (append-nil (map In came))) then);
+      random = random;
+      server = server;
+      unanswered = refl;
+    },
+    refl,
+  );
+  run = nothing_done before.server after.server server;
   sums = tt;
 }
 
 -- a turn whose round is made
-pub made_turn : {A : Type 0} (before : Server) (served : Served) (outcomes : List Outcome) (result : A) (after : Server) (served_after : Served)
-    → IsRoundMade before outcomes after → AddTurn (exchange_count outcomes) (replied_count outcomes) served served_after → IsTurn before served (Ok result) after served_after
-made_turn before served outcomes result after served_after made sums = record {
-  history = made.history;
-  run = made.run;
-  sums = subst (λ n. AddTurn n (reply_count made.history) served served_after) (sym made.exchanged)
-      (subst (λ n. AddTurn (exchange_count outcomes) n served served_after) (sym made.replied) sums);
+made : (before : Situation) (came : List Came) (drawn : List (List ℕ)) (outcomes listed : List Outcome) (passed : Option (List Passage))
+    (result : Result (Unit {0}) PortFault) (after : Situation) → HasDrawn before came drawn after.random passed
+    → (round : IsRoundMade before.server came drawn outcomes after.server) → listed ≡ outcomes
+    → (sent : AreSent (replies came listed) result passed after.passed) → IsMade before round.history sent.left after
+made before came drawn outcomes listed passed result after has round is sent = record {
+  came = came;
+  went = sent.went;
+  arrivals = round.arrivals;
+  outcomes = outcomes;
+  passed = both_passed (map In came) (map Out sent.went) before.passed passed after.passed has.passed_is sent.passed;
+  arrived = round.arrived;
+  drawn = round.drawn_are ∙ has.drawn_are;
+  random = has.random_is;
+  round = round.round;
+  replied = sent.replied ∙ ap (replies came) is;
+}
+
+pub made_turn : {A : Type 0} (before : Situation) (served : Served) (came : List Came) (drawn : List (List ℕ)) (outcomes listed : List Outcome)
+    (passed : Option (List Passage)) (sending : Result (Unit {0}) PortFault) (result : A) (after : Situation) (served_after : Served)
+    → is_err sending ≡ false → HasDrawn before came drawn after.random passed
+    → IsRoundMade before.server came drawn outcomes after.server → listed ≡ outcomes
+    → AreSent (replies came listed) sending passed after.passed
+    → AddTurn (exchange_count outcomes) (replied_count outcomes) 0 served served_after
+    → IsCounted before served (Ok result) after served_after
+made_turn before served came drawn outcomes listed passed (Err fault) result after served_after ok has round is sent sums = absurd cc
+made_turn before served came drawn outcomes listed passed (Ok done) result after served_after ok has round is sent sums = record {
+  history = round.history;
+  lost = 0;
+  turn = inl (
+    subst (λ left. IsMade before round.history left after) sent.none_left
+        (made before came drawn outcomes listed passed (Ok done) after has round is sent),
+    refl,
+  );
+  run = round.round.run;
+  sums = subst (λ n. AddTurn n (reply_count round.history) 0 served served_after) (sym round.exchanged)
+      (subst (λ n. AddTurn (exchange_count outcomes) n 0 served served_after) (sym round.replied) sums);
 }
 
 -- a turn whose round is made, but whose replies aren't all sent
-pub unsent_turn : {A : Type 0} (before : Server) (served : Served) (outcomes : List Outcome) (fault : ServeFault) (after : Server) (served_after : Served)
-    → IsRoundMade before outcomes after → IsTurn {A = A} before served (Err fault) after served_after
-unsent_turn before served outcomes fault after served_after made = record {
-  history = made.history;
-  run = made.run;
+pub unsent_turn : {A : Type 0} (before : Situation) (served : Served) (came : List Came) (drawn : List (List ℕ)) (outcomes listed : List Outcome)
+    (passed : Option (List Passage)) (sending : Result (Unit {0}) PortFault) (after : Situation) (served_after : Served)
+    → HasDrawn before came drawn after.random passed → IsRoundMade before.server came drawn outcomes after.server → listed ≡ outcomes
+    → AreSent (replies came listed) sending passed after.passed → IsCounted {A = A} before served (Err faults.Send) after served_after
+unsent_turn before served came drawn outcomes listed passed sending after served_after has round is sent = record {
+  history = round.history;
+  lost = 0;
+  turn = (sent.left, made before came drawn outcomes listed passed sending after has round is sent, refl);
+  run = round.round.run;
   sums = tt;
 }
 
+-- ---- between turns
+
+-- time passes up to a moment that the ports told
+pub between_by : (before after : Server) (passed passed_after : Option (List Passage)) (moment : Option ℕ)
+    → HavePassed (told moment) passed passed_after → IfSome moment (λ m. m ≤ moment_max) → after.configuration ≡ before.configuration
+    → after.state ≡ when_passed moment before.state → IsBetween before passed after passed_after
+between_by before after passed passed_after moment told small same is = record {
+  moment = moment;
+  told = told;
+  within = small;
+  configuration = same;
+  state = is;
+}
+
+-- nothing is done
+pub none_between : (before after : Server) (passed passed_after : Option (List Passage)) → HavePassed [] passed passed_after → after ≡ before
+    → IsBetween before passed after passed_after
+none_between before after passed passed_after none is =
+    between_by before after passed passed_after None none tt (ap (λ s. s.configuration) is) (ap (λ s. s.state) is)
+
+leads_between : (before after : Server) (passed passed_after : Option (List Passage)) → IsBetween before passed after passed_after
+    → LeadsTo before [] after
+leads_between before after passed passed_after is = record {
+  state = before.state;
+  passed = is.moment;
+  configuration = is.configuration;
+  run = refl;
+  within = is.within;
+  now = is.state;
+}
+
+-- ---- turns
+
 -- no turn yet
-pub nothing_served : (server : Server) (served : Served) → served.replies + served.busy ≡ 0 → HasServed server served server
-nothing_served server served none = record {
+pub nothing_served : (situation : Situation) (served : Served) → served.replies + served.busy ≡ 0 → served.failed ≡ 0
+    → HasServed situation served situation
+nothing_served situation served none no_lost = record {
   history = [];
-  run = in_time server [] server (no_exchange server);
+  lost = 0;
+  turned = no_turn;
+  run = in_time situation.server [] situation.server (no_exchange situation.server);
+  failed = no_lost;
   replied = omega (arith, none);
   exchanged = none;
 }
 
--- what was served, and a history after it
-served_and : HistoriesAfterTime → (before : Server) (served : Served) (middle : Server) (history : List Entry) (after : Server) (served_after : Served)
-    → HasServed before served middle → LeadsTo middle history after → served_after.replies ≡ served.replies + reply_count history
-    → served_after.replies + served_after.busy ≡ served.replies + served.busy + length history → HasServed before served_after after
-served_and joins before served middle history after served_after so_far leads replied exchanged =
-    let more : List Entry = not_before so_far.run.passed history in record {
+-- one more turn
+pub one_more_turn : {A : Type 0} (before : Situation) (served : Served) (middle : Situation) (result : A) (after : Situation) (served_after : Served)
+    → HistoriesAfterTime → HasServed before served middle → IsCounted middle served (Ok result) after served_after
+    → HasServed before served_after after
+one_more_turn before served middle result after served_after joins so_far turn =
+    let more : List Entry = not_before so_far.run.passed turn.history in record {
       history = so_far.history ++ more;
-      run = joins before middle after so_far.history history so_far.run leads;
-      replied = omega (arith, replied, so_far.replied, as_many_replies so_far.run.passed history, count_append (λ entry. is_reply entry.answer) so_far.history more);
-      exchanged = omega (arith, exchanged, so_far.exchanged, as_many so_far.run.passed history, length-append so_far.history more);
+      lost = so_far.lost + turn.lost;
+      turned = one_more turn.history turn.lost so_far.run so_far.turned turn.turn;
+      run = joins before.server middle.server after.server so_far.history turn.history so_far.run
+          (in_time middle.server turn.history after.server turn.run);
+      failed = omega (arith, turn.sums.failed, so_far.failed);
+      replied = omega (
+        arith,
+        turn.sums.replied,
+        so_far.replied,
+        as_many_replies so_far.run.passed turn.history,
+        count_append (λ entry. is_reply entry.answer) so_far.history more,
+      );
+      exchanged = omega (
+        arith,
+        turn.sums.exchanged,
+        so_far.exchanged,
+        as_many so_far.run.passed turn.history,
+        length-append so_far.history more,
+      );
     }
 
--- one more turn
-pub one_more_turn : {A : Type 0} (before : Server) (served : Served) (middle : Server) (result : A) (after : Server) (served_after : Served) → HistoriesAfterTime
-    → HasServed before served middle → IsTurn middle served (Ok result) after served_after → HasServed before served_after after
-one_more_turn before served middle result after served_after joins so_far turn =
-    served_and joins before served middle turn.history after served_after so_far (in_time middle turn.history after turn.run) turn.sums.replied turn.sums.exchanged
-
--- time that passes
-pub time_passed : (before : Server) (served : Served) (middle after : Server) → HistoriesAfterTime
-    → HasServed before served middle → LeadsTo middle [] after → HasServed before served after
-time_passed before served middle after joins so_far leads =
-    served_and joins before served middle [] after served so_far leads (omega arith) (omega arith)
-
--- a service for which time passes
-pub passed_to : (before after : Server) (moment : ℕ) → moment ≤ moment_max → after.configuration ≡ before.configuration
-    → after.state ≡ at_moment moment before.state → LeadsTo before [] after
-passed_to before after moment small same is = record {
-  state = before.state;
-  passed = Some moment;
-  configuration = same;
-  run = refl;
-  within = small;
-  now = is;
-}
-
--- a service for which none does
-pub not_passed : (before after : Server) → after ≡ before → LeadsTo before [] after
-not_passed before after is = subst (LeadsTo before []) (sym is) (in_time before [] before (no_exchange before))
+-- and what is done after it
+pub and_between : (before : Situation) (served : Served) (middle : Situation) (server : Server) (passed : Option (List Passage))
+    → HistoriesAfterTime → HasServed before served middle → IsBetween middle.server middle.passed server passed
+    → HasServed before served (record { server = server; random = middle.random; passed = passed })
+and_between before served middle server passed joins so_far is =
+    let run : LeadsTo before.server (so_far.history ++ not_before so_far.run.passed []) server =
+    joins before.server middle.server server so_far.history [] so_far.run (leads_between middle.server server middle.passed passed is) in
+    record {
+      history = so_far.history;
+      lost = so_far.lost;
+      turned = between server passed so_far.turned is;
+      run = subst (λ list. LeadsTo before.server list server)
+          (ap (λ list. so_far.history ++ list) (none_not_before so_far.run.passed) ∙ append-nil so_far.history) run;
+      failed = so_far.failed;
+      replied = so_far.replied;
+      exchanged = so_far.exchanged;
+    }
 
 -- all turns
-pub served_all : (turns : ℕ) (before : Server) (served : Served) (after : Server) → RunsRepeat → RunsAreLawful
-    → IsConfiguration before.configuration → IsLawful before.configuration before.state
+pub served_all : (turns : ℕ) (before : Situation) (served : Served) (after : Situation) → RunsRepeat → RunsAreLawful
+    → IsConfiguration before.server.configuration → IsLawful before.server.configuration before.server.state
     → HasServed before served after → AddUp served → served.rounds ≡ turns → IsServed turns before (Ok served) after
 served_all turns before served after repeats laws valid lawful so_far sums rounds = record {
   history = so_far.history;
+  lost = so_far.lost;
+  turned = so_far.turned;
   run = so_far.run;
-  repeat = repeats before.configuration before.state so_far.history valid lawful;
-  lawful = laws before.configuration before.state so_far.history valid lawful;
-  sums = record { rounds = rounds; replies = so_far.replied; exchanged = so_far.exchanged; datagrams = sums.each };
+  repeat = repeats before.server.configuration before.server.state so_far.history valid lawful;
+  lawful = laws before.server.configuration before.server.state so_far.history valid lawful;
+  sums = record { rounds = rounds; failed = so_far.failed; replies = so_far.replied; exchanged = so_far.exchanged; datagrams = sums.each };
 }
 
 -- turns until a fault
-pub served_until : {A : Type 0} (turns : ℕ) (before : Server) (served : Served) (middle : Server) (fault reported : ServeFault) (after : Server) (served_after : Served)
-    → RunsRepeat → RunsAreLawful → HistoriesAfterTime → IsConfiguration before.configuration → IsLawful before.configuration before.state
-    → HasServed before served middle → IsTurn {A = A} middle served (Err fault) after served_after → IsServed turns before (Err reported) after
-served_until turns before served middle fault reported after served_after repeats laws joins valid lawful so_far turn =
+pub served_until : {A : Type 0} (turns : ℕ) (before : Situation) (served : Served) (middle : Situation) (fault reported : ServeFault)
+    (after : Situation) (served_after : Served) → RunsRepeat → RunsAreLawful → HistoriesAfterTime
+    → IsConfiguration before.server.configuration → IsLawful before.server.configuration before.server.state
+    → HasServed before served middle → reported ≡ fault → IsCounted {A = A} middle served (Err fault) after served_after
+    → IsServed turns before (Err reported) after
+served_until turns before served middle fault reported after served_after repeats laws joins valid lawful so_far is turn =
     let history = so_far.history ++ not_before so_far.run.passed turn.history in record {
       history = history;
-      run = joins before middle after so_far.history turn.history so_far.run (in_time middle turn.history after turn.run);
-      repeat = repeats before.configuration before.state history valid lawful;
-      lawful = laws before.configuration before.state history valid lawful;
+      lost = so_far.lost + turn.lost;
+      turned = subst (λ f. AreTurns before history (so_far.lost + turn.lost) (Err f) after) (sym is)
+          (one_more turn.history turn.lost so_far.run so_far.turned turn.turn);
+      run = joins before.server middle.server after.server so_far.history turn.history so_far.run
+          (in_time middle.server turn.history after.server turn.run);
+      repeat = repeats before.server.configuration before.server.state history valid lawful;
+      lawful = laws before.server.configuration before.server.state history valid lawful;
       sums = tt;
     }

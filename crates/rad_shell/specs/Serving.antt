@@ -2,20 +2,26 @@
 --
 -- A turn receives until no datagram waits or a round is full. A round for which memory is refused is lost: its datagrams are counted,
 -- and the server is as it was. After a turn that was refused memory or received nothing, time passes for the server.
-use Rattle.std.specs.Prelude.{◌≡◌, ℕ, ◌+◌, ◌-◌, ◌*◌, ◌^◌, ◌==◌, ◌||◌, min, ◌≤◌, ◌<◌, Bool, true, false, List, length, filter, Result, IfOk, OnOk}
+use Rattle.std.specs.Prelude.{◌≡◌, ◌⊎◌, ℕ, zero, suc, ◌+◌, ◌-◌, ◌*◌, ◌^◌, ◌==◌, ◌||◌, min, ◌≤◌, ◌<◌, Bool, true, false, List, [], ◌∷◌, ◌++◌, drop, length, map, take, filter, Option, Result, Ok, Err, IfOk, IfSome, OnOk}
 use Rattle.std.specs.List.{list_any, sum_by}
+use Rattle.rand_core.specs.Stream.{Stream, fill_bytes}
+use Rattle.rad_auth.specs.Datagrams.{datagram_of}
 use Rattle.rad_config.specs.Spans.{moment_max}
 use Rattle.rad_packet.specs.Packets.{length_max}
 use Rattle.rad_server.specs.Repeats.{Repeat}
-use Rattle.rad_server.specs.Runs.{IsHistory, IsLawfulThroughout, LeadsTo}
+use Rattle.rad_server.specs.Runs.{IsHistory, IsLawfulThroughout, LeadsTo, not_before}
 use Rattle.rad_server.specs.Servers.{Server}
+use Rattle.rad_server.specs.States.{when_passed}
 use Rattle.rad_server.specs.declared.answer.Answer.{Answer}
 use Rattle.rad_server.specs.declared.answer.Answer.TheVariants as answers
 use Rattle.rad_server.specs.declared.entry.Entry.{Entry}
-use Rattle.rad_round.specs.Rounds.{arrivals_max}
+use Rattle.rad_round.specs.Rounds.{Round, arrivals_max}
 use Rattle.rad_round.specs.declared.outcome.Outcome.{Outcome}
 use Rattle.rad_round.specs.declared.outcome.Outcome.TheVariants.{Dropped, Busy, NoMemory, Reply}
+use Rattle.rad_round.specs.declared.timed.Timed.{Timed}
+use Rattle.rad_shell.specs.Passages.{Came, HavePassed, In, Out, Passage, Went, came_by, told}
 use Rattle.rad_shell.specs.declared.ports.Got.{Got}
+use Rattle.rad_shell.specs.declared.ports.PortFault.{PortFault}
 use Rattle.rad_shell.specs.declared.serve_fault.ServeFault.{ServeFault}
 use Rattle.rad_shell.specs.declared.serve_fault.ServeFault.TheVariants as faults
 use Rattle.rad_shell.specs.declared.served.Served.{Served}
@@ -37,6 +43,38 @@ abbrev pub HasCause : ℕ → ℕ → ServeFault → Type 0
 HasCause before after faults.Receive = before < after
 HasCause before after faults.Send = before < after
 HasCause before after faults.Mismatch = ⊥
+
+-- ---- draws
+
+-- so many draws of a source of random octets: each is its next 16 octets
+abbrev pub draws : ℕ → Stream → List (List ℕ)
+draws zero random = []
+draws (suc count) random = (fill_bytes 16 random).0 ∷ draws count (fill_bytes 16 random).1
+
+-- what the source has left after so many draws
+abbrev pub after_draws : ℕ → Stream → Stream
+after_draws zero random = random
+after_draws (suc count) random = after_draws count (fill_bytes 16 random).1
+
+-- ---- datagrams and their replies
+
+-- a datagram of a round, as it came
+abbrev pub came_of : Timed → Came
+came_of timed = record { datagram = datagram_of timed.arrival; moment = timed.moment }
+
+-- the reply to a datagram, if its outcome is one: from the port that the datagram came to, to where it came from
+abbrev pub reply_to : Came → Outcome → List Went
+reply_to came (Dropped discard) = []
+reply_to came Busy = []
+reply_to came NoMemory = []
+reply_to came (Reply frame) =
+    record { door = came.datagram.door; address = came.datagram.source; port = came.datagram.port; octets = frame } ∷ []
+
+-- the replies to datagrams, in their order
+abbrev pub replies : List Came → List Outcome → List Went
+replies [] outcomes = []
+replies (came ∷ rest) [] = []
+replies (came ∷ rest) (outcome ∷ outcomes) = reply_to came outcome ++ replies rest outcomes
 
 -- ---- sums
 
@@ -73,23 +111,103 @@ is_reply answers.Busy = false
 abbrev pub reply_count : List Entry → ℕ
 reply_count history = length (filter (λ entry. is_reply entry.answer) history)
 
--- The sums of so many turns that made these exchanges: there are as many replies as entries whose answer is one, and as many busy ones
--- as other entries; and if no round was lost, there are as many datagrams as outcomes.
-pub record AreSums (turns : ℕ) (history : List Entry) (served : Served) : Type 0 where
+-- The sums of so many turns, of which so many are lost, that made these exchanges: there are as many replies as entries whose answer is
+-- one, and as many busy ones as other entries; and if no round was lost, there are as many datagrams as outcomes.
+pub record AreSums (turns lost : ℕ) (history : List Entry) (served : Served) : Type 0 where
   pub rounds : served.rounds ≡ turns
+  pub failed : served.failed ≡ lost
   pub replies : served.replies ≡ reply_count history
   pub exchanged : served.replies + served.busy ≡ length history
   pub datagrams : served.failed ≡ 0 → served.datagrams ≡ outcome_count served
 
--- What so many turns make of a server, however they end: exchanges lead from the server before to the one after, but for time that may
--- have passed since; each repeat is answered again, and every state on the way is lawful. If no fault ended them, their sums count these
--- exchanges.
-pub record IsServed (turns : ℕ) (before : Server) (result : Result Served ServeFault) (after : Server) : Type 0 where
+-- ---- turns
+
+-- how things stand: the server, the random octets to come, and what the ports tell of what has passed
+pub record Situation : Type 0 where
+  pub server : Server
+  pub random : Stream
+  pub passed : Option (List Passage)
+
+-- what passes the ports in a turn: first what comes, then what goes
+abbrev pub passages : List Came → List Went → List Passage
+passages came went = map In came ++ map Out went
+
+-- A turn whose round is made. Its round is one of just the datagrams that came, with their moments, and with the next draws; just the
+-- replies to them went, in their order, but for the last ones that are left.
+pub record IsMade (before : Situation) (history : List Entry) (left : List Went) (after : Situation) : Type 0 where
+  pub came : List Came
+  pub went : List Went
+  pub arrivals : List Timed
+  pub outcomes : List Outcome
+  pub passed : HavePassed (passages came went) before.passed after.passed
+  pub arrived : map came_of arrivals ≡ came
+  pub drawn : map (λ timed. timed.draw) arrivals ≡ draws (length came) before.random
+  pub random : after.random ≡ after_draws (length came) before.random
+  pub round : Round before.server arrivals outcomes history after.server
+  pub replied : went ++ left ≡ replies came outcomes
+
+-- a turn whose round is lost, since memory was refused: what came is lost with its draws, nothing went, and the server is as it was
+pub record IsLost (before : Situation) (history : List Entry) (after : Situation) : Type 0 where
+  pub came : List Came
+  pub passed : HavePassed (passages came []) before.passed after.passed
+  pub random : after.random ≡ after_draws (length came) before.random
+  pub server : after.server ≡ before.server
+  pub unanswered : history ≡ []
+
+-- a turn in which a port failed before the round: what came is lost, nothing went, and all else is as it was
+pub record IsUnreceived (before : Situation) (history : List Entry) (after : Situation) : Type 0 where
+  pub came : List Came
+  pub passed : HavePassed (passages came []) before.passed after.passed
+  pub random : after.random ≡ before.random
+  pub server : after.server ≡ before.server
+  pub unanswered : history ≡ []
+
+-- A turn, by how it ends: all replies of its round went, or it is lost; or a port failed before the round, or while replies were sent.
+-- So many rounds of it are lost.
+abbrev pub IsTurn : Situation → List Entry → ℕ → Result (Unit {0}) ServeFault → Situation → Type 0
+IsTurn before history lost (Ok done) after =
+    (IsMade before history [] after × (lost ≡ 0)) ⊎ (IsLost before history after × (lost ≡ 1))
+IsTurn before history lost (Err faults.Receive) after = IsUnreceived before history after × (lost ≡ 0)
+IsTurn before history lost (Err faults.Send) after = (left : List Went) × IsMade before history left after × (lost ≡ 0)
+IsTurn before history lost (Err faults.Mismatch) after = ⊥
+
+-- what is done between turns: perhaps the ports told a moment, and time passed for the server up to it
+pub record IsBetween (before : Server) (passed : Option (List Passage)) (after : Server) (passed_after : Option (List Passage))
+    : Type 0 where
+  pub moment : Option ℕ
+  pub told : HavePassed (told moment) passed passed_after
+  pub within : IfSome moment (λ moment. moment ≤ moment_max)
+  pub configuration : after.configuration ≡ before.configuration
+  pub state : after.state ≡ when_passed moment before.state
+
+-- Turns one after another, up to the first fault, with all their exchanges and the number of lost ones. Where time has passed since the
+-- last exchange, the next one doesn't come before then.
+pub data AreTurns (before : Situation) : List Entry → ℕ → Result (Unit {0}) ServeFault → Situation → Type 0 where
+  no_turn : AreTurns before [] 0 (Ok tt) before
+  one_more : {history : List Entry} {lost : ℕ} {middle : Situation} (more : List Entry) (lost_more : ℕ)
+      {result : Result (Unit {0}) ServeFault} {after : Situation} (leads : LeadsTo before.server history middle.server)
+      → AreTurns before history lost (Ok tt) middle → IsTurn middle more lost_more result after
+      → AreTurns before (history ++ not_before leads.passed more) (lost + lost_more) result after
+  between : {history : List Entry} {lost : ℕ} {middle : Situation} (server : Server) (passed : Option (List Passage))
+      → AreTurns before history lost (Ok tt) middle → IsBetween middle.server middle.passed server passed
+      → AreTurns before history lost (Ok tt) (record { server = server; random = middle.random; passed = passed })
+
+-- how turns ended
+abbrev pub ended : {A : Type 0} → Result A ServeFault → Result (Unit {0}) ServeFault
+ended (Ok served) = Ok tt
+ended (Err fault) = Err fault
+
+-- What so many turns make, however they end: their exchanges lead from the server before to the one after, but for time that may have
+-- passed since; each repeat is answered again, and every state on the way is lawful. If no fault ended them, their sums count these
+-- exchanges and the lost turns.
+pub record IsServed (turns : ℕ) (before : Situation) (result : Result Served ServeFault) (after : Situation) : Type 0 where
   pub history : List Entry
-  pub run : LeadsTo before history after
-  pub repeat : Repeat before.configuration before.state history
-  pub lawful : IsLawfulThroughout before.configuration before.state history
-  pub sums : IfOk result (AreSums turns history)
+  pub lost : ℕ
+  pub turned : AreTurns before history lost (ended result) after
+  pub run : LeadsTo before.server history after.server
+  pub repeat : Repeat before.server.configuration before.server.state history
+  pub lawful : IsLawfulThroughout before.server.configuration before.server.state history
+  pub sums : IfOk result (AreSums turns lost history)
 
 -- ---- one turn (private)
 
@@ -142,32 +260,68 @@ pub record AddUp (served : Served) : Type 0 where
   pub lost : served.failed ≤ served.rounds
   pub each : served.failed ≡ 0 → served.datagrams ≡ outcome_count served
 
--- the sums of one turn more, with so many exchanges and so many replies more
-pub record AddTurn (exchanges replies : ℕ) (before after : Served) : Type 0 where
+-- the sums of one turn more, with so many exchanges, replies and lost rounds more
+pub record AddTurn (exchanges replies lost : ℕ) (before after : Served) : Type 0 where
   pub add_up : AddUp after
   pub rounds : after.rounds ≡ before.rounds + 1
   pub replied : after.replies ≡ before.replies + replies
   pub exchanged : after.replies + after.busy ≡ before.replies + before.busy + exchanges
+  pub failed : after.failed ≡ before.failed + lost
 
--- a round was made: exchanges lead from one server to another, one for each outcome of an exchange, and as many are answered by a reply
--- as there are replies
-pub record IsRoundMade (before : Server) (outcomes : List Outcome) (after : Server) : Type 0 where
+-- the datagrams that came, whose octets are one after those of another
+abbrev pub came_in : List Got → List ℕ → List Came
+came_in [] octets = []
+came_in (got ∷ rest) octets = came_by got (take got.len octets) ∷ came_in rest (drop got.len octets)
+
+-- these datagrams have come in a turn, and these draws were taken for them
+pub record HasDrawn (before : Situation) (came : List Came) (drawn : List (List ℕ)) (random : Stream) (passed : Option (List Passage))
+    : Type 0 where
+  pub passed_is : HavePassed (map In came) before.passed passed
+  pub drawn_are : drawn ≡ draws (length came) before.random
+  pub random_is : random ≡ after_draws (length came) before.random
+
+-- all of these replies went, or the first ones and then came a fault
+pub record AreSent (all : List Went) (result : Result (Unit {0}) PortFault) (before after : Option (List Passage)) : Type 0 where
+  pub went : List Went
+  pub left : List Went
+  pub passed : HavePassed (map Out went) before after
+  pub replied : went ++ left ≡ all
+  pub none_left : OnOk result (left ≡ [])
+
+-- these replies went, but for those to these datagrams
+pub record AreSentBefore (all : List Went) (got : List Got) (outcomes : List Outcome) (before now : Option (List Passage)) : Type 0 where
+  pub went : List Went
+  pub octets : List ℕ
+  pub passed : HavePassed (map Out went) before now
+  pub replied : went ++ replies (came_in got octets) outcomes ≡ all
+
+-- a round of these datagrams with these draws was made: there is one exchange for each outcome of an exchange, and as many are answered
+-- by a reply as there are replies
+pub record IsRoundMade (before : Server) (came : List Came) (drawn : List (List ℕ)) (outcomes : List Outcome) (after : Server) : Type 0 where
+  pub arrivals : List Timed
   pub history : List Entry
-  pub run : IsHistory before history after
+  pub arrived : map came_of arrivals ≡ came
+  pub drawn_are : map (λ timed. timed.draw) arrivals ≡ drawn
+  pub round : Round before arrivals outcomes history after
   pub exchanged : length history ≡ exchange_count outcomes
   pub replied : reply_count history ≡ replied_count outcomes
   pub few : length outcomes ≤ arrivals_max
 
--- what a turn makes of a server and of sums: exchanges lead from one server to another, and without a fault they are counted
-pub record IsTurn {A : Type 0} (before : Server) (served : Served) (result : Result A ServeFault) (after : Server) (served_after : Served)
+-- a turn, whose exchanges are counted if there is no fault
+pub record IsCounted {A : Type 0} (before : Situation) (served : Served) (result : Result A ServeFault) (after : Situation) (served_after : Served)
     : Type 0 where
   pub history : List Entry
-  pub run : IsHistory before history after
-  pub sums : OnOk result (AddTurn (length history) (reply_count history) served served_after)
+  pub lost : ℕ
+  pub turn : IsTurn before history lost (ended result) after
+  pub run : IsHistory before.server history after.server
+  pub sums : OnOk result (AddTurn (length history) (reply_count history) lost served served_after)
 
--- what turns without a fault, and time that passed, made of a server: exchanges lead from one server to another, and the sums count them
-pub record HasServed (before : Server) (served : Served) (after : Server) : Type 0 where
+-- turns without a fault, whose exchanges the sums count
+pub record HasServed (before : Situation) (served : Served) (after : Situation) : Type 0 where
   pub history : List Entry
-  pub run : LeadsTo before history after
+  pub lost : ℕ
+  pub turned : AreTurns before history lost (Ok tt) after
+  pub run : LeadsTo before.server history after.server
+  pub failed : served.failed ≡ lost
   pub replied : served.replies ≡ reply_count history
   pub exchanged : served.replies + served.busy ≡ length history

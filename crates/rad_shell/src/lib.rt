@@ -17,7 +17,7 @@ mod serving;
 mod turns;
 mod watch;
 
-pub use memory_ports::{Datagram, MemoryPorts};
+pub use memory_ports::{Datagram, MemoryPorts, Passed};
 pub use ports::{Got, PortFault, Ports, RECEIVED_MAX};
 pub use rad_desk::{
     Closed, Desk, Mismatch, Opened, PASSES_MAX, Pass, Receipt, misplaced_disagree, settle,

@@ -1,5 +1,7 @@
 //! Ports over memory.
-ghost use Rattle.std.specs.Prelude.{◌≤◌, ◌<◌, IsTrue};
+ghost use Rattle.std.specs.Prelude.{◌≡◌, ◌≤◌, ◌<◌, ◌+◌, [], ◌∷◌, cond, IfErr, IfOk, None};
+ghost use Rattle.rad_shell.specs.Memory.{kept_passages, passage};
+ghost use Rattle.rad_shell.specs.Passages.{HavePassed, In, Out, came_by};
 
 use crate::ports::{Got, PortFault, Ports, RECEIVED_MAX};
 use rad_auth::Door;
@@ -23,7 +25,18 @@ pub struct Datagram {
     pub octets: Vec<u8>,
 }
 
-/// Ports over memory: datagrams that are to be received, and those that were sent. They serve tests.
+/// What passed ports over memory.
+#[derive(Drop)]
+pub enum Passed {
+    /// A datagram that was received.
+    In(Datagram),
+    /// A datagram that was sent.
+    Out(Datagram),
+    /// The moment that the clock told.
+    Now(u64),
+}
+
+/// Ports over memory: datagrams that are to be received, and what has passed. They serve tests.
 #[derive(Drop)]
 pub struct MemoryPorts {
     alloc: Global,
@@ -31,7 +44,8 @@ pub struct MemoryPorts {
     coming: Vec<Datagram>,
     // How many of them were received.
     received: usize,
-    sent: Vec<Datagram>,
+    // None once memory was refused for it.
+    passed: Option<Vec<Passed>>,
     turns: u64,
     pauses: u64,
     calls: u64,
@@ -47,7 +61,7 @@ impl MemoryPorts {
             alloc,
             coming: Vec::new(alloc),
             received: 0,
-            sent: Vec::new(alloc),
+            passed: Some(Vec::new(alloc)),
             turns: 0,
             pauses: 0,
             calls: 0,
@@ -75,9 +89,12 @@ impl MemoryPorts {
         self.clock = Some(moment);
     }
 
-    /// The datagrams that were sent, in order.
-    pub fn sent(&self) -> &[Datagram] {
-        &self.sent
+    /// What has passed, in order; of nothing, once memory was refused for it.
+    pub fn passed(&self) -> &[Passed] {
+        match &self.passed {
+            Some(passed) => passed,
+            None => &[],
+        }
     }
 
     /// How often `wait` was called.
@@ -90,10 +107,26 @@ impl MemoryPorts {
         self.pauses
     }
 
+    // Notes what passed, unless memory is or was refused for it.
+    fn note(&mut self, one: Result<Passed, AllocError>)
+        ensures noted { IfOk one (λ one. HavePassed (passage one ∷ [])
+            (kept_passages self.old.passed) (kept_passages self.new.passed)) }
+        ensures refused { IfErr one (λ _. self.new.passed ≡ None) }
+        ensures faults { self.new.faults ≡ self.old.faults }
+    {
+        let is_noted = match (&mut self.passed, one) {
+            (Some(passed), Ok(one)) => passed.push(one).is_ok(),
+            _ => false,
+        };
+        if !is_noted {
+            self.passed = None;
+        }
+    }
+
     // Counts a call of `receive` or `send`, and its failure if it is to fail. At the last count nothing fails.
     fn fails(&mut self) -> bool
-        ensures counted { self.old.faults ≤ self.new.faults }
-        ensures fault { IsTrue result → self.old.faults < self.new.faults }
+        ensures passed { self.new.passed ≡ self.old.passed }
+        ensures faults { self.new.faults ≡ self.old.faults + cond result 1 0 }
     {
         self.calls = self.calls.saturating_add(1);
         if self.calls != self.failing || self.faults == u64::MAX {
@@ -106,6 +139,10 @@ impl MemoryPorts {
 
 impl Ports for MemoryPorts {
     ghost failures = { λ ports. ports.faults };
+
+    ghost reported = { λ ports. ports.faults };
+
+    ghost passed = { λ ports. kept_passages ports.passed };
 
     fn wait<R: Wait>(&mut self, _rt: &R) {
         self.turns = self.turns.saturating_add(1);
@@ -135,11 +172,13 @@ impl Ports for MemoryPorts {
             len,
             moment: next.moment.min(MOMENT_MAX),
         };
+        let one = came(self.alloc, next.turn, &got, &room[..len]);
         self.received += 1;
+        self.note(one);
         Ok(Some(got))
     }
 
-    // A datagram for which memory is refused is lost, as one on a network may be.
+    // A datagram for which memory is refused is lost, as one on a network may be, and nobody can tell any more what has passed.
     fn send(
         &mut self,
         door: Door,
@@ -150,17 +189,18 @@ impl Ports for MemoryPorts {
         if self.fails() {
             return Err(PortFault);
         }
-        if let Ok(octets) = octets.to_vec(self.alloc) {
-            let datagram = Datagram {
+        let one = match octets.to_vec(self.alloc) {
+            Ok(octets) => Ok(Passed::Out(Datagram {
                 turn: self.turns,
                 address,
                 port,
                 door,
                 moment: 0,
                 octets,
-            };
-            let _lost = self.sent.push(datagram).is_err();
-        }
+            })),
+            Err(error) => Err(error),
+        };
+        self.note(one);
         Ok(())
     }
 
@@ -168,10 +208,24 @@ impl Ports for MemoryPorts {
         self.faults
     }
 
-    fn moment(&self) -> Option<u64> {
-        match self.clock {
-            Some(moment) => Some(moment.min(MOMENT_MAX)),
-            None => None,
-        }
+    fn moment(&mut self) -> Option<u64> {
+        let moment = self.clock?.min(MOMENT_MAX);
+        self.note(Ok(Passed::Now(moment)));
+        Some(moment)
     }
+}
+
+// A datagram that was received in a turn, with these octets.
+fn came(alloc: Global, turn: u64, got: &Got, octets: &[u8]) -> Result<Passed, AllocError>
+    ensures { IfOk result (λ one. passage one ≡ In (came_by got.now octets.now)) }
+{
+    let octets = octets.to_vec(alloc)?;
+    Ok(Passed::In(Datagram {
+        turn,
+        address: got.source,
+        port: got.port,
+        door: got.door,
+        moment: got.moment,
+        octets,
+    }))
 }

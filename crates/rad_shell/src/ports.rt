@@ -1,6 +1,7 @@
 //! Ports: where datagrams come in and go out.
-ghost use Rattle.std.specs.Prelude.{◌≡◌, ◌≤◌, ◌<◌, ℕ, IfErr, IfOk, IfSome};
+ghost use Rattle.std.specs.Prelude.{◌≡◌, ◌≤◌, ◌<◌, ◌+◌, ℕ, [], List, Option, IfErr, IfOk, IfSome};
 ghost use Rattle.rad_config.specs.Spans.{moment_max};
+ghost use Rattle.rad_shell.specs.Passages.{HavePassed, Passage, received, reported_by, sent, told};
 ghost use Rattle.rad_shell.specs.Serving.{IsReceived};
 
 use rad_auth::Door;
@@ -35,23 +36,39 @@ pub struct PortFault;
 /// Who implements it counts the failures. A failure that concerns one datagram alone, such as a destination that can't be reached,
 /// may be counted without being reported: the datagram is lost, as on any network. When the count is 2^64 - 1 it stays, and nothing
 /// is reported any more. A datagram is received into room that the caller lends, so that receiving needs no memory.
+///
+/// Contracts see what passed: each datagram that was received, each that was sent, and each moment that was told, in this order. Ports
+/// that can't tell, since no memory holds it, say `None`: who calls them does as with ports that can.
 pub trait Ports {
     /// The failures so far.
     ghost failures: { Self → ℕ };
 
+    /// How many of them were reported.
+    ghost reported: { Self → ℕ };
+
+    /// What passed so far, if the ports can tell.
+    ghost passed: { Self → Option (List Passage) };
+
     /// Waits until a datagram may have come, or for a second at most.
     fn wait<R: Wait>(&mut self, rt: &R)
+        ensures passed { HavePassed [] (passed self.old) (passed self.new) }
+        ensures reported { reported self.new ≡ reported self.old }
         ensures counted { failures self.old ≤ failures self.new };
 
-    /// Waits for a second, whatever comes: after a turn that was refused memory, which more datagrams wouldn't help.
+    /// Waits for a second, whatever comes: after a turn that was refused memory, which more datagrams wouldn't help. Ports needn't.
     fn pause(&mut self)
-        ensures counted { failures self.old ≤ failures self.new };
+        ensures passed { HavePassed [] (passed self.old) (passed self.new) }
+        ensures reported { reported self.new ≡ reported self.old }
+        ensures counted { failures self.old ≤ failures self.new }
+    {}
 
     /// Receives the next datagram, if one waits: its first 4,096 octets go to the beginning of the room.
     ///
     /// Returns `PortFault` only if a failure was counted in the call.
     fn receive(&mut self, room: &mut [u8; RECEIVED_MAX]) -> Result<Option<Got>, PortFault>
         ensures received { IfOk result (λ got. IfSome got IsReceived) }
+        ensures passed { HavePassed (received result room.new) (passed self.old) (passed self.new) }
+        ensures reported { reported self.new ≡ reported self.old + reported_by result }
         ensures counted { failures self.old ≤ failures self.new }
         ensures fault { IfErr result (λ _. failures self.old < failures self.new) };
 
@@ -59,6 +76,10 @@ pub trait Ports {
     ///
     /// Returns `PortFault` only if a failure was counted in the call.
     fn send(&mut self, door: Door, address: u32, port: u16, octets: &[u8]) -> Result<(), PortFault>
+        ensures passed { HavePassed
+            (sent result (record { door = door; address = address; port = port; octets = octets.now }))
+            (passed self.old) (passed self.new) }
+        ensures reported { reported self.new ≡ reported self.old + reported_by result }
         ensures counted { failures self.old ≤ failures self.new }
         ensures fault { IfErr result (λ _. failures self.old < failures self.new) };
 
@@ -67,8 +88,11 @@ pub trait Ports {
         ensures { result ≡ failures self.now };
 
     /// The moment now, in milliseconds, at most `MOMENT_MAX`, by the clock that tells when datagrams come. Ports needn't have one.
-    fn moment(&self) -> Option<u64>
-        ensures { IfSome result (λ moment. moment ≤ moment_max) }
+    fn moment(&mut self) -> Option<u64>
+        ensures moment { IfSome result (λ moment. moment ≤ moment_max) }
+        ensures passed { HavePassed (told result) (passed self.old) (passed self.new) }
+        ensures reported { reported self.new ≡ reported self.old }
+        ensures counted { failures self.old ≤ failures self.new }
     {
         None
     }

@@ -1,7 +1,8 @@
 //! What a turn received.
-ghost use Rattle.std.specs.Prelude.{◌≡◌, ◌≤◌, ◌<◌, All, IfErr, IfOk, length, vec_capacity, vec_len};
+ghost use Rattle.std.specs.Prelude.{◌≡◌, ◌≤◌, ◌<◌, ◌+◌, [], All, IfErr, IfOk, OnErr, OnOk, length, map, vec_capacity, vec_len};
 ghost use Rattle.rad_round.specs.Rounds.{AreMoments, arrivals_max};
-ghost use Rattle.rad_shell.specs.Serving.{IsReceived, octet_count};
+ghost use Rattle.rad_shell.specs.Passages.{HavePassed, In, Out, came_by, reported_by};
+ghost use Rattle.rad_shell.specs.Serving.{AreSent, IsReceived, after_draws, came_in, came_of, draws, octet_count, replies, reply_to};
 
 use crate::ports::{Got, PortFault, Ports, RECEIVED_MAX};
 use rad_auth::Arrival;
@@ -45,8 +46,11 @@ impl Received {
     }
 
     /// Receives until no datagram waits or a round is full. What was there before is dropped. It takes no memory.
-    #[tactic(auto, using(crate::proofs::ServingLemmas::octets_more))]
+    #[tactic(auto, using(crate::proofs::PassageLemmas::octets_more, crate::proofs::PassageLemmas::none_passed))]
     pub fn receive<P: Ports>(&mut self, ports: &mut P) -> Result<(), PortFault>
+        ensures passed { HavePassed (map In (came_in self.new.got.items self.new.octets.items))
+            (P.passed ports.old) (P.passed ports.new) }
+        ensures reported { P.reported ports.new ≡ P.reported ports.old + reported_by result }
         ensures counted { P.failures ports.old ≤ P.failures ports.new }
         ensures fault { IfErr result (λ _. P.failures ports.old < P.failures ports.new) }
     {
@@ -65,8 +69,13 @@ impl Received {
     }
 
     /// Takes a draw for each datagram, in order.
+    #[tactic(auto, using(crate::proofs::PassageLemmas::draws_more, crate::proofs::PassageLemmas::after_draws_more))]
     pub fn draw<D: Rng>(&mut self, random: &mut D)
-        ensures drawn { vec_len self.new.draws ≡ vec_len self.new.got }
+        ensures count { vec_len self.new.draws ≡ vec_len self.new.got }
+        ensures got { self.new.got.items ≡ self.old.got.items }
+        ensures octets { self.new.octets.items ≡ self.old.octets.items }
+        ensures drawn { self.new.draws.items ≡ draws (vec_len self.new.got) (D.stream random.old) }
+        ensures rest { D.stream random.new ≡ after_draws (vec_len self.new.got) (D.stream random.old) }
     {
         self.draws.clear();
         for _ in 0..self.got.len() {
@@ -77,12 +86,16 @@ impl Received {
     }
 
     /// The datagrams as arrivals of a round.
-    #[tactic(auto, using(crate::proofs::ServingLemmas::octets_left))]
+    #[tactic(auto, using(crate::proofs::PassageLemmas::octets_left, crate::proofs::PassageLemmas::came_more, crate::proofs::PassageLemmas::drawn_more))]
     pub fn arrivals(&self, alloc: Global) -> Result<Vec<Timed<'_>>, AllocError>
         requires drawn { vec_len self.now.draws ≡ vec_len self.now.got }
         ensures few { IfOk result (λ arrivals. length arrivals.items ≤ arrivals_max) }
         ensures count { IfOk result (λ arrivals. length arrivals.items ≡ vec_len self.now.got) }
         ensures moments { IfOk result (λ arrivals. AreMoments arrivals.items) }
+        ensures came { IfOk result (λ arrivals.
+            map came_of arrivals.items ≡ came_in self.now.got.items self.now.octets.items) }
+        ensures draws { IfOk result (λ arrivals.
+            map (λ timed. timed.draw) arrivals.items ≡ self.now.draws.items) }
     {
         let mut arrivals = Vec::with_capacity(alloc, self.got.len())?;
         let mut rest = self.octets.as_slice();
@@ -108,15 +121,33 @@ impl Received {
     }
 
     /// Sends the replies among the outcomes of the datagrams, in order, each to where its datagram came from.
+    #[tactic(auto, using(crate::proofs::PassageLemmas::none_sent, crate::proofs::PassageLemmas::one_more_sent, crate::proofs::PassageLemmas::all_sent, crate::proofs::PassageLemmas::sent_until))]
     pub fn reply<P: Ports>(&self, ports: &mut P, outcomes: &[Outcome]) -> Result<(), PortFault>
+        requires count { length outcomes.now ≡ vec_len self.now.got }
+        ensures sent { AreSent (replies (came_in self.now.got.items self.now.octets.items) outcomes.now)
+            result (P.passed ports.old) (P.passed ports.new) }
+        ensures reported { P.reported ports.new ≡ P.reported ports.old + reported_by result }
         ensures counted { P.failures ports.old ≤ P.failures ports.new }
         ensures fault { IfErr result (λ _. P.failures ports.old < P.failures ports.new) }
     {
-        for (got, outcome) in self.got.iter().zip(outcomes) {
-            if let Outcome::Reply(frame) = outcome {
-                ports.send(got.door, got.source, got.port, frame.octets())?;
-            }
+        for i in 0..outcomes.len() {
+            send_reply(ports, &self.got[i], &outcomes[i])?;
         }
         Ok(())
     }
+}
+
+// Sends the reply to a datagram, if its outcome is one, to where it came from.
+fn send_reply<P: Ports>(ports: &mut P, got: &Got, outcome: &Outcome) -> Result<(), PortFault>
+    ensures sent { OnOk result (HavePassed (map Out (reply_to (came_by got.now []) outcome.now))
+        (P.passed ports.old) (P.passed ports.new)) }
+    ensures refused { OnErr result (HavePassed [] (P.passed ports.old) (P.passed ports.new)) }
+    ensures reported { P.reported ports.new ≡ P.reported ports.old + reported_by result }
+    ensures counted { P.failures ports.old ≤ P.failures ports.new }
+    ensures fault { IfErr result (λ _. P.failures ports.old < P.failures ports.new) }
+{
+    if let Outcome::Reply(frame) = outcome {
+        ports.send(got.door, got.source, got.port, frame.octets())?;
+    }
+    Ok(())
 }

@@ -59,7 +59,7 @@ impl Served {
         requires sums { AddUp self.old }
         requires turns { self.old.rounds < turns_max }
         requires count { datagrams ≤ arrivals_max }
-        ensures { AddTurn 0 0 self.old self.new }
+        ensures { AddTurn 0 0 1 self.old self.new }
     {
         self.rounds += 1;
         self.datagrams += datagrams as u64;
@@ -72,7 +72,7 @@ impl Served {
         requires sums { AddUp self.old }
         requires turns { self.old.rounds < turns_max }
         requires count { length outcomes.now ≤ arrivals_max }
-        ensures { AddTurn (exchange_count outcomes.now) (replied_count outcomes.now)
+        ensures { AddTurn (exchange_count outcomes.now) (replied_count outcomes.now) 0
             self.old self.new }
     {
         self.rounds += 1;

@@ -1,9 +1,9 @@
 //! Turns: in each, datagrams are received, answered in a round, and their replies sent.
-ghost use Rattle.std.specs.Prelude.{◌≡◌, ◌≤◌, ◌<◌, [], cond, IfErr, IfNone, IfOk, IfSome, IsSome, vec_len};
+ghost use Rattle.std.specs.Prelude.{◌≡◌, ◌≤◌, ◌<◌, ◌+◌, cond, length, IfErr, IfNone, IfOk, IfSome, IsSome, vec_len};
 ghost use Rattle.std.specs.List.{list_any};
 ghost use Rattle.rad_round.specs.Rounds.{workers_max};
-ghost use Rattle.rad_server.specs.Runs.{LeadsTo};
-ghost use Rattle.rad_shell.specs.Serving.{AddUp, HasCause, IsRoundMade, IsServed, IsTurn, is_refused, turns_max, wants_time};
+ghost use Rattle.rad_shell.specs.Passages.{reported_by};
+ghost use Rattle.rad_shell.specs.Serving.{AddUp, HasCause, IsBetween, IsCounted, IsRoundMade, IsServed, came_in, is_refused, turns_max, wants_time};
 
 use crate::ports::Ports;
 use crate::received::Received;
@@ -47,7 +47,9 @@ impl<'a, D: Rng, G: Gate + Sync, W: Watch + Drop> Turns<'a, D, G, W> {
         gate: &'a G,
         watch: W,
     ) -> Result<Turns<'a, D, G, W>, AllocError>
-        ensures { IfOk result (λ turns. IsSome turns.room) }
+        ensures room { IfOk result (λ turns. IsSome turns.room) }
+        ensures random { IfOk result (λ turns. turns.random.ghost_name ≡ random.entry.ghost_name) }
+        ensures stream { IfOk result (λ turns. turns.random.now ≡ random.old) }
     {
         let room = Some(Received::new(alloc)?);
         Ok(Turns {
@@ -59,7 +61,10 @@ impl<'a, D: Rng, G: Gate + Sync, W: Watch + Drop> Turns<'a, D, G, W> {
     }
 
     /// Turns whose first one takes the room. A turn that is refused it is lost, and the next one tries again.
-    pub(crate) fn without_room(random: &'a mut D, gate: &'a G, watch: W) -> Turns<'a, D, G, W> {
+    pub(crate) fn without_room(random: &'a mut D, gate: &'a G, watch: W) -> Turns<'a, D, G, W>
+        ensures random { result.random.ghost_name ≡ random.entry.ghost_name }
+        ensures stream { result.random.now ≡ random.old }
+    {
         Turns {
             random,
             gate,
@@ -90,7 +95,12 @@ impl<'a, D: Rng, G: Gate + Sync, W: Watch + Drop> Turns<'a, D, G, W> {
         workers: u64,
     ) -> Result<Served, ServeFault>
         requires workers { (1 ≤ workers) × (workers ≤ workers_max) }
-        ensures served { IsServed rounds service.old result service.new }
+        ensures served { IsServed rounds
+            (record { server = service.old; random = D.stream self.old.random.now; passed = P.passed ports.old })
+            result
+            (record { server = service.new; random = D.stream self.new.random.now; passed = P.passed ports.new }) }
+        ensures random { self.new.random.ghost_name ≡ self.old.random.ghost_name }
+        ensures reported { P.reported ports.new ≡ P.reported ports.old + reported_by result }
         ensures fault { IfErr result (HasCause (P.failures ports.old) (P.failures ports.new)) }
         ensures counted { P.failures ports.old ≤ P.failures ports.new }
     {
@@ -106,8 +116,16 @@ impl<'a, D: Rng, G: Gate + Sync, W: Watch + Drop> Turns<'a, D, G, W> {
         Ok(served)
     }
 
+    // Takes the room for datagrams if there is none, unless memory is refused.
+    fn take_room(&mut self, alloc: Global)
+        ensures { self.new.random ≡ self.old.random }
+    {
+        if self.room.is_none() {
+            self.room = Received::new(alloc).ok();
+        }
+    }
+
     // Makes a turn, and adds it to the sums.
-    #[tactic(auto, using(crate::proofs::ServingLemmas::lost_turn, crate::proofs::ServingLemmas::failed_turn, crate::proofs::ServingLemmas::made_turn, crate::proofs::ServingLemmas::unsent_turn))]
     fn make_turn<R: Threads + Wait + Sync, P: Ports>(
         &mut self,
         rt: &R,
@@ -119,14 +137,18 @@ impl<'a, D: Rng, G: Gate + Sync, W: Watch + Drop> Turns<'a, D, G, W> {
         requires workers { (1 ≤ workers) × (workers ≤ workers_max) }
         requires sums { AddUp served.old }
         requires turns { served.old.rounds < turns_max }
-        ensures turn { IsTurn service.old served.old result service.new served.new }
+        ensures turn { IsCounted
+            (record { server = service.old; random = D.stream self.old.random.now; passed = P.passed ports.old })
+            served.old result
+            (record { server = service.new; random = D.stream self.new.random.now; passed = P.passed ports.new })
+            served.new }
+        ensures random { self.new.random.ghost_name ≡ self.old.random.ghost_name }
+        ensures reported { P.reported ports.new ≡ P.reported ports.old + reported_by result }
         ensures counted { P.failures ports.old ≤ P.failures ports.new }
         ensures fault { IfErr result (HasCause (P.failures ports.old) (P.failures ports.new)) }
     {
         ports.wait(rt);
-        if self.room.is_none() {
-            self.room = Received::new(service.alloc()).ok();
-        }
+        self.take_room(service.alloc());
         let Turns {
             random,
             gate,
@@ -192,9 +214,11 @@ fn is_refused(outcome: &Outcome) -> bool
 }
 
 // Lets time pass for the server up to now, if that is left to be done and the ports have a clock.
-#[tactic(auto, using(crate::proofs::ServingLemmas::passed_to, crate::proofs::ServingLemmas::not_passed))]
-fn do_left<P: Ports>(left: Left, service: &mut Service, ports: &P)
-    ensures { LeadsTo service.old [] service.new }
+#[tactic(auto, using(crate::proofs::ServingLemmas::between_by, crate::proofs::ServingLemmas::none_between))]
+fn do_left<P: Ports>(left: Left, service: &mut Service, ports: &mut P)
+    ensures between { IsBetween service.old (P.passed ports.old) service.new (P.passed ports.new) }
+    ensures reported { P.reported ports.new ≡ P.reported ports.old }
+    ensures counted { P.failures ports.old ≤ P.failures ports.new }
 {
     if left == Left::Nothing {
         return;
@@ -215,8 +239,11 @@ fn answer<'t, R: Threads + Wait + Sync, G: Gate + Sync>(
 ) -> Option<(Vec<Timed<'t>>, Done)>
     requires workers { (1 ≤ workers) × (workers ≤ workers_max) }
     requires drawn { vec_len received.now.draws ≡ vec_len received.now.got }
-    ensures made { IfSome result (λ made.
-        IsRoundMade service.old made.1.outcomes.items service.new) }
+    ensures made { IfSome result (λ made. IsRoundMade service.old
+        (came_in received.now.got.items received.now.octets.items) received.now.draws.items
+        made.1.outcomes.items service.new) }
+    ensures count { IfSome result (λ made.
+        length made.1.outcomes.items ≡ vec_len received.now.got) }
     ensures lost { IfNone result (service.new ≡ service.old) }
 {
     let arrivals = received.arrivals(service.alloc()).ok()?;

@@ -3,7 +3,7 @@ use rad_auth::Door;
 use rad_packet::Packet;
 use rad_packet::attribute::STATE;
 use rad_packet::code::ACCESS_CHALLENGE;
-use rad_shell::{Datagram, MemoryPorts, OpenGate, ServeFault, Served, Service, run_rounds};
+use rad_shell::{Datagram, MemoryPorts, OpenGate, Passed, ServeFault, Served, Service, run_rounds};
 use rand_chacha::ChaCha20Rng;
 use rand_core::{Rng, SeedableRng};
 use std::alloc::{AllocError, Global};
@@ -77,17 +77,28 @@ pub(crate) fn arrive_often(
 /// a source that begins again.
 pub(crate) fn are_challenges(ports: &MemoryPorts, numbers: &[u64]) -> bool {
     let mut random = random();
-    if ports.sent().len() != numbers.len() {
-        return false;
-    }
-    for (sent, number) in ports.sent().iter().zip(numbers) {
+    let mut wanted = numbers.iter();
+    for passed in ports.passed() {
+        let Passed::Out(sent) = passed else {
+            continue;
+        };
         let mut draw = [0; 16];
         random.fill_bytes(&mut draw);
-        if !is_challenge(sent, *number, &draw) {
-            return false;
+        match wanted.next() {
+            Some(number) if is_challenge(sent, *number, &draw) => (),
+            _ => return false,
         }
     }
-    true
+    wanted.next().is_none()
+}
+
+/// How many datagrams were sent.
+pub(crate) fn sent_count(ports: &MemoryPorts) -> usize {
+    ports
+        .passed()
+        .iter()
+        .filter(|passed| matches!(passed, Passed::Out(_)))
+        .count()
 }
 
 fn is_challenge(sent: &Datagram, number: u64, draw: &[u8; 16]) -> bool {

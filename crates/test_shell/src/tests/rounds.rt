@@ -1,6 +1,9 @@
 use super::datagrams::Sent::{Access, Account, Octets, Strange};
-use super::datagrams::{NEMO_ACCEPTED, START, STOP, Sent, starts};
-use super::serving::Wanted::{Accept, Busy, Dropped, Reject, Response};
+use super::datagrams::{
+    ACCOUNTING_OFF, ACCOUNTING_ON, ANSWER, BY_CHAP, BY_CHAP_CHALLENGE, BY_EAP, INTERIM_UPDATE,
+    NEMO_ACCEPTED, START, STOP, Sent, starts,
+};
+use super::serving::Wanted::{Accept, Busy, Code, Dropped, Reject, Response};
 use super::serving::{
     Wanted, are_in_turn, are_outcomes, are_same, are_sessions, are_tags, first_round, has_each,
     has_len, round,
@@ -8,12 +11,13 @@ use super::serving::{
 use crate::tests::holds;
 use rad_auth::Discard::{Short, UnknownClient};
 use rad_config::Config;
+use rad_packet::code::{ACCESS_ACCEPT, ACCESS_CHALLENGE};
 use rad_shell::{Done, OpenGate, Service};
 use std::alloc::Global;
 use std::process::Abort;
 use std::sync::Wait;
 use std::thread::Threads;
-use test_common::{CAMPUS, RFC_REQUEST};
+use test_common::{CAMPUS, RFC_REQUEST, STATUS_SERVER};
 
 /// nemo's Access-Request.
 const V: Sent = Octets(RFC_REQUEST);
@@ -116,6 +120,56 @@ fn rounds_follow_one_another(rt: HostRuntime) {
             &[0, 1],
             &[2],
             "a Stop, and dory: the window has passed",
+        ),
+    ];
+    let played = play(&rt, rt.alloc(), ROWS);
+    holds(&rt, played.is_some(), "memory for a service");
+}
+
+#[test]
+fn each_kind_of_request_is_answered(rt: HostRuntime) {
+    const ROWS: &[Row] = &[
+        (
+            0,
+            &[
+                Octets(BY_CHAP),
+                Octets(BY_CHAP_CHALLENGE),
+                Access(3, b"kay", b"pw"),
+                Octets(BY_EAP),
+                Octets(STATUS_SERVER),
+            ],
+            &[
+                Accept(&[10, 0, 1, 1]),
+                Accept(&[10, 0, 1, 2]),
+                Code(ACCESS_CHALLENGE),
+                Reject(b"eap not supported"),
+                Code(ACCESS_ACCEPT),
+            ],
+            &[0, 1, 2, 3, 4],
+            &[1, 2],
+            "CHAP, a challenge, EAP and a Status-Server",
+        ),
+        (
+            0,
+            &[Octets(ANSWER)],
+            &[Code(ACCESS_ACCEPT)],
+            &[0],
+            &[1, 2, 3],
+            "the answer to a challenge",
+        ),
+        (
+            0,
+            &[
+                Account(0, 0, INTERIM_UPDATE),
+                Account(0, 1, STOP),
+                Account(0, 2, ACCOUNTING_ON),
+                Account(0, 3, ACCOUNTING_OFF),
+                Account(0, 4, 15),
+            ],
+            &[Response, Response, Response, Response, Response],
+            &[0, 1, 2, 3, 4],
+            &[1, 2, 3],
+            "each status",
         ),
     ];
     let played = play(&rt, rt.alloc(), ROWS);

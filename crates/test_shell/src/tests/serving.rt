@@ -32,6 +32,8 @@ pub(crate) enum Wanted {
     Reject(&'static [u8]),
     /// An Accounting-Response.
     Response,
+    /// A reply with this Code.
+    Code(u8),
 }
 
 /// What a round makes of datagrams that all arrive at one moment; none if it fails, or memory is refused, or they are too many.
@@ -241,6 +243,7 @@ fn is_reply(frame: &Frame, wanted: &Wanted) -> bool {
         Wanted::Accept(address) => has_attribute(frame, ACCESS_ACCEPT, FRAMED_IP_ADDRESS, address),
         Wanted::Reject(text) => has_attribute(frame, ACCESS_REJECT, REPLY_MESSAGE, text),
         Wanted::Response => has_code(frame, ACCOUNTING_RESPONSE),
+        Wanted::Code(code) => has_code(frame, *code),
         Wanted::Dropped(_) | Wanted::Busy => false,
     }
 }

@@ -1,4 +1,4 @@
-use super::coming::{are_challenges, arrive_often, is_after, is_sum, random, serve};
+use super::coming::{are_challenges, arrive_often, is_after, is_sum, random, sent_count, serve};
 use super::datagrams::Sent::Access;
 use super::datagrams::{NEMO_ACCEPTED, Sent, starts};
 use super::gates::InTurn;
@@ -7,7 +7,7 @@ use crate::tests::holds;
 use rad_auth::Door;
 use rad_config::Config;
 use rad_shell::{
-    Datagram, MemoryPorts, OpenGate, Ports, ServeFault, Served, Service, Turns, run_rounds,
+    Datagram, MemoryPorts, OpenGate, Passed, Ports, ServeFault, Served, Service, Turns, run_rounds,
 };
 use rand_chacha::ChaCha20Rng;
 use std::alloc::Global;
@@ -299,7 +299,7 @@ fn answers_many<R: Threads + Wait + Sync>(rt: &R, alloc: Global, service: &mut S
     let ended = run_rounds(service, rt, &mut ports, &mut random(), &in_turn, 1, 8);
     have_come
         && is_sum(ended, 1, 300, 300, 0)
-        && ports.sent().len() == 300
+        && sent_count(&ports) == 300
         && in_turn.has_passed(38)
 }
 
@@ -338,12 +338,40 @@ fn answers_each<R: Threads + Wait + Sync>(rt: &R, alloc: Global, service: &mut S
         .iter()
         .all(|exchange| begins(alloc, &mut ports, exchange))
         && is_sum(serve(rt, service, &mut ports, &mut random(), 1), 1, 3, 3, 0)
-        && ports.sent().len() == EXCHANGES.len()
-        && ports
-            .sent()
-            .iter()
-            .zip(EXCHANGES)
-            .all(|(sent, exchange)| ends_exchange(sent, exchange))
+        && have_passed(&ports)
+}
+
+// Whether just these datagrams have come, and after them their replies have gone.
+fn have_passed(ports: &MemoryPorts) -> bool {
+    let mut coming = EXCHANGES.iter();
+    let mut going = EXCHANGES.iter();
+    for passed in ports.passed() {
+        let is_so = match passed {
+            Passed::In(came) => match coming.next() {
+                Some(exchange) => has_begun(came, exchange),
+                None => false,
+            },
+            Passed::Out(sent) => match going.next() {
+                Some(exchange) => coming.len() == 0 && ends_exchange(sent, exchange),
+                None => false,
+            },
+            Passed::Now(_) => false,
+        };
+        if !is_so {
+            return false;
+        }
+    }
+    coming.len() == 0 && going.len() == 0
+}
+
+// Whether a datagram that came is the request of an exchange.
+fn has_begun(came: &Datagram, exchange: &Exchange) -> bool {
+    let (address, port, door, octets, _) = *exchange;
+    came.address == address
+        && came.port == port
+        && came.door == door
+        && came.moment == 0
+        && came.octets.as_slice() == octets
 }
 
 // Whether there is memory for the datagram of an exchange, which comes.
@@ -461,7 +489,7 @@ fn asked(row: &Failing) -> &'static [Sent] {
 // Whether turns end as a row says.
 fn ends(ports: &MemoryPorts, ended: Result<Served, ServeFault>, row: &Failing) -> bool {
     let (_, wanted, replies, _) = *row;
-    ended.map(|_served| ()) == wanted && ports.sent().len() == replies && has_failed(ports, row)
+    ended.map(|_served| ()) == wanted && sent_count(ports) == replies && has_failed(ports, row)
 }
 
 // Whether ports have failed once, or not at all where no call is to fail.

@@ -1,5 +1,6 @@
-use Rattle.std.proofs.Common.{◌≡◌, ◌≤◌, ◌*◌, All, vec_capacity, vec_len}
-use Rattle.rad_shell.specs.Serving.{IsReceived, octet_count}
+use Rattle.std.proofs.Common.{◌≡◌, ◌≤◌, ◌*◌, All, map, vec_capacity, vec_len}
+use Rattle.rad_shell.specs.Passages.{HavePassed, In}
+use Rattle.rad_shell.specs.Serving.{IsReceived, came_in, octet_count}
 use Rattle.rad_shell.proofs.received.Received.receive.Given as goal
 
 -- each datagram so far took at most 4096 octets of the room
@@ -14,4 +15,6 @@ invariant-loop g l =
       draws_fit : 512 ≤ vec_capacity l.self.draws;
       all : All IsReceived l.self.got.items;
       sum : octet_count l.self.got.items ≡ vec_len l.self.octets;
+      passed : HavePassed (map In (came_in l.self.got.items l.self.octets.items)) (g.P.Ports.passed l.fn.ports) (g.P.Ports.passed l.ports);
+      reported : g.P.Ports.reported l.ports ≡ g.P.Ports.reported l.fn.ports;
     }

@@ -8,5 +8,10 @@ invariant-loop g l =
       counted : g.P.Ports.failures l.fn.ports ≤ g.P.Ports.failures l.ports;
       sums : AddUp l.served;
       turns : l.served.rounds ≡ l.counter;
-      so_far : HasServed l.fn.service l.served l.service;
+      reported : g.P.Ports.reported l.ports ≡ g.P.Ports.reported l.fn.ports;
+      random : l.self.random.ghost_name ≡ l.fn.self.random.ghost_name;
+      so_far : HasServed
+          (record { server = l.fn.service; random = g.D.Rng.stream l.fn.self.random.now; passed = g.P.Ports.passed l.fn.ports })
+          l.served
+          (record { server = l.service; random = g.D.Rng.stream l.self.random.now; passed = g.P.Ports.passed l.ports });
     }

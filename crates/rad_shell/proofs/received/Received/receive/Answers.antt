@@ -1,0 +1,29 @@
+use Rattle.std.proofs.Common.{arith, ap, subst, sym, ◌∙◌, ◌≡◌, ◌++◌, map, take, Ok}
+use Rattle.std.proofs.lemmas.Grind.{common_steps}
+use Rattle.rad_shell.specs.Passages.{HavePassed, In, received}
+use Rattle.rad_shell.specs.Serving.{came_in}
+use Rattle.rad_shell.proofs.PassageLemmas.{octets_more, passed_as, received_more}
+use Rattle.rad_shell.proofs.received.Received.receive.Goals as goal
+
+pub loop-preserved : goal.loop-preserved
+loop-preserved g c =
+    let came = subst (λ r. HavePassed (received r c.receive.new.room) (g.P.Ports.passed c.loop.ports) (g.P.Ports.passed c.receive.new.self))
+    (c.in_ok-got.was ∙ ap Ok c.in-Some.is) c.receive.ensures.passed in
+    let one = received_more (g.P.Ports.passed c.args.ports.now) (g.P.Ports.passed c.loop.ports) (g.P.Ports.passed c.receive.new.self)
+    c.loop.self.got.items c.loop.self.octets.items c.receive.new.room c.in-Some.got (c.loop.invariant.sum ∙ c.loop.self.octets.ok.0)
+    c.loop.invariant.passed came in
+    let octets : c.extend_from_slice.new.self.items ≡ c.loop.self.octets.items ++ take c.in-Some.got.len c.receive.new.room = grind (arith, common_steps) in
+    record {
+      counted = grind (arith, common_steps);
+      used = grind (arith, common_steps);
+      taken = grind (arith, common_steps);
+      octets_fit = grind (arith, common_steps);
+      got_fit = grind (arith, common_steps);
+      draws_fit = grind (arith, common_steps);
+      all = grind (arith, common_steps);
+      sum = grind (arith, common_steps, octets_more);
+      passed = passed_as _ _ _ _
+          (ap (λ list. map In (came_in list (c.loop.self.octets.items ++ take c.in-Some.got.len c.receive.new.room))) (sym c.push_reserved.ensures.items)
+          ∙ ap (λ list. map In (came_in c.push_reserved.new.self.items list)) (sym octets)) one;
+      reported = grind (arith, common_steps);
+    }

@@ -1,0 +1,63 @@
+-- Passages: what passes the ports of a server, in the order in which it passes them.
+--
+-- A datagram comes from a source to one of the server's two ports, or goes from one of them to an address and a port (RFC 2865, section 3;
+-- RFC 2866, section 3). Moments are milliseconds.
+use Rattle.std.specs.Prelude.{◌≡◌, ℕ, List, [], ◌∷◌, ◌++◌, take, Option, Some, None, Result, Ok, Err}
+use Rattle.rad_auth.specs.Datagrams.{Datagram}
+use Rattle.rad_auth.specs.declared.arrival.Door.{Door}
+use Rattle.rad_shell.specs.declared.ports.Got.{Got}
+use Rattle.rad_shell.specs.declared.ports.PortFault.{PortFault}
+
+-- a datagram that came, and its moment
+pub record Came : Type 0 where
+  pub datagram : Datagram
+  pub moment : ℕ
+
+-- a datagram that went
+pub record Went : Type 0 where
+  pub door : Door
+  pub address : ℕ
+  pub port : ℕ
+  pub octets : List ℕ
+
+-- what passes ports: datagrams, and a moment that their clock told between datagrams
+pub data Passage : Type 0 where
+  In : Came → Passage
+  Out : Went → Passage
+  Now : ℕ → Passage
+
+-- What ports that told of `before` tell of after more passed: of that too. Who can't tell any more tells of nothing from then on.
+abbrev pub HavePassed : List Passage → Option (List Passage) → Option (List Passage) → Type 0
+HavePassed more before None = Unit {0}
+HavePassed more None (Some after) = ⊥
+HavePassed more (Some before) (Some after) = after ≡ before ++ more
+
+-- ---- by one call
+
+-- a datagram that was received, with these octets
+abbrev pub came_by : Got → List ℕ → Came
+came_by got octets = record {
+  datagram = record { source = got.source; port = got.port; door = got.door; octets = octets };
+  moment = got.moment;
+}
+
+-- what a call received: a datagram, whose octets are at the beginning of the room, or nothing
+abbrev pub received : Result (Option Got) PortFault → List ℕ → List Passage
+received (Ok (Some got)) room = In (came_by got (take got.len room)) ∷ []
+received (Ok None) room = []
+received (Err fault) room = []
+
+-- what a call sent
+abbrev pub sent : Result (Unit {0}) PortFault → Went → List Passage
+sent (Ok done) went = Out went ∷ []
+sent (Err fault) went = []
+
+-- what a reading of the clock told
+abbrev pub told : Option ℕ → List Passage
+told None = []
+told (Some moment) = Now moment ∷ []
+
+-- the faults that a call reported
+abbrev pub reported_by : {A E : Type 0} → Result A E → ℕ
+reported_by (Ok done) = 0
+reported_by (Err fault) = 1
