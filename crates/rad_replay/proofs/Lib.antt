@@ -1,2 +1,3 @@
+pub mod DatagramTextLemmas
 pub mod RunLemmas
 pub mod TranscriptLemmas
