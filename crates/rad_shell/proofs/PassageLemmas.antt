@@ -1,5 +1,6 @@
 -- Passages: datagrams one after another are as they came, each has its own draw, and replies go one after another to where they came from.
-use Rattle.std.proofs.Common.{◌≡◌, ◌<◌, ◌≤◌, ℕ, zero, suc, ◌+◌, List, [], ◌∷◌, ◌++◌, length, map, take, drop, get_or, Option, Ok, Err, Some, None, arith, refl, sym, ap, subst, ◌∙◌, add-one}
+use Rattle.std.proofs.Common.{◌≡◌, ◌<◌, ◌≤◌, ℕ, zero, suc, ◌+◌, Bool, true, false, if◌then◌else◌, nat_lt, is_err, List, [], ◌∷◌, ◌++◌, length, map, take, drop, get_or, Option, Result, Ok, Err, Some, None, arith, refl, sym, ap, subst, ◌∙◌, add-one}
+use Rattle.std.proofs.lemmas.Bool.{lt-ltb, ltb-true}
 use Rattle.std.proofs.lemmas.List.{append-nil, append_assoc, drop-append-le, length-drop, map-append, nil_from_length, take-append-le, take_more}
 use Rattle.std.proofs.lemmas.List.Sums.{sum_by-cons, sum_by-drop_more, sum_by_push}
 use Rattle.std.proofs.Math.Seq.{drop-cons, drop-length}
@@ -7,8 +8,9 @@ use Rattle.rand_core.specs.Stream.{Stream, fill_bytes}
 use Rattle.rad_round.specs.declared.outcome.Outcome.{Outcome}
 use Rattle.rad_round.specs.declared.outcome.Outcome.TheVariants.{Dropped, Busy, NoMemory, Reply}
 use Rattle.rad_round.specs.declared.timed.Timed.{Timed}
-use Rattle.rad_shell.specs.Passages.{Came, HavePassed, In, Out, Passage, Went, came_by, received}
-use Rattle.rad_shell.specs.Serving.{AreSent, AreSentBefore, HasDrawn, Situation, after_draws, came_in, came_of, draws, octet_count, passages, replies, reply_to}
+use Rattle.rad_round.specs.Rounds.{arrivals_max}
+use Rattle.rad_shell.specs.Passages.{Came, Empty, Fault, HavePassed, In, Out, Passage, Went, came_by, received}
+use Rattle.rad_shell.specs.Serving.{AreSent, AreSentBefore, HasDrawn, Situation, after_draws, came_in, came_of, draws, emptied, is_replied, octet_count, received_all, replies, reply_to, stopped}
 use Rattle.rad_shell.specs.declared.ports.Got.{Got}
 use Rattle.rad_shell.specs.declared.ports.PortFault.{PortFault}
 
@@ -20,13 +22,13 @@ none_passed None after is = subst (HavePassed [] None) (sym is) tt
 none_passed (Some before) after is = subst (HavePassed [] (Some before)) (sym is) (sym (append-nil before))
 
 -- these passed, and then those
-pub both_passed : (first then : List Passage) (before middle after : Option (List Passage)) → HavePassed first before middle
-    → HavePassed then middle after → HavePassed (first ++ then) before after
-both_passed first then before middle None one two = tt
-both_passed first then before None (Some after) one two = absurd two
-both_passed first then None (Some middle) (Some after) one two = absurd one
-both_passed first then (Some before) (Some middle) (Some after) one two =
-    two ∙ ap (λ p. p ++ then) one ∙ append_assoc before first then
+pub both_passed : (first later : List Passage) (before middle after : Option (List Passage)) → HavePassed first before middle
+    → HavePassed later middle after → HavePassed (first ++ later) before after
+both_passed first later before middle None one two = tt
+both_passed first later before None (Some after) one two = absurd two
+both_passed first later None (Some middle) (Some after) one two = absurd one
+both_passed first later (Some before) (Some middle) (Some after) one two =
+    two ∙ ap (λ p. p ++ later) one ∙ append_assoc before first later
 
 -- the same passed
 pub passed_as : (one other : List Passage) (before after : Option (List Passage)) → one ≡ other → HavePassed one before after
@@ -56,6 +58,10 @@ came_in-append (first ∷ got) octets one more is =
     ∙ ap (λ d. came_by first (take first.len octets) ∷ came_in (got ++ one ∷ []) d) dropped
     ∙ ap (λ rest. came_by first (take first.len octets) ∷ rest) (came_in-append got (drop first.len octets) one more left)
 
+pub came_in-length : (got : List Got) (octets : List ℕ) → length (came_in got octets) ≡ length got
+came_in-length [] octets = refl
+came_in-length (first ∷ got) octets = ap suc (came_in-length got (drop first.len octets))
+
 take_twice : (n : ℕ) (list : List ℕ) → take n (take n list) ≡ take n list
 take_twice zero list = refl
 take_twice (suc n) [] = refl
@@ -74,6 +80,48 @@ received_more before now after got octets room one sum passed came =
     ∙ sym (map-append In (came_in got octets) (came_by one (take one.len (take one.len room)) ∷ []))
     ∙ ap (λ c. map In c) (sym (came_in-append got octets one (take one.len room) sum)))
     (both_passed (map In (came_in got octets)) (In (came_by one (take one.len room)) ∷ []) before now after passed came)
+
+-- after a full turn nothing more is received
+emptied_full : (came : List Came) → length came ≡ arrivals_max → emptied came ≡ []
+emptied_full came is = by_test (nat_lt (length came) arrivals_max) refl
+  where
+    by_test : (b : Bool) → nat_lt (length came) arrivals_max ≡ b → (if b then Empty ∷ [] else []) ≡ []
+    by_test false test = refl
+    by_test true test = absurd (omega (arith, is, ltb-true (length came) arrivals_max test))
+
+-- after fewer datagrams none waited
+emptied_few : (came : List Came) → length came < arrivals_max → emptied came ≡ Empty ∷ []
+emptied_few came lt = by_test (nat_lt (length came) arrivals_max) (lt-ltb (length came) arrivals_max lt)
+  where
+    by_test : (b : Bool) → b ≡ true → (if b then Empty ∷ [] else []) ≡ Empty ∷ []
+    by_test true test = refl
+    by_test false test = absurd cc
+
+-- all were received, as a turn is full
+pub received_full : (got : List Got) (octets : List ℕ) (before after : Option (List Passage)) → length got ≡ arrivals_max
+    → HavePassed (map In (came_in got octets)) before after → HavePassed (received_all (Ok tt) (came_in got octets)) before after
+received_full got octets before after full passed =
+    let came = came_in got octets in
+    passed_as (map In came) (map In came ++ emptied came) before after
+    (sym (append-nil (map In came)) ∙ ap (λ list. map In came ++ list) (sym (emptied_full came (came_in-length got octets ∙ full)))) passed
+
+-- all were received, as none waits
+pub received_until : (got : List Got) (octets room : List ℕ) (before now after : Option (List Passage)) → length got < arrivals_max
+    → HavePassed (map In (came_in got octets)) before now → HavePassed (received (Ok None) room) now after
+    → HavePassed (received_all (Ok tt) (came_in got octets)) before after
+received_until got octets room before now after few passed none =
+    let came = came_in got octets in
+    let fewer : length came < arrivals_max = subst (λ n. n < arrivals_max) (sym (came_in-length got octets)) few in
+    passed_as (map In came ++ Empty ∷ []) (map In came ++ emptied came) before after
+    (ap (λ list. map In came ++ list) (sym (emptied_few came fewer)))
+    (both_passed (map In came) (Empty ∷ []) before now after passed none)
+
+-- the datagrams until a fault were received
+pub received_fault : (got : List Got) (octets : List ℕ) (fault : PortFault) (before now after : Option (List Passage))
+    → HavePassed (map In (came_in got octets)) before now → HavePassed (Fault ∷ []) now after
+    → HavePassed (received_all (Err fault) (came_in got octets)) before after
+received_fault got octets fault before now after passed failed =
+    both_passed (map In (came_in got octets)) (Fault ∷ []) before now after passed failed
 
 -- ---- draws
 
@@ -135,7 +183,7 @@ one_more_sent all got outcomes i g d before now after lt below so_far one =
     let outcome = get_or outcomes i d in
     let rest = drop first.len so_far.octets in
     let next : drop i got ≡ first ∷ drop (i + 1) got = rw add-one (drop-cons got i g lt) in
-    let then : drop i outcomes ≡ outcome ∷ drop (i + 1) outcomes = rw add-one (drop-cons outcomes i d below) in
+    let others : drop i outcomes ≡ outcome ∷ drop (i + 1) outcomes = rw add-one (drop-cons outcomes i d below) in
     let reply = reply_to (came_by first []) outcome in
     let same = reply_to_source first (take first.len so_far.octets) outcome in
     record {
@@ -146,7 +194,7 @@ one_more_sent all got outcomes i g d before now after lt below so_far one =
       replied = append_assoc so_far.went reply (replies (came_in (drop (i + 1) got) rest) (drop (i + 1) outcomes))
           ∙ ap (λ r. so_far.went ++ (r ++ replies (came_in (drop (i + 1) got) rest) (drop (i + 1) outcomes))) same
           ∙ ap (λ list. so_far.went ++ replies (came_in list so_far.octets) (outcome ∷ drop (i + 1) outcomes)) (sym next)
-          ∙ ap (λ list. so_far.went ++ replies (came_in (drop i got) so_far.octets) list) (sym then)
+          ∙ ap (λ list. so_far.went ++ replies (came_in (drop i got) so_far.octets) list) (sym others)
           ∙ so_far.replied;
     }
 
@@ -155,47 +203,66 @@ pub all_sent : (all : List Went) (got : List Got) (outcomes : List Outcome) (bef
 all_sent all got outcomes before after so_far = record {
   went = so_far.went;
   left = [];
-  passed = so_far.passed;
+  passed = passed_as (map Out so_far.went) (map Out so_far.went ++ []) before after (sym (append-nil (map Out so_far.went))) so_far.passed;
   replied = ap (λ list. so_far.went ++ replies (came_in list so_far.octets) outcomes) (sym (drop-length got)) ∙ so_far.replied;
   none_left = refl;
+  some_left = tt;
 }
 
-pub sent_until : (all : List Went) (got : List Got) (outcomes : List Outcome) (fault : PortFault) (before now after : Option (List Passage))
-    → AreSentBefore all got outcomes before now → HavePassed [] now after → AreSent all (Err fault) before after
-sent_until all got outcomes fault before now after so_far none = record {
-  went = so_far.went;
-  left = replies (came_in got so_far.octets) outcomes;
-  passed = passed_as (map Out so_far.went ++ []) (map Out so_far.went) before after (append-nil (map Out so_far.went))
-      (both_passed (map Out so_far.went) [] before now after so_far.passed none);
-  replied = so_far.replied;
-  none_left = tt;
-}
+-- a reply is left
+some_reply : (came : Came) (outcome : Outcome) (rest : List Went) → is_replied outcome ≡ true → reply_to came outcome ++ rest ≡ [] → ⊥
+some_reply came (Dropped discard) rest replied none = absurd cc
+some_reply came Busy rest replied none = absurd cc
+some_reply came NoMemory rest replied none = absurd cc
+some_reply came (Reply frame) rest replied none = absurd cc
+
+stopped_some : (left : List Went) → (left ≡ [] → ⊥) → Fault ∷ [] ≡ stopped left
+stopped_some [] some = absurd (some refl)
+stopped_some (next ∷ rest) some = refl
+
+pub sent_until : (all : List Went) (got : List Got) (outcomes : List Outcome) (i : ℕ) (g : Got) (d : Outcome) (fault : PortFault)
+    (before now after : Option (List Passage)) → i < length got → i < length outcomes
+    → AreSentBefore all (drop i got) (drop i outcomes) before now → is_replied (get_or outcomes i d) ≡ true
+    → HavePassed (Fault ∷ []) now after → AreSent all (Err fault) before after
+sent_until all got outcomes i g d fault before now after lt below so_far replied failed =
+    let first = get_or got i g in
+    let outcome = get_or outcomes i d in
+    let left = replies (came_in (drop i got) so_far.octets) (drop i outcomes) in
+    let next : drop i got ≡ first ∷ drop (i + 1) got = rw add-one (drop-cons got i g lt) in
+    let others : drop i outcomes ≡ outcome ∷ drop (i + 1) outcomes = rw add-one (drop-cons outcomes i d below) in
+    let came = came_by first (take first.len so_far.octets) in
+    let rest = replies (came_in (drop (i + 1) got) (drop first.len so_far.octets)) (drop (i + 1) outcomes) in
+    let is : left ≡ reply_to came outcome ++ rest =
+    ap (λ list. replies (came_in list so_far.octets) (drop i outcomes)) next
+    ∙ ap (λ list. replies (came_in (first ∷ drop (i + 1) got) so_far.octets) list) others in
+    let some : left ≡ [] → ⊥ = λ none. some_reply came outcome rest replied (sym is ∙ none) in
+    record {
+      went = so_far.went;
+      left = left;
+      passed = passed_as (map Out so_far.went ++ Fault ∷ []) (map Out so_far.went ++ stopped left) before after
+          (ap (λ list. map Out so_far.went ++ list) (stopped_some left some))
+          (both_passed (map Out so_far.went) (Fault ∷ []) before now after so_far.passed failed);
+      replied = so_far.replied;
+      none_left = tt;
+      some_left = some;
+    }
 
 -- ---- what came in a turn
 
--- what came after a wait
-pub waited_for : (came : List Came) (before waited after : Option (List Passage)) → HavePassed [] before waited
-    → HavePassed (map In came) waited after → HavePassed (map In came) before after
-waited_for came before waited after none received = both_passed [] (map In came) before waited after none received
-
--- what came in a turn without replies, after which nothing passed
-pub all_came : (came : List Came) (before passed after : Option (List Passage)) → HavePassed (map In came) before passed
-    → HavePassed [] passed after → HavePassed (passages came []) before after
-all_came came before passed after received none = both_passed (map In came) [] before passed after received none
-
-pub came_in-length : (got : List Got) (octets : List ℕ) → length (came_in got octets) ≡ length got
-came_in-length [] octets = refl
-came_in-length (first ∷ got) octets = ap suc (came_in-length got (drop first.len octets))
-
-pub has_drawn : (before : Situation) (waited passed : Option (List Passage)) (first random : Stream) (got got' : List Got) (octets octets' : List ℕ)
-    (drawn : List (List ℕ)) (count : ℕ) → HavePassed [] before.passed waited → HavePassed (map In (came_in got octets)) waited passed
+pub has_drawn : (before : Situation) (waited passed : Option (List Passage)) (first random : Stream) (receiving : Result (Unit {0}) PortFault)
+    (got got' : List Got) (octets octets' : List ℕ) (drawn : List (List ℕ)) (count : ℕ) → is_err receiving ≡ false
+    → HavePassed [] before.passed waited → HavePassed (received_all receiving (came_in got octets)) waited passed
     → first ≡ before.random → got' ≡ got → octets' ≡ octets → count ≡ length got' → drawn ≡ draws count first
     → random ≡ after_draws count first → HasDrawn before (came_in got' octets') drawn random passed
-has_drawn before waited passed first random got got' octets octets' drawn count none came same gots octetss counted drawn_are random_is =
-    let all = counted ∙ sym (came_in-length got' octets') in record {
-      passed_is = waited_for (came_in got' octets') before.passed waited passed none
-          (subst (λ list. HavePassed (map In (came_in list octets')) waited passed) (sym gots)
-          (subst (λ list. HavePassed (map In (came_in got list)) waited passed) (sym octetss) came));
-      drawn_are = drawn_are ∙ ap (λ n. draws n first) all ∙ ap (λ r. draws (length (came_in got' octets')) r) same;
-      random_is = random_is ∙ ap (λ n. after_draws n first) all ∙ ap (λ r. after_draws (length (came_in got' octets')) r) same;
+has_drawn before waited passed first random (Err fault) got got' octets octets' drawn count ok none came same gots octetss counted drawn_are random_is =
+    absurd cc
+has_drawn before waited passed first random (Ok done) got got' octets octets' drawn count ok none came same gots octetss counted drawn_are random_is =
+    let all = counted ∙ sym (came_in-length got' octets') in
+    let some = came_in got' octets' in
+    record {
+      passed_is = both_passed [] (map In some ++ emptied some) before.passed waited passed none
+          (subst (λ list. HavePassed (received_all (Ok tt) (came_in list octets')) waited passed) (sym gots)
+          (subst (λ list. HavePassed (received_all (Ok tt) (came_in got list)) waited passed) (sym octetss) came));
+      drawn_are = drawn_are ∙ ap (λ n. draws n first) all ∙ ap (λ r. draws (length some) r) same;
+      random_is = random_is ∙ ap (λ n. after_draws n first) all ∙ ap (λ r. after_draws (length some) r) same;
     }

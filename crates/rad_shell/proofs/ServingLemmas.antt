@@ -1,5 +1,5 @@
 -- Serving: a round has an entry for each outcome of an exchange, and turns go on from one another.
-use Rattle.std.proofs.Common.{◌≡◌, ◌≢◌, ◌<◌, ◌≤◌, ℕ, zero, suc, ◌+◌, max, Bool, true, false, cond, List, [], ◌∷◌, ◌++◌, length, map, take, filter, get_or, Option, IfSome, Some, None, Result, Ok, Err, is_err, slice_get, arith, refl, sym, ap, subst, ◌∙◌, inl, inr}
+use Rattle.std.proofs.Common.{◌≡◌, ◌≢◌, ◌⊎◌, ◌<◌, ◌≤◌, ℕ, zero, suc, ◌+◌, max, Bool, true, false, cond, List, [], ◌∷◌, ◌++◌, length, map, take, filter, get_or, Option, IfSome, Some, None, Result, Ok, Err, is_err, slice_get, arith, refl, sym, ap, subst, ◌∙◌, inl, inr}
 use lib.ListN.{length-append}
 use Rattle.std.proofs.lemmas.Option.{get_or_from_slice_get, none-some, slice_get-get_or, slice_get_within}
 use Rattle.std.proofs.lemmas.List.{append-nil, take_all}
@@ -15,14 +15,14 @@ use Rattle.rad_server.specs.Servers.{Server}
 use Rattle.rad_server.specs.States.{when_passed}
 use Rattle.rad_server.specs.declared.entry.Entry.{Entry}
 use Rattle.rad_round.specs.Rounds.{HasArrival, HasEntry, HaveOwnTags, IsEntryOf, IsOutcome, Round, arrivals_max}
-use Rattle.rad_shell.specs.Passages.{Came, HavePassed, In, Out, Passage, Went, told}
-use Rattle.rad_shell.specs.Serving.{AddTurn, AddUp, AreSent, AreTurns, HasDrawn, HasServed, IsBetween, IsCounted, IsLost, IsMade, IsRoundMade, IsServed, IsTurn, IsUnreceived, Situation, after_draws, between, came_of, exchange_count, is_exchanged, is_replied, is_reply, no_turn, one_more, passages, replied_count, replies, reply_count}
+use Rattle.rad_shell.specs.Passages.{Came, Fault, HavePassed, In, Out, Passage, Went, clock_told}
+use Rattle.rad_shell.specs.Serving.{AddTurn, AddUp, AreSent, AreTurns, AreTurnsSoFar, HasDrawn, IsBetween, IsCounted, IsLost, IsMade, IsRoundMade, IsServed, IsWithoutRoom, Situation, between, came_of, emptied, exchange_count, is_exchanged, is_replied, is_reply, no_turn, one_more, received_all, replied_count, replies, reply_count, stopped}
 use Rattle.rad_round.specs.declared.outcome.Outcome.{Outcome}
 use Rattle.rad_round.specs.declared.outcome.Outcome.TheVariants.{Dropped, Busy, NoMemory, Reply}
 use Rattle.rad_shell.specs.declared.ports.PortFault.{PortFault}
 use Rattle.rad_shell.specs.declared.serve_fault.ServeFault.{ServeFault}
 use Rattle.rad_shell.specs.declared.serve_fault.ServeFault.TheVariants as faults
-use Rattle.rad_shell.proofs.PassageLemmas.{all_came, both_passed, none_passed, passed_as}
+use Rattle.rad_shell.proofs.PassageLemmas.{both_passed}
 use Rattle.rad_shell.specs.declared.served.Served.{Served}
 use Rattle.rad_round.specs.declared.timed.Timed.{Timed}
 
@@ -327,13 +327,14 @@ round_made before came drawn arrivals outcomes history after few arrived drawn_a
 nothing_done : (before after : Server) → after ≡ before → IsHistory before [] after
 nothing_done before after is = subst (IsHistory before []) (sym is) (no_exchange before)
 
-lost : {A : Type 0} (before : Situation) (served : Served) (result : A) (after : Situation) (served_after : Served) → IsLost before [] after
-    → AddTurn 0 0 1 served served_after → IsCounted before served (Ok result) after served_after
-lost before served result after served_after is sums = record {
+lost : {A : Type 0} (before : Situation) (served : Served) (result : A) (after : Situation) (served_after : Served)
+    → IsLost before after ⊎ IsWithoutRoom before after → after.server ≡ before.server → AddTurn 0 0 1 served served_after
+    → IsCounted before served (Ok result) after served_after
+lost before served result after served_after is server sums = record {
   history = [];
   lost = 1;
-  turn = inr (is, refl);
-  run = nothing_done before.server after.server is.server;
+  turn = inr (is, refl, refl);
+  run = nothing_done before.server after.server server;
   sums = sums;
 }
 
@@ -342,14 +343,12 @@ pub idle_turn : {A : Type 0} (before : Situation) (served : Served) (waited : Op
     (served_after : Served) → HavePassed [] before.passed waited → HavePassed [] waited after.passed
     → after.random ≡ before.random → after.server ≡ before.server → AddTurn 0 0 1 served served_after
     → IsCounted before served (Ok result) after served_after
-idle_turn before served waited result after served_after first then random server sums =
-    lost before served result after served_after (record {
-      came = [];
-      passed = both_passed [] [] before.passed waited after.passed first then;
+idle_turn before served waited result after served_after first later random server sums =
+    lost before served result after served_after (inr (record {
+      passed = both_passed [] [] before.passed waited after.passed first later;
       random = random;
       server = server;
-      unanswered = refl;
-    }) sums
+    })) server sums
 
 -- a turn whose round is lost
 pub lost_turn : {A : Type 0} (before : Situation) (served : Served) (came : List Came) (drawn : List (List ℕ)) (passed : Option (List Passage))
@@ -357,30 +356,30 @@ pub lost_turn : {A : Type 0} (before : Situation) (served : Served) (came : List
     → HavePassed [] passed after.passed → after.server ≡ before.server
     → AddTurn 0 0 1 served served_after → IsCounted before served (Ok result) after served_after
 lost_turn before served came drawn passed result after served_after has paused server sums =
-    lost before served result after served_after (record {
+    lost before served result after served_after (inl (record {
       came = came;
-      passed = all_came came before.passed passed after.passed has.passed_is paused;
+      passed = both_passed (map In came ++ emptied came) [] before.passed passed after.passed has.passed_is paused;
       random = has.random_is;
       server = server;
-      unanswered = refl;
-    }) sums
+    })) server sums
 
 -- a turn whose round isn't made
-pub unreceived_turn : {A : Type 0} (before : Situation) (served : Served) (came : List Came) (waited : Option (List Passage)) (after : Situation)
-    (served_after : Served) → HavePassed [] before.passed waited → HavePassed (map In came) waited after.passed
+pub cut_short : {A : Type 0} (before : Situation) (served : Served) (came : List Came) (waited : Option (List Passage))
+    (receiving : Result (Unit {0}) PortFault) (after : Situation) (served_after : Served) → is_err receiving ≡ true
+    → HavePassed [] before.passed waited → HavePassed (received_all receiving came) waited after.passed
     → after.random ≡ before.random → after.server ≡ before.server → IsCounted {A = A} before served (Err faults.Receive) after served_after
-unreceived_turn before served came waited after served_after first then random server = record {
+cut_short before served came waited (Ok done) after served_after failed first later random server = absurd cc
+cut_short before served came waited (Err fault) after served_after failed first later random server = record {
   history = [];
   lost = 0;
   turn = (
     record {
       came = came;
-      passed = both_passed [] (passages came []) before.passed waited after.passed first
-          (passed_as (map In came) (passages came []) waited after.passed (sym (append-nil (map In came))) then);
+      passed = both_passed [] (map In came ++ Fault ∷ []) before.passed waited after.passed first later;
       random = random;
       server = server;
-      unanswered = refl;
     },
+    refl,
     refl,
   );
   run = nothing_done before.server after.server server;
@@ -397,7 +396,7 @@ made before came drawn outcomes listed passed result after has round is sent = r
   went = sent.went;
   arrivals = round.arrivals;
   outcomes = outcomes;
-  passed = both_passed (map In came) (map Out sent.went) before.passed passed after.passed has.passed_is sent.passed;
+  passed = both_passed (map In came ++ emptied came) (map Out sent.went ++ stopped sent.left) before.passed passed after.passed has.passed_is sent.passed;
   arrived = round.arrived;
   drawn = round.drawn_are ∙ has.drawn_are;
   random = has.random_is;
@@ -427,14 +426,22 @@ made_turn before served came drawn outcomes listed passed (Ok done) result after
 }
 
 -- a turn whose round is made, but whose replies aren't all sent
+some_left : (before : Situation) (history : List Entry) (lost : ℕ) (left : List Went) (after : Situation) → lost ≡ 0 → (left ≡ [] → ⊥)
+    → IsMade before history left after → (next : Went) × (rest : List Went) × IsMade before history (next ∷ rest) after × (lost ≡ 0)
+some_left before history lost [] after none some is = absurd (some refl)
+some_left before history lost (next ∷ rest) after none some is = (next, rest, is, none)
+
 pub unsent_turn : {A : Type 0} (before : Situation) (served : Served) (came : List Came) (drawn : List (List ℕ)) (outcomes listed : List Outcome)
     (passed : Option (List Passage)) (sending : Result (Unit {0}) PortFault) (after : Situation) (served_after : Served)
-    → HasDrawn before came drawn after.random passed → IsRoundMade before.server came drawn outcomes after.server → listed ≡ outcomes
+    → is_err sending ≡ true → HasDrawn before came drawn after.random passed
+    → IsRoundMade before.server came drawn outcomes after.server → listed ≡ outcomes
     → AreSent (replies came listed) sending passed after.passed → IsCounted {A = A} before served (Err faults.Send) after served_after
-unsent_turn before served came drawn outcomes listed passed sending after served_after has round is sent = record {
+unsent_turn before served came drawn outcomes listed passed (Ok done) after served_after failed has round is sent = absurd cc
+unsent_turn before served came drawn outcomes listed passed (Err fault) after served_after failed has round is sent = record {
   history = round.history;
   lost = 0;
-  turn = (sent.left, made before came drawn outcomes listed passed sending after has round is sent, refl);
+  turn = some_left before round.history 0 sent.left after refl sent.some_left
+      (made before came drawn outcomes listed passed (Err fault) after has round is sent);
   run = round.round.run;
   sums = tt;
 }
@@ -443,7 +450,7 @@ unsent_turn before served came drawn outcomes listed passed sending after served
 
 -- time passes up to a moment that the ports told
 pub between_by : (before after : Server) (passed passed_after : Option (List Passage)) (moment : Option ℕ)
-    → HavePassed (told moment) passed passed_after → IfSome moment (λ m. m ≤ moment_max) → after.configuration ≡ before.configuration
+    → HavePassed (clock_told moment) passed passed_after → IfSome moment (λ m. m ≤ moment_max) → after.configuration ≡ before.configuration
     → after.state ≡ when_passed moment before.state → IsBetween before passed after passed_after
 between_by before after passed passed_after moment told small same is = record {
   moment = moment;
@@ -474,11 +481,11 @@ leads_between before after passed passed_after is = record {
 
 -- no turn yet
 pub nothing_served : (situation : Situation) (served : Served) → served.replies + served.busy ≡ 0 → served.failed ≡ 0
-    → HasServed situation served situation
-nothing_served situation served none no_lost = record {
+    → served.rounds ≡ 0 → AreTurnsSoFar situation served situation
+nothing_served situation served none no_lost no_rounds = record {
   history = [];
   lost = 0;
-  turned = no_turn;
+  turned = subst (λ n. AreTurns situation n [] 0 (Ok tt) situation) (sym no_rounds) no_turn;
   run = in_time situation.server [] situation.server (no_exchange situation.server);
   failed = no_lost;
   replied = omega (arith, none);
@@ -487,13 +494,14 @@ nothing_served situation served none no_lost = record {
 
 -- one more turn
 pub one_more_turn : {A : Type 0} (before : Situation) (served : Served) (middle : Situation) (result : A) (after : Situation) (served_after : Served)
-    → HistoriesAfterTime → HasServed before served middle → IsCounted middle served (Ok result) after served_after
-    → HasServed before served_after after
+    → HistoriesAfterTime → AreTurnsSoFar before served middle → IsCounted middle served (Ok result) after served_after
+    → AreTurnsSoFar before served_after after
 one_more_turn before served middle result after served_after joins so_far turn =
     let more : List Entry = not_before so_far.run.passed turn.history in record {
       history = so_far.history ++ more;
       lost = so_far.lost + turn.lost;
-      turned = one_more turn.history turn.lost so_far.run so_far.turned turn.turn;
+      turned = subst (λ n. AreTurns before n (so_far.history ++ more) (so_far.lost + turn.lost) (Ok tt) after) (sym turn.sums.rounds)
+          (one_more turn.history turn.lost so_far.run so_far.turned turn.turn);
       run = joins before.server middle.server after.server so_far.history turn.history so_far.run
           (in_time middle.server turn.history after.server turn.run);
       failed = omega (arith, turn.sums.failed, so_far.failed);
@@ -515,8 +523,8 @@ one_more_turn before served middle result after served_after joins so_far turn =
 
 -- and what is done after it
 pub and_between : (before : Situation) (served : Served) (middle : Situation) (server : Server) (passed : Option (List Passage))
-    → HistoriesAfterTime → HasServed before served middle → IsBetween middle.server middle.passed server passed
-    → HasServed before served (record { server = server; random = middle.random; passed = passed })
+    → HistoriesAfterTime → AreTurnsSoFar before served middle → IsBetween middle.server middle.passed server passed
+    → AreTurnsSoFar before served (record { server = server; random = middle.random; passed = passed })
 and_between before served middle server passed joins so_far is =
     let run : LeadsTo before.server (so_far.history ++ not_before so_far.run.passed []) server =
     joins before.server middle.server server so_far.history [] so_far.run (leads_between middle.server server middle.passed passed is) in
@@ -534,11 +542,14 @@ and_between before served middle server passed joins so_far is =
 -- all turns
 pub served_all : (turns : ℕ) (before : Situation) (served : Served) (after : Situation) → RunsRepeat → RunsAreLawful
     → IsConfiguration before.server.configuration → IsLawful before.server.configuration before.server.state
-    → HasServed before served after → AddUp served → served.rounds ≡ turns → IsServed turns before (Ok served) after
+    → AreTurnsSoFar before served after → AddUp served → served.rounds ≡ turns → IsServed turns before (Ok served) after
 served_all turns before served after repeats laws valid lawful so_far sums rounds = record {
+  made = served.rounds;
   history = so_far.history;
   lost = so_far.lost;
   turned = so_far.turned;
+  most = omega (arith, rounds);
+  all = rounds;
   run = so_far.run;
   repeat = repeats before.server.configuration before.server.state so_far.history valid lawful;
   lawful = laws before.server.configuration before.server.state so_far.history valid lawful;
@@ -549,14 +560,17 @@ served_all turns before served after repeats laws valid lawful so_far sums round
 pub served_until : {A : Type 0} (turns : ℕ) (before : Situation) (served : Served) (middle : Situation) (fault reported : ServeFault)
     (after : Situation) (served_after : Served) → RunsRepeat → RunsAreLawful → HistoriesAfterTime
     → IsConfiguration before.server.configuration → IsLawful before.server.configuration before.server.state
-    → HasServed before served middle → reported ≡ fault → IsCounted {A = A} middle served (Err fault) after served_after
-    → IsServed turns before (Err reported) after
-served_until turns before served middle fault reported after served_after repeats laws joins valid lawful so_far is turn =
+    → AreTurnsSoFar before served middle → served.rounds < turns → reported ≡ fault
+    → IsCounted {A = A} middle served (Err fault) after served_after → IsServed turns before (Err reported) after
+served_until turns before served middle fault reported after served_after repeats laws joins valid lawful so_far fewer is turn =
     let history = so_far.history ++ not_before so_far.run.passed turn.history in record {
+      made = served.rounds + 1;
       history = history;
       lost = so_far.lost + turn.lost;
-      turned = subst (λ f. AreTurns before history (so_far.lost + turn.lost) (Err f) after) (sym is)
+      turned = subst (λ f. AreTurns before (served.rounds + 1) history (so_far.lost + turn.lost) (Err f) after) (sym is)
           (one_more turn.history turn.lost so_far.run so_far.turned turn.turn);
+      most = omega (arith, fewer);
+      all = tt;
       run = joins before.server middle.server after.server so_far.history turn.history so_far.run
           (in_time middle.server turn.history after.server turn.run);
       repeat = repeats before.server.configuration before.server.state history valid lawful;

@@ -20,13 +20,16 @@ pub record Went : Type 0 where
   pub port : ℕ
   pub octets : List ℕ
 
--- what passes ports: datagrams, and a moment that their clock told between datagrams
+-- what ports tell of: a datagram that was received, one that was handed over to be sent, that none waited, a moment that their clock told,
+-- or a fault that they reported
 pub data Passage : Type 0 where
   In : Came → Passage
   Out : Went → Passage
+  Empty : Passage
   Now : ℕ → Passage
+  Fault : Passage
 
--- What ports that told of `before` tell of after more passed: of that too. Who can't tell any more tells of nothing from then on.
+-- Ports told of `before`, then more passed: now they tell of `before` and then more, or of nothing from now on.
 abbrev pub HavePassed : List Passage → Option (List Passage) → Option (List Passage) → Type 0
 HavePassed more before None = Unit {0}
 HavePassed more None (Some after) = ⊥
@@ -41,23 +44,23 @@ came_by got octets = record {
   moment = got.moment;
 }
 
--- what a call received: a datagram, whose octets are at the beginning of the room, or nothing
+-- what a call received: a datagram, whose octets are at the beginning of the room, or none
 abbrev pub received : Result (Option Got) PortFault → List ℕ → List Passage
 received (Ok (Some got)) room = In (came_by got (take got.len room)) ∷ []
-received (Ok None) room = []
-received (Err fault) room = []
+received (Ok None) room = Empty ∷ []
+received (Err fault) room = Fault ∷ []
 
 -- what a call sent
 abbrev pub sent : Result (Unit {0}) PortFault → Went → List Passage
 sent (Ok done) went = Out went ∷ []
-sent (Err fault) went = []
+sent (Err fault) went = Fault ∷ []
 
 -- what a reading of the clock told
-abbrev pub told : Option ℕ → List Passage
-told None = []
-told (Some moment) = Now moment ∷ []
+abbrev pub clock_told : Option ℕ → List Passage
+clock_told None = []
+clock_told (Some moment) = Now moment ∷ []
 
--- the faults that a call reported
+-- how many faults a call reported
 abbrev pub reported_by : {A E : Type 0} → Result A E → ℕ
 reported_by (Ok done) = 0
 reported_by (Err fault) = 1

@@ -1,8 +1,8 @@
 -- Serving: turns, in each of which datagrams are received, answered in a round, and their replies sent.
 --
--- A turn receives until no datagram waits or a round is full. A round for which memory is refused is lost: its datagrams are counted,
--- and the server is as it was. After a turn that was refused memory or received nothing, time passes for the server.
-use Rattle.std.specs.Prelude.{◌≡◌, ◌⊎◌, ℕ, zero, suc, ◌+◌, ◌-◌, ◌*◌, ◌^◌, ◌==◌, ◌||◌, min, ◌≤◌, ◌<◌, Bool, true, false, List, [], ◌∷◌, ◌++◌, drop, length, map, take, filter, Option, Result, Ok, Err, IfOk, IfSome, OnOk}
+-- A turn receives until no datagram waits or a round is full. A round may be lost: then the server is as it was, and the round is counted.
+-- Between turns time may pass for the server, up to a moment that the ports told.
+use Rattle.std.specs.Prelude.{◌≡◌, ◌⊎◌, ℕ, zero, suc, ◌+◌, ◌-◌, ◌*◌, ◌^◌, ◌==◌, ◌||◌, min, ◌≤◌, ◌<◌, Bool, true, false, List, [], ◌∷◌, ◌++◌, drop, length, map, take, filter, Option, Result, Ok, Err, IfOk, IfSome, OnErr, OnOk, nat_lt, if◌then◌else◌}
 use Rattle.std.specs.List.{list_any, sum_by}
 use Rattle.rand_core.specs.Stream.{Stream, fill_bytes}
 use Rattle.rad_auth.specs.Datagrams.{datagram_of}
@@ -19,7 +19,7 @@ use Rattle.rad_round.specs.Rounds.{Round, arrivals_max}
 use Rattle.rad_round.specs.declared.outcome.Outcome.{Outcome}
 use Rattle.rad_round.specs.declared.outcome.Outcome.TheVariants.{Dropped, Busy, NoMemory, Reply}
 use Rattle.rad_round.specs.declared.timed.Timed.{Timed}
-use Rattle.rad_shell.specs.Passages.{Came, HavePassed, In, Out, Passage, Went, came_by, told}
+use Rattle.rad_shell.specs.Passages.{Came, Empty, Fault, HavePassed, In, Out, Passage, Went, came_by, clock_told}
 use Rattle.rad_shell.specs.declared.ports.Got.{Got}
 use Rattle.rad_shell.specs.declared.ports.PortFault.{PortFault}
 use Rattle.rad_shell.specs.declared.serve_fault.ServeFault.{ServeFault}
@@ -128,9 +128,18 @@ pub record Situation : Type 0 where
   pub random : Stream
   pub passed : Option (List Passage)
 
--- what passes the ports in a turn: first what comes, then what goes
-abbrev pub passages : List Came → List Went → List Passage
-passages came went = map In came ++ map Out went
+-- after fewer datagrams than a turn takes, none waited
+abbrev pub emptied : List Came → List Passage
+emptied came = if nat_lt (length came) arrivals_max then Empty ∷ [] else []
+
+-- after replies of which some are left, a fault was reported
+abbrev pub stopped : List Went → List Passage
+stopped [] = []
+stopped (next ∷ rest) = Fault ∷ []
+
+-- what passes the ports in a turn: first what comes, then what goes, of which some may be left
+abbrev pub passages : List Came → List Went → List Went → List Passage
+passages came went left = (map In came ++ emptied came) ++ (map Out went ++ stopped left)
 
 -- A turn whose round is made. Its round is one of just the datagrams that came, with their moments, and with the next draws; just the
 -- replies to them went, in their order, but for the last ones that are left.
@@ -139,71 +148,80 @@ pub record IsMade (before : Situation) (history : List Entry) (left : List Went)
   pub went : List Went
   pub arrivals : List Timed
   pub outcomes : List Outcome
-  pub passed : HavePassed (passages came went) before.passed after.passed
+  pub passed : HavePassed (passages came went left) before.passed after.passed
   pub arrived : map came_of arrivals ≡ came
   pub drawn : map (λ timed. timed.draw) arrivals ≡ draws (length came) before.random
   pub random : after.random ≡ after_draws (length came) before.random
   pub round : Round before.server arrivals outcomes history after.server
   pub replied : went ++ left ≡ replies came outcomes
 
--- a turn whose round is lost, since memory was refused: what came is lost with its draws, nothing went, and the server is as it was
-pub record IsLost (before : Situation) (history : List Entry) (after : Situation) : Type 0 where
+-- a turn whose round is lost: what came is lost with its draws, nothing went, and the server is as it was
+pub record IsLost (before : Situation) (after : Situation) : Type 0 where
   pub came : List Came
-  pub passed : HavePassed (passages came []) before.passed after.passed
+  pub passed : HavePassed (passages came [] []) before.passed after.passed
   pub random : after.random ≡ after_draws (length came) before.random
   pub server : after.server ≡ before.server
-  pub unanswered : history ≡ []
 
--- a turn in which a port failed before the round: what came is lost, nothing went, and all else is as it was
-pub record IsUnreceived (before : Situation) (history : List Entry) (after : Situation) : Type 0 where
-  pub came : List Came
-  pub passed : HavePassed (passages came []) before.passed after.passed
+-- a turn that has no room for datagrams: none is received, and all is as it was
+pub record IsWithoutRoom (before : Situation) (after : Situation) : Type 0 where
+  pub passed : HavePassed [] before.passed after.passed
   pub random : after.random ≡ before.random
   pub server : after.server ≡ before.server
-  pub unanswered : history ≡ []
 
--- A turn, by how it ends: all replies of its round went, or it is lost; or a port failed before the round, or while replies were sent.
--- So many rounds of it are lost.
+-- a turn in which a port failed before the round: what came is lost, nothing went, and all else is as it was
+pub record IsCutShort (before : Situation) (after : Situation) : Type 0 where
+  pub came : List Came
+  pub passed : HavePassed (map In came ++ Fault ∷ []) before.passed after.passed
+  pub random : after.random ≡ before.random
+  pub server : after.server ≡ before.server
+
+-- A turn, by how it ends: all replies of its round went, or it is lost; or a port failed before the round, or while replies were sent, so
+-- that some are left. So many rounds of it are lost.
 abbrev pub IsTurn : Situation → List Entry → ℕ → Result (Unit {0}) ServeFault → Situation → Type 0
 IsTurn before history lost (Ok done) after =
-    (IsMade before history [] after × (lost ≡ 0)) ⊎ (IsLost before history after × (lost ≡ 1))
-IsTurn before history lost (Err faults.Receive) after = IsUnreceived before history after × (lost ≡ 0)
-IsTurn before history lost (Err faults.Send) after = (left : List Went) × IsMade before history left after × (lost ≡ 0)
+    (IsMade before history [] after × (lost ≡ 0))
+    ⊎ ((IsLost before after ⊎ IsWithoutRoom before after) × (history ≡ []) × (lost ≡ 1))
+IsTurn before history lost (Err faults.Receive) after = IsCutShort before after × (history ≡ []) × (lost ≡ 0)
+IsTurn before history lost (Err faults.Send) after =
+    (next : Went) × (rest : List Went) × IsMade before history (next ∷ rest) after × (lost ≡ 0)
 IsTurn before history lost (Err faults.Mismatch) after = ⊥
 
--- what is done between turns: perhaps the ports told a moment, and time passed for the server up to it
+-- between turns: perhaps the ports told a moment, and time passed for the server up to it
 pub record IsBetween (before : Server) (passed : Option (List Passage)) (after : Server) (passed_after : Option (List Passage))
     : Type 0 where
   pub moment : Option ℕ
-  pub told : HavePassed (told moment) passed passed_after
+  pub told : HavePassed (clock_told moment) passed passed_after
   pub within : IfSome moment (λ moment. moment ≤ moment_max)
   pub configuration : after.configuration ≡ before.configuration
   pub state : after.state ≡ when_passed moment before.state
 
--- Turns one after another, up to the first fault, with all their exchanges and the number of lost ones. Where time has passed since the
--- last exchange, the next one doesn't come before then.
-pub data AreTurns (before : Situation) : List Entry → ℕ → Result (Unit {0}) ServeFault → Situation → Type 0 where
-  no_turn : AreTurns before [] 0 (Ok tt) before
-  one_more : {history : List Entry} {lost : ℕ} {middle : Situation} (more : List Entry) (lost_more : ℕ)
+-- So many turns one after another, up to the first fault, with all their exchanges and the number of lost ones. Where time has passed since
+-- the last exchange, the next one doesn't come before then.
+pub data AreTurns (before : Situation) : ℕ → List Entry → ℕ → Result (Unit {0}) ServeFault → Situation → Type 0 where
+  no_turn : AreTurns before 0 [] 0 (Ok tt) before
+  one_more : {turns : ℕ} {history : List Entry} {lost : ℕ} {middle : Situation} (more : List Entry) (lost_more : ℕ)
       {result : Result (Unit {0}) ServeFault} {after : Situation} (leads : LeadsTo before.server history middle.server)
-      → AreTurns before history lost (Ok tt) middle → IsTurn middle more lost_more result after
-      → AreTurns before (history ++ not_before leads.passed more) (lost + lost_more) result after
-  between : {history : List Entry} {lost : ℕ} {middle : Situation} (server : Server) (passed : Option (List Passage))
-      → AreTurns before history lost (Ok tt) middle → IsBetween middle.server middle.passed server passed
-      → AreTurns before history lost (Ok tt) (record { server = server; random = middle.random; passed = passed })
+      → AreTurns before turns history lost (Ok tt) middle → IsTurn middle more lost_more result after
+      → AreTurns before (turns + 1) (history ++ not_before leads.passed more) (lost + lost_more) result after
+  between : {turns : ℕ} {history : List Entry} {lost : ℕ} {middle : Situation} (server : Server) (passed : Option (List Passage))
+      → AreTurns before turns history lost (Ok tt) middle → IsBetween middle.server middle.passed server passed
+      → AreTurns before turns history lost (Ok tt) (record { server = server; random = middle.random; passed = passed })
 
 -- how turns ended
 abbrev pub ended : {A : Type 0} → Result A ServeFault → Result (Unit {0}) ServeFault
 ended (Ok served) = Ok tt
 ended (Err fault) = Err fault
 
--- What so many turns make, however they end: their exchanges lead from the server before to the one after, but for time that may have
--- passed since; each repeat is answered again, and every state on the way is lawful. If no fault ended them, their sums count these
+-- What so many turns make, or fewer up to a fault: their exchanges lead from the server before to the one after, but for time that may
+-- have passed since; each repeat is answered again, and every state on the way is lawful. If no fault ended them, their sums count these
 -- exchanges and the lost turns.
 pub record IsServed (turns : ℕ) (before : Situation) (result : Result Served ServeFault) (after : Situation) : Type 0 where
+  pub made : ℕ
   pub history : List Entry
   pub lost : ℕ
-  pub turned : AreTurns before history lost (ended result) after
+  pub turned : AreTurns before made history lost (ended result) after
+  pub most : made ≤ turns
+  pub all : OnOk result (made ≡ turns)
   pub run : LeadsTo before.server history after.server
   pub repeat : Repeat before.server.configuration before.server.state history
   pub lawful : IsLawfulThroughout before.server.configuration before.server.state history
@@ -273,20 +291,26 @@ abbrev pub came_in : List Got → List ℕ → List Came
 came_in [] octets = []
 came_in (got ∷ rest) octets = came_by got (take got.len octets) ∷ came_in rest (drop got.len octets)
 
+-- what passed when datagrams were received
+abbrev pub received_all : Result (Unit {0}) PortFault → List Came → List Passage
+received_all (Ok done) came = map In came ++ emptied came
+received_all (Err fault) came = map In came ++ Fault ∷ []
+
 -- these datagrams have come in a turn, and these draws were taken for them
 pub record HasDrawn (before : Situation) (came : List Came) (drawn : List (List ℕ)) (random : Stream) (passed : Option (List Passage))
     : Type 0 where
-  pub passed_is : HavePassed (map In came) before.passed passed
+  pub passed_is : HavePassed (map In came ++ emptied came) before.passed passed
   pub drawn_are : drawn ≡ draws (length came) before.random
   pub random_is : random ≡ after_draws (length came) before.random
 
--- all of these replies went, or the first ones and then came a fault
+-- all of these replies went, or the first ones, and then a fault was reported
 pub record AreSent (all : List Went) (result : Result (Unit {0}) PortFault) (before after : Option (List Passage)) : Type 0 where
   pub went : List Went
   pub left : List Went
-  pub passed : HavePassed (map Out went) before after
+  pub passed : HavePassed (map Out went ++ stopped left) before after
   pub replied : went ++ left ≡ all
   pub none_left : OnOk result (left ≡ [])
+  pub some_left : OnErr result (left ≡ [] → ⊥)
 
 -- these replies went, but for those to these datagrams
 pub record AreSentBefore (all : List Went) (got : List Got) (outcomes : List Outcome) (before now : Option (List Passage)) : Type 0 where
@@ -316,11 +340,11 @@ pub record IsCounted {A : Type 0} (before : Situation) (served : Served) (result
   pub run : IsHistory before.server history after.server
   pub sums : OnOk result (AddTurn (length history) (reply_count history) lost served served_after)
 
--- turns without a fault, whose exchanges the sums count
-pub record HasServed (before : Situation) (served : Served) (after : Situation) : Type 0 where
+-- turns without a fault, which the sums count
+pub record AreTurnsSoFar (before : Situation) (served : Served) (after : Situation) : Type 0 where
   pub history : List Entry
   pub lost : ℕ
-  pub turned : AreTurns before history lost (Ok tt) after
+  pub turned : AreTurns before served.rounds history lost (Ok tt) after
   pub run : LeadsTo before.server history after.server
   pub failed : served.failed ≡ lost
   pub replied : served.replies ≡ reply_count history

@@ -1,5 +1,5 @@
 //! Ports over memory.
-ghost use Rattle.std.specs.Prelude.{◌≡◌, ◌≤◌, ◌<◌, ◌+◌, [], ◌∷◌, cond, IfErr, IfOk, None};
+ghost use Rattle.std.specs.Prelude.{◌≡◌, ◌≤◌, ◌<◌, ◌+◌, [], ◌∷◌, cond, IfErr, IfOk, IfSome, None, Some, map, vec_len};
 ghost use Rattle.rad_shell.specs.Memory.{kept_passages, passage};
 ghost use Rattle.rad_shell.specs.Passages.{HavePassed, In, Out, came_by};
 
@@ -32,8 +32,12 @@ pub enum Passed {
     In(Datagram),
     /// A datagram that was sent.
     Out(Datagram),
+    /// No datagram waited.
+    Empty,
     /// The moment that the clock told.
     Now(u64),
+    /// A call failed.
+    Fault,
 }
 
 /// Ports over memory: datagrams that are to be received, and what has passed. They serve tests.
@@ -56,7 +60,9 @@ pub struct MemoryPorts {
 
 impl MemoryPorts {
     /// Ports to which nothing comes yet.
-    pub fn new(alloc: Global) -> MemoryPorts {
+    pub fn new(alloc: Global) -> MemoryPorts
+        ensures { kept_passages result.passed ≡ Some [] }
+    {
         MemoryPorts {
             alloc,
             coming: Vec::new(alloc),
@@ -90,7 +96,9 @@ impl MemoryPorts {
     }
 
     /// What has passed, in order; of nothing, once memory was refused for it.
-    pub fn passed(&self) -> &[Passed] {
+    pub fn passed(&self) -> &[Passed]
+        ensures { IfSome (kept_passages self.now.passed) (λ told. told ≡ map passage result.now) }
+    {
         match &self.passed {
             Some(passed) => passed,
             None => &[],
@@ -105,6 +113,18 @@ impl MemoryPorts {
     /// How often `pause` was called.
     pub fn pauses(&self) -> u64 {
         self.pauses
+    }
+
+    // The next datagram, if its turn has come.
+    fn next(&self) -> Option<&Datagram>
+        ensures { IfSome result (λ _. self.now.received < vec_len self.now.coming) }
+    {
+        let next = self.coming.get(self.received)?;
+        if next.turn <= self.turns {
+            Some(next)
+        } else {
+            None
+        }
     }
 
     // Notes what passed, unless memory is or was refused for it.
@@ -155,14 +175,13 @@ impl Ports for MemoryPorts {
 
     fn receive(&mut self, room: &mut [u8; RECEIVED_MAX]) -> Result<Option<Got>, PortFault> {
         if self.fails() {
+            self.note(Ok(Passed::Fault));
             return Err(PortFault);
         }
-        let Some(next) = self.coming.get(self.received) else {
+        let Some(next) = self.next() else {
+            self.note(Ok(Passed::Empty));
             return Ok(None);
         };
-        if next.turn > self.turns {
-            return Ok(None);
-        }
         let len = next.octets.len().min(RECEIVED_MAX);
         room[..len].copy_from_slice(&next.octets[..len]);
         let got = Got {
@@ -187,6 +206,7 @@ impl Ports for MemoryPorts {
         octets: &[u8],
     ) -> Result<(), PortFault> {
         if self.fails() {
+            self.note(Ok(Passed::Fault));
             return Err(PortFault);
         }
         let one = match octets.to_vec(self.alloc) {

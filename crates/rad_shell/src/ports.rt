@@ -1,7 +1,7 @@
 //! Ports: where datagrams come in and go out.
 ghost use Rattle.std.specs.Prelude.{◌≡◌, ◌≤◌, ◌<◌, ◌+◌, ℕ, [], List, Option, IfErr, IfOk, IfSome};
 ghost use Rattle.rad_config.specs.Spans.{moment_max};
-ghost use Rattle.rad_shell.specs.Passages.{HavePassed, Passage, received, reported_by, sent, told};
+ghost use Rattle.rad_shell.specs.Passages.{HavePassed, Passage, clock_told, received, reported_by, sent};
 ghost use Rattle.rad_shell.specs.Serving.{IsReceived};
 
 use rad_auth::Door;
@@ -37,8 +37,8 @@ pub struct PortFault;
 /// may be counted without being reported: the datagram is lost, as on any network. When the count is 2^64 - 1 it stays, and nothing
 /// is reported any more. A datagram is received into room that the caller lends, so that receiving needs no memory.
 ///
-/// Contracts see what passed: each datagram that was received, each that was sent, and each moment that was told, in this order. Ports
-/// that can't tell, since no memory holds it, say `None`: who calls them does as with ports that can.
+/// Contracts see what passed, in this order: each datagram that was received, or that none waited; each that was handed over to be sent;
+/// each moment that the clock told; each fault that was reported. Ports that can't tell say `None`. A caller can't see which ports it has.
 pub trait Ports {
     /// The failures so far.
     ghost failures: { Self → ℕ };
@@ -90,7 +90,7 @@ pub trait Ports {
     /// The moment now, in milliseconds, at most `MOMENT_MAX`, by the clock that tells when datagrams come. Ports needn't have one.
     fn moment(&mut self) -> Option<u64>
         ensures moment { IfSome result (λ moment. moment ≤ moment_max) }
-        ensures passed { HavePassed (told result) (passed self.old) (passed self.new) }
+        ensures passed { HavePassed (clock_told result) (passed self.old) (passed self.new) }
         ensures reported { reported self.new ≡ reported self.old }
         ensures counted { failures self.old ≤ failures self.new }
     {

@@ -1,8 +1,8 @@
 //! What a turn received.
-ghost use Rattle.std.specs.Prelude.{◌≡◌, ◌≤◌, ◌<◌, ◌+◌, [], All, IfErr, IfOk, OnErr, OnOk, length, map, vec_capacity, vec_len};
+ghost use Rattle.std.specs.Prelude.{◌≡◌, ◌≤◌, ◌<◌, ◌+◌, [], ◌∷◌, All, IfErr, IfOk, OnErr, OnOk, length, map, true, vec_capacity, vec_len};
 ghost use Rattle.rad_round.specs.Rounds.{AreMoments, arrivals_max};
-ghost use Rattle.rad_shell.specs.Passages.{HavePassed, In, Out, came_by, reported_by};
-ghost use Rattle.rad_shell.specs.Serving.{AreSent, IsReceived, after_draws, came_in, came_of, draws, octet_count, replies, reply_to};
+ghost use Rattle.rad_shell.specs.Passages.{Fault, HavePassed, Out, came_by, reported_by};
+ghost use Rattle.rad_shell.specs.Serving.{AreSent, IsReceived, after_draws, came_in, came_of, draws, is_replied, octet_count, received_all, replies, reply_to};
 
 use crate::ports::{Got, PortFault, Ports, RECEIVED_MAX};
 use rad_auth::Arrival;
@@ -48,7 +48,7 @@ impl Received {
     /// Receives until no datagram waits or a round is full. What was there before is dropped. It takes no memory.
     #[tactic(auto, using(crate::proofs::PassageLemmas::octets_more, crate::proofs::PassageLemmas::none_passed))]
     pub fn receive<P: Ports>(&mut self, ports: &mut P) -> Result<(), PortFault>
-        ensures passed { HavePassed (map In (came_in self.new.got.items self.new.octets.items))
+        ensures passed { HavePassed (received_all result (came_in self.new.got.items self.new.octets.items))
             (P.passed ports.old) (P.passed ports.new) }
         ensures reported { P.reported ports.new ≡ P.reported ports.old + reported_by result }
         ensures counted { P.failures ports.old ≤ P.failures ports.new }
@@ -141,7 +141,8 @@ impl Received {
 fn send_reply<P: Ports>(ports: &mut P, got: &Got, outcome: &Outcome) -> Result<(), PortFault>
     ensures sent { OnOk result (HavePassed (map Out (reply_to (came_by got.now []) outcome.now))
         (P.passed ports.old) (P.passed ports.new)) }
-    ensures refused { OnErr result (HavePassed [] (P.passed ports.old) (P.passed ports.new)) }
+    ensures refused { OnErr result (HavePassed (Fault ∷ []) (P.passed ports.old) (P.passed ports.new)) }
+    ensures replied { OnErr result (is_replied outcome.now ≡ true) }
     ensures reported { P.reported ports.new ≡ P.reported ports.old + reported_by result }
     ensures counted { P.failures ports.old ≤ P.failures ports.new }
     ensures fault { IfErr result (λ _. P.failures ports.old < P.failures ports.new) }

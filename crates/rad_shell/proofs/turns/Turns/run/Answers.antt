@@ -13,7 +13,7 @@ returns-in_err-left-clause-served g c =
     let lawful = subst (λ server. IsLawful server.configuration server.state) c.server.ensures c.state_is_lawful.ensures.state in
     let served = served_until c.args.rounds _ c.loop.served _ c.in_err-left.field-0.0 reported.0
     _ c.make_turn.new.served c.runs_repeat.ensures c.runs_are_lawful.ensures c.time_passes_unseen.ensures.histories valid lawful
-    c.loop.invariant.so_far reported.2 c.in_err-left.ensures.turn in
+    c.loop.invariant.so_far (omega (arith, c.loop.invariant.turns, c.loop-test.true)) reported.2 c.in_err-left.ensures.turn in
     subst (λ result. IsServed c.args.rounds
     (record { server = c.args.service.now; random = g.D.Rng.stream c.args.self.now.random.now; passed = g.P.Ports.passed c.args.ports.now })
     result
