@@ -1,1 +1,2 @@
+pub mod RecordingLemmas
 pub mod ShownLemmas

@@ -1,3 +1,4 @@
 pub mod Expiry
 pub mod Limits
+pub mod Recordings
 pub mod Shown

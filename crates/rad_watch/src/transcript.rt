@@ -1,57 +1,100 @@
 //! Datagrams as a transcript has them.
+ghost use Rattle.std.specs.Prelude.{◌≡◌, ◌++◌, IsTrue, OnOk};
+ghost use Rattle.std.specs.List.{flat_map};
+ghost use Rattle.rad_replay.specs.DatagramTexts.{DatagramTextsAreRead};
+ghost use Rattle.rad_watch.specs.Recordings.{datagrams_of_entry, discarded, if_discarded, recorded, recorded_line};
 
-use crate::event::Origin;
-use crate::line::{name_of_door, push_octets, push_source};
-use crate::shown::push_hex;
+use rad_replay::{datagram_texts_are_read, push_datagram_text};
+use rad_server::Entry;
 use rad_shell::{Outcome, Timed, Turn};
-use std::io;
-use std::io::Write;
+use std::alloc::AllocError;
 
 /// Appends the datagrams of a turn as lines of a transcript, in an order in which one thread answers them as the turn did: those of its
 /// history, and then those that it discarded. Those that were refused memory are left out, as they changed nothing.
 ///
 /// Whether there was memory for all; if not, nothing is appended.
-pub fn record(text: &mut Vec<u8>, turn: &Turn) -> bool {
+pub fn record(text: &mut Vec<u8>, turn: &Turn) -> bool
+    ensures recorded { IsTrue result → text.new.items ≡ text.old.items
+        ++ recorded turn.now.arrivals.now turn.now.done.now.outcomes.items turn.now.done.now.history.items }
+    // A replay reads each line as that datagram with that moment.
+    ensures read { DatagramTextsAreRead }
+{
+    datagram_texts_are_read();
     let len = text.len();
-    let is_recorded = record_history(text, turn).is_ok() && record_discards(text, turn).is_ok();
+    let is_recorded = record_turn(text, turn).is_ok();
     if !is_recorded {
         text.truncate(len);
     }
     is_recorded
 }
 
-fn record_history(text: &mut Vec<u8>, turn: &Turn) -> io::Result<()> {
-    for entry in turn.done.history.iter() {
-        if let Some(timed) = turn.arrivals.get(entry.tag as usize) {
-            push_line(text, timed)?;
+#[tactic(auto, using(crate::proofs::RecordingLemmas::recorded_both))]
+fn record_turn(text: &mut Vec<u8>, turn: &Turn) -> Result<(), AllocError>
+    ensures { OnOk result (text.new.items ≡ text.old.items
+        ++ recorded turn.now.arrivals.now turn.now.done.now.outcomes.items turn.now.done.now.history.items) }
+{
+    record_history(text, turn.arrivals, &turn.done.history)?;
+    record_discards(text, turn.arrivals, &turn.done.outcomes)
+}
+
+#[tactic(auto, using(crate::proofs::RecordingLemmas::one_more_entry))]
+fn record_history(
+    text: &mut Vec<u8>,
+    arrivals: &[Timed],
+    history: &[Entry],
+) -> Result<(), AllocError>
+    ensures { OnOk result (text.new.items ≡ text.old.items
+        ++ flat_map recorded_line (flat_map (datagrams_of_entry arrivals.now) history.now)) }
+{
+    for i in 0..history.len() {
+        record_entry(text, arrivals, &history[i])?;
+    }
+    Ok(())
+}
+
+#[tactic(auto, using(crate::proofs::RecordingLemmas::found_entry, crate::proofs::RecordingLemmas::absent_entry))]
+fn record_entry(text: &mut Vec<u8>, arrivals: &[Timed], entry: &Entry) -> Result<(), AllocError>
+    ensures { OnOk result (text.new.items ≡ text.old.items
+        ++ flat_map recorded_line (datagrams_of_entry arrivals.now entry.now)) }
+{
+    let number = entry.tag as usize;
+    if number < arrivals.len() {
+        push_line(text, &arrivals[number])?;
+    }
+    Ok(())
+}
+
+#[tactic(auto, using(crate::proofs::RecordingLemmas::one_less_discarded))]
+fn record_discards(
+    text: &mut Vec<u8>,
+    arrivals: &[Timed],
+    outcomes: &[Outcome],
+) -> Result<(), AllocError>
+    ensures { OnOk result (text.new.items ≡ text.old.items
+        ++ flat_map recorded_line (discarded arrivals.now outcomes.now)) }
+{
+    for i in 0..outcomes.len() {
+        if let Some(timed) = arrivals.get(i) {
+            record_discard(text, timed, &outcomes[i])?;
         }
     }
     Ok(())
 }
 
-fn record_discards(text: &mut Vec<u8>, turn: &Turn) -> io::Result<()> {
-    for (timed, outcome) in turn.arrivals.iter().zip(&turn.done.outcomes) {
-        if let Outcome::Dropped(_) = outcome {
-            push_line(text, timed)?;
-        }
+fn record_discard(text: &mut Vec<u8>, timed: &Timed, outcome: &Outcome) -> Result<(), AllocError>
+    ensures { OnOk result (text.new.items ≡ text.old.items
+        ++ flat_map recorded_line (if_discarded timed.now outcome.now)) }
+{
+    match outcome {
+        Outcome::Dropped(_) => push_line(text, timed),
+        _ => Ok(()),
     }
+}
+
+fn push_line(text: &mut Vec<u8>, timed: &Timed) -> Result<(), AllocError>
+    ensures { OnOk result (text.new.items ≡ text.old.items ++ recorded_line timed.now) }
+{
+    push_datagram_text(text, timed.moment, &timed.arrival)?;
+    text.push(b'\n')?;
     Ok(())
-}
-
-fn push_line(text: &mut Vec<u8>, timed: &Timed) -> io::Result<()> {
-    let moment = timed.moment;
-    write!(text, "{moment} ")?;
-    push_octets(text, name_of_door(timed.arrival.door))?;
-    push_octets(text, b" ")?;
-    push_source(text, Origin::of(&timed.arrival))?;
-    push_octets(text, b" ")?;
-    push_datagram(text, timed.arrival.octets)
-}
-
-fn push_datagram(text: &mut Vec<u8>, octets: &[u8]) -> io::Result<()> {
-    if octets.is_empty() {
-        push_octets(text, b"-")?;
-    }
-    push_hex(text, octets)?;
-    push_octets(text, b"\n")
 }
