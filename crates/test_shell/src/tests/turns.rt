@@ -355,7 +355,8 @@ fn have_passed(ports: &MemoryPorts) -> bool {
                 Some(exchange) => coming.len() == 0 && ends_exchange(sent, exchange),
                 None => false,
             },
-            Passed::Now(_) => false,
+            Passed::Empty => coming.len() == 0 && going.len() == EXCHANGES.len(),
+            Passed::Now(_) | Passed::Fault => false,
         };
         if !is_so {
             return false;
