@@ -1,5 +1,8 @@
 //! The command `serve`.
-ghost use Rattle.rad_serve.specs.Calls.{HaveServed};
+ghost use Rattle.std.specs.Prelude.{◌≡◌, ◌+◌, Result};
+ghost use Rattle.rad_serve.specs.Calls.{MadeCalls};
+ghost use Rattle.rad_shell.specs.Passages.{reported_by};
+ghost use Rattle.rad_shell.specs.declared.serve_fault.ServeFault.{ServeFault};
 
 use crate::input::{open_seed, open_text};
 use crate::options::Options;
@@ -257,9 +260,11 @@ fn serve_turns<R: Print + Threads + Wait + Sync, P: Ports, D: Rng, G: Gate + Syn
     turns: &mut Turns<D, G, W>,
     ports: &mut P,
 ) -> Result<(), ServeError>
-    ensures { HaveServed
+    ensures called { (ending : Result (Unit {0}) ServeFault) × MadeCalls
         (record { server = service.old; random = D.stream turns.old.random.now; passed = P.passed ports.old })
+        ending
         (record { server = service.new; random = D.stream turns.new.random.now; passed = P.passed ports.new }) }
+    ensures reported { P.reported ports.new ≡ P.reported ports.old + reported_by result }
 {
     time_passes_unseen();
     let rounds = options.rounds.unwrap_or(u32::MAX);

@@ -1,5 +1,5 @@
 //! The authentication port and the accounting port as UDP sockets.
-ghost use Rattle.std.specs.Prelude.{◌≡◌, ◌≤◌, ◌<◌, ◌+◌, ◌↔◌, IfErr, IfOk, IfSome, IsErr, None, cond, false};
+ghost use Rattle.std.specs.Prelude.{◌≡◌, ◌≤◌, ◌<◌, ◌+◌, IfErr, IfOk, IfSome, IsTrue, None, cond, false};
 ghost use Rattle.rad_config.specs.Spans.{moment_max};
 ghost use Rattle.rad_serve.specs.declared.failure.Failure.TheVariants.{Socket};
 ghost use Rattle.rad_serve.specs.Asking.{with_one};
@@ -115,6 +115,7 @@ impl<'r, C: Clock> UdpPorts<'r, C> {
     // Counts a failure, up to the last count. Whether it was counted.
     fn count(&mut self) -> bool
         ensures counted { self.new.failures ≡ self.old.failures + cond result 1 0 }
+        ensures room { IsTrue result → self.old.failures < failures_max }
         ensures last { (result ≡ false) → self.old.failures ≡ failures_max }
         ensures reported { self.new.reported ≡ self.old.reported }
     {
@@ -127,23 +128,17 @@ impl<'r, C: Clock> UdpPorts<'r, C> {
 
     // Counts a failed call, and reports it if the socket can't be used.
     fn judge(&mut self, failure: Failure) -> Result<(), PortFault>
-        ensures cause { IsErr result ↔ ((failure ≡ Socket) × (self.old.failures < failures_max)) }
+        ensures cause { IfErr result (λ _. failure ≡ Socket) }
+        ensures told { IfOk result (λ _. failure ≡ Socket → self.old.failures ≡ failures_max) }
         ensures reported { self.new.reported ≡ self.old.reported + reported_by result }
         ensures counted { self.old.failures ≤ self.new.failures }
         ensures fault { IfErr result (λ _. self.old.failures < self.new.failures) }
     {
-        match failure {
-            Failure::WouldBlock => Ok(()),
-            Failure::Datagram => {
-                self.count();
-                Ok(())
-            }
-            Failure::Socket if self.count() => {
-                self.reported += 1;
-                Err(PortFault)
-            }
-            Failure::Socket => Ok(()),
+        if failure == Failure::WouldBlock || !self.count() || failure == Failure::Datagram {
+            return Ok(());
         }
+        self.reported += 1;
+        Err(PortFault)
     }
 
     // The moment, in milliseconds by a clock that goes on whatever time it is set to. Its zero is the system's choice.

@@ -1,7 +1,13 @@
-use Rattle.rad_serve.specs.Calls.{HaveServed}
+use Rattle.std.proofs.Common.{◌≡◌, Ok}
+use Rattle.rad_serve.specs.Calls.{MadeCalls}
 use Rattle.rad_serve.proofs.serving.serve_turns.Given as goal
 
 abbrev pub invariant-loop : goal.invariant-loop
-invariant-loop g l = HaveServed
-    (record { server = l.fn.service; random = g.D.Rng.stream l.fn.turns.random.now; passed = g.P.Ports.passed l.fn.ports })
-    (record { server = l.service; random = g.D.Rng.stream l.turns.random.now; passed = g.P.Ports.passed l.ports })
+invariant-loop g l =
+    record {
+      called : MadeCalls
+          (record { server = l.fn.service; random = g.D.Rng.stream l.fn.turns.random.now; passed = g.P.Ports.passed l.fn.ports })
+          (Ok tt)
+          (record { server = l.service; random = g.D.Rng.stream l.turns.random.now; passed = g.P.Ports.passed l.ports });
+      reported : g.P.Ports.reported l.ports ≡ g.P.Ports.reported l.fn.ports;
+    }
