@@ -1,4 +1,6 @@
+pub mod Events
 pub mod Expiry
 pub mod Limits
+pub mod LogLines
 pub mod Recordings
 pub mod Shown

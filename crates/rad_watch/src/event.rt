@@ -1,4 +1,9 @@
 //! What became of a datagram.
+ghost use Rattle.std.specs.Prelude.{◌≡◌, option_copied, option_map};
+ghost use Rattle.rad_auth.specs.Datagrams.{datagram_of};
+ghost use Rattle.rad_packet.specs.Packets.{packet_of};
+ghost use Rattle.rad_server.specs.Accounting.{class_number, first_integer};
+ghost use Rattle.rad_watch.specs.Events.{bare, of_answer, of_answered, of_discard, of_outcome, of_reply, of_session, of_unanswered, origin_of, parts_in, parts_of, reported, seen, told};
 
 use crate::kind::Kind;
 use rad_auth::{Arrival, Discard, Door};
@@ -43,7 +48,9 @@ pub(crate) struct Origin {
 
 impl Origin {
     /// Where this one came from.
-    pub fn of(arrival: &Arrival) -> Origin {
+    pub fn of(arrival: &Arrival) -> Origin
+        ensures { result ≡ origin_of (datagram_of arrival.now) }
+    {
         Origin {
             source: arrival.source,
             port: arrival.port,
@@ -54,7 +61,9 @@ impl Origin {
 
 impl<'t> Event<'t> {
     /// An event of which no more is known.
-    pub fn of(kind: Kind) -> Event<'t> {
+    pub fn of(kind: Kind) -> Event<'t>
+        ensures { seen result ≡ bare kind }
+    {
         Event {
             kind,
             client: None,
@@ -70,13 +79,11 @@ impl<'t> Event<'t> {
     /// What became of a datagram.
     ///
     /// None if what was admitted or sent is no packet, which can't be.
-    pub fn told(config: &Config, arrival: &Arrival<'t>, outcome: &'t Outcome) -> Option<Event<'t>> {
-        let event = match outcome {
-            Outcome::Dropped(discard) => discarded(*discard),
-            Outcome::Busy => unanswered(Kind::Busy, arrival),
-            Outcome::NoMemory => unanswered(Kind::NoMemory, arrival),
-            Outcome::Reply(frame) => answered(arrival.octets, frame.octets())?,
-        };
+    pub fn told(config: &Config, arrival: &Arrival<'t>, outcome: &'t Outcome) -> Option<Event<'t>>
+        ensures { option_map seen result
+            ≡ told config.now.clients (datagram_of arrival.now) outcome.now }
+    {
+        let event = of_outcome(arrival.octets, outcome)?;
         Some(Event {
             client: config.clients().find(arrival.source),
             origin: Some(Origin::of(arrival)),
@@ -90,7 +97,20 @@ pub(crate) fn is_reject(reply: &[u8]) -> bool {
     reply.first() == Some(&ACCESS_REJECT)
 }
 
-fn discarded<'t>(discard: Discard) -> Event<'t> {
+fn of_outcome<'t>(octets: &'t [u8], outcome: &'t Outcome) -> Option<Event<'t>>
+    ensures { option_map seen result ≡ of_outcome octets.now outcome.now }
+{
+    match outcome {
+        Outcome::Dropped(discard) => Some(discarded(*discard)),
+        Outcome::Busy => Some(unanswered(Kind::Busy, octets)),
+        Outcome::NoMemory => Some(unanswered(Kind::NoMemory, octets)),
+        Outcome::Reply(frame) => answered(octets, frame.octets()),
+    }
+}
+
+fn discarded<'t>(discard: Discard) -> Event<'t>
+    ensures { seen result ≡ of_discard discard }
+{
     let (_, name) = discard.label();
     Event {
         reason: Some(name.as_bytes()),
@@ -99,29 +119,49 @@ fn discarded<'t>(discard: Discard) -> Event<'t> {
 }
 
 // An admitted request without a reply.
-fn unanswered<'t>(kind: Kind, arrival: &Arrival<'t>) -> Event<'t> {
-    Event {
-        user: user_of(arrival.octets),
-        ..Event::of(kind)
+fn unanswered<'t>(kind: Kind, octets: &'t [u8]) -> Event<'t>
+    ensures { seen result ≡ of_unanswered kind (parts_in (packet_of octets.now)) }
+{
+    match Packet::read(octets) {
+        Ok(request) => Event {
+            user: request.first(USER_NAME),
+            ..Event::of(kind)
+        },
+        Err(_) => Event::of(kind),
     }
-}
-
-fn user_of(octets: &[u8]) -> Option<&[u8]> {
-    Packet::read(octets).ok()?.first(USER_NAME)
 }
 
 // An admitted request and its reply, which are packets.
-fn answered<'t>(request: &'t [u8], reply: &'t [u8]) -> Option<Event<'t>> {
-    let request = Packet::read(request).ok()?;
-    let reply = Packet::read(reply).ok()?;
-    Some(of_packets(&request, &reply))
+fn answered<'t>(request: &'t [u8], reply: &'t [u8]) -> Option<Event<'t>>
+    ensures { option_map seen result
+        ≡ of_answered (parts_in (packet_of request.now)) (parts_in (packet_of reply.now)) }
+{
+    let Ok(request) = Packet::read(request) else {
+        return None;
+    };
+    let Ok(reply) = Packet::read(reply) else {
+        return None;
+    };
+    Some(of_answer(&request, &reply))
 }
 
-fn of_packets<'t>(request: &Packet<'t>, reply: &Packet<'t>) -> Event<'t> {
+fn of_answer<'t>(request: &Packet<'t>, reply: &Packet<'t>) -> Event<'t>
+    ensures { seen result ≡ of_answer (parts_of request.now) (parts_of reply.now) }
+{
     if request.code() == STATUS_SERVER {
         return Event::of(Kind::Status);
     }
-    let event = match reply.code() {
+    let user = request.first(USER_NAME);
+    Event {
+        user,
+        ..of_reply(request, reply)
+    }
+}
+
+fn of_reply<'t>(request: &Packet<'t>, reply: &Packet<'t>) -> Event<'t>
+    ensures { seen result ≡ of_reply (parts_of request.now) (parts_of reply.now) }
+{
+    match reply.code() {
         ACCESS_ACCEPT => of_session(Kind::Accept, reply),
         ACCESS_CHALLENGE => Event::of(Kind::Challenge),
         ACCESS_REJECT => Event {
@@ -129,26 +169,31 @@ fn of_packets<'t>(request: &Packet<'t>, reply: &Packet<'t>) -> Event<'t> {
             ..Event::of(Kind::Reject)
         },
         _ => of_session(reported(request), request),
-    };
-    Event {
-        user: request.first(USER_NAME),
-        ..event
     }
 }
 
-// An event of the session that a packet names. A function of another crate can't be passed by its name.
-fn of_session<'t>(kind: Kind, packet: &Packet<'t>) -> Event<'t> {
+// An event of the session that a packet names.
+fn of_session<'t>(kind: Kind, packet: &Packet<'t>) -> Event<'t>
+    ensures { seen result ≡ of_session kind (parts_of packet.now) }
+{
     Event {
-        address: packet
-            .first_of_len(FRAMED_IP_ADDRESS, 4)
-            .and_then(|value| integer_of(value)),
+        address: first_integer(packet, FRAMED_IP_ADDRESS),
         session: session_of(packet),
         ..Event::of(kind)
     }
 }
 
+// The integer of the first attribute of a Type that has four octets.
+fn first_integer(packet: &Packet, kind: u8) -> Option<u32>
+    ensures { result ≡ first_integer kind packet.now.attributes }
+{
+    integer_of(packet.first_of_len(kind, 4)?)
+}
+
 // The number in the first Class of a session.
-fn session_of(packet: &Packet) -> Option<u64> {
+fn session_of(packet: &Packet) -> Option<u64>
+    ensures { result ≡ class_number packet.now.attributes }
+{
     let mut rest = packet.attributes();
     while let Some(attribute) = rest.next() {
         if attribute.kind == CLASS {
@@ -161,11 +206,10 @@ fn session_of(packet: &Packet) -> Option<u64> {
 }
 
 // What an Accounting-Request reports by its Acct-Status-Type (RFC 2866, section 5.1).
-fn reported(request: &Packet) -> Kind {
-    match request
-        .first_of_len(ACCT_STATUS_TYPE, 4)
-        .and_then(|value| integer_of(value))
-    {
+fn reported(request: &Packet) -> Kind
+    ensures { result ≡ reported (parts_of request.now).status }
+{
+    match first_integer(request, ACCT_STATUS_TYPE) {
         Some(START) => Kind::Start,
         Some(STOP) => Kind::Stop,
         Some(INTERIM_UPDATE) => Kind::Interim,

@@ -1,4 +1,6 @@
 //! Kinds of events, and which of them a log tells.
+ghost use Rattle.std.specs.Prelude.{◌≡◌};
+ghost use Rattle.rad_watch.specs.LogLines.{kind_name};
 
 /// What a log tells.
 #[derive(Clone, Copy, Debug, PartialEq, Eq)]
@@ -63,7 +65,9 @@ pub(crate) const KINDS: &[Kind] = &[
 
 impl Kind {
     /// The name by which lines call it.
-    pub fn name(self) -> &'static str {
+    pub fn name(self) -> &'static str
+        ensures { result.now ≡ kind_name self }
+    {
         match self {
             Kind::Discard => "discard",
             Kind::Busy => "busy",

@@ -1,34 +1,71 @@
 //! Lines of a log: `key=value` fields in a fixed order.
-ghost use Rattle.std.specs.Prelude.{◌≡◌, ◌++◌, OnOk};
+ghost use Rattle.std.specs.Prelude.{◌≡◌, ◌++◌, OnOk, codes, decimal, option_copied};
+ghost use Rattle.std.specs.Option.{option_map_or};
+ghost use Rattle.rad_watch.specs.Events.{seen};
+ghost use Rattle.rad_watch.specs.LogLines.{door_name, dotted, field, line_head, log_line, origin_fields, origin_text, place_text, session_fields, source_text};
 ghost use Rattle.rad_watch.specs.Shown.{quoted};
 
 use crate::event::{Event, Origin};
-use crate::now::Utc;
 use crate::shown::push_shown;
 use rad_auth::Door;
 use std::io;
-use std::io::Write;
-use std::net::Ipv4Addr;
 
-/// Appends the line of an event. A field of which nothing is known is left out.
-pub(crate) fn write_line(text: &mut Vec<u8>, time: Utc, event: &Event) -> io::Result<()> {
-    let name = event.kind.name();
-    write!(text, "time={time} event={name}")?;
-    push_text(text, b" reason=", event.reason)?;
+/// Appends the line of an event, after the text of the time. A field of which nothing is known is left out.
+pub(crate) fn write_line(text: &mut Vec<u8>, time: &[u8], event: &Event) -> io::Result<()>
+    ensures { OnOk result
+        (text.new.items ≡ text.old.items ++ log_line time.now (seen event.now)) }
+{
+    write_head(text, time, event)?;
     write_origin(text, event)?;
-    push_text(text, b" user=", event.user)?;
     write_session(text, event)?;
     push_number(text, b" count=", event.count)?;
     push_octets(text, b"\n")
 }
 
-// The client, by its place counted from 1, and where the datagram came from and to.
-fn write_origin(text: &mut Vec<u8>, event: &Event) -> io::Result<()> {
-    let client = event
-        .client
-        .map(|client| u64::from(client).saturating_add(1));
-    push_number(text, b" client=", client)?;
-    let Some(origin) = event.origin else {
+fn write_head(text: &mut Vec<u8>, time: &[u8], event: &Event) -> io::Result<()>
+    ensures { OnOk result
+        (text.new.items ≡ text.old.items ++ line_head time.now (seen event.now)) }
+{
+    push_octets(text, b"time=")?;
+    push_octets(text, time)?;
+    push_octets(text, b" event=")?;
+    push_octets(text, event.kind.name().as_bytes())?;
+    push_text(text, b" reason=", event.reason)
+}
+
+fn write_origin(text: &mut Vec<u8>, event: &Event) -> io::Result<()>
+    ensures { OnOk result
+        (text.new.items ≡ text.old.items ++ origin_fields (seen event.now)) }
+{
+    push_client(text, event.client)?;
+    push_origin(text, event.origin)
+}
+
+fn write_session(text: &mut Vec<u8>, event: &Event) -> io::Result<()>
+    ensures { OnOk result
+        (text.new.items ≡ text.old.items ++ session_fields (seen event.now)) }
+{
+    push_text(text, b" user=", event.user)?;
+    push_session_address(text, event.address)?;
+    push_number(text, b" session=", event.session)
+}
+
+// The client, by its place counted from 1.
+fn push_client(text: &mut Vec<u8>, client: Option<u32>) -> io::Result<()>
+    ensures { OnOk result (text.new.items ≡ text.old.items ++ field (codes " client=") place_text client) }
+{
+    let Some(client) = client else {
+        return Ok(());
+    };
+    push_octets(text, b" client=")?;
+    push_decimal(text, u64::from(client) + 1)
+}
+
+// Where the datagram came from, and to.
+fn push_origin(text: &mut Vec<u8>, origin: Option<Origin>) -> io::Result<()>
+    ensures { OnOk result (text.new.items ≡ text.old.items ++ field (codes " source=") origin_text origin) }
+{
+    let Some(origin) = origin else {
         return Ok(());
     };
     push_octets(text, b" source=")?;
@@ -38,33 +75,69 @@ fn write_origin(text: &mut Vec<u8>, event: &Event) -> io::Result<()> {
 }
 
 /// Appends the address and the port that a datagram came from.
-pub(crate) fn push_source(text: &mut Vec<u8>, origin: Origin) -> io::Result<()> {
-    let (source, port) = (Ipv4Addr::from_bits(origin.source), origin.port);
-    write!(text, "{source}:{port}")
+pub(crate) fn push_source(text: &mut Vec<u8>, origin: Origin) -> io::Result<()>
+    ensures { OnOk result (text.new.items ≡ text.old.items ++ source_text origin) }
+{
+    push_dotted(text, origin.source)?;
+    push_octets(text, b":")?;
+    push_decimal(text, u64::from(origin.port))
 }
 
 /// The name of a port of the server.
-pub(crate) fn name_of_door(door: Door) -> &'static [u8] {
+pub(crate) fn name_of_door(door: Door) -> &'static [u8]
+    ensures { result.now ≡ door_name door }
+{
     match door {
         Door::Auth => b"auth",
         Door::Acct => b"acct",
     }
 }
 
-fn write_session(text: &mut Vec<u8>, event: &Event) -> io::Result<()> {
-    if event.address.is_some() {
-        push_octets(text, b" address=")?;
-        push_address(text, event.address)?;
-    }
-    push_number(text, b" session=", event.session)
+// The address of the session.
+fn push_session_address(text: &mut Vec<u8>, address: Option<u32>) -> io::Result<()>
+    ensures { OnOk result (text.new.items ≡
+        text.old.items ++ field (codes " address=") dotted address) }
+{
+    let Some(address) = address else {
+        return Ok(());
+    };
+    push_octets(text, b" address=")?;
+    push_dotted(text, address)
 }
 
 /// Appends an IPv4 address, most significant octet first, or `-`.
-pub(crate) fn push_address(text: &mut Vec<u8>, address: Option<u32>) -> io::Result<()> {
-    match address.map(Ipv4Addr::from_bits) {
-        Some(address) => write!(text, "{address}"),
+pub(crate) fn push_address(text: &mut Vec<u8>, address: Option<u32>) -> io::Result<()>
+    ensures { OnOk result (text.new.items ≡
+        text.old.items ++ option_map_or dotted address (codes "-")) }
+{
+    match address {
+        Some(address) => push_dotted(text, address),
         None => push_octets(text, b"-"),
     }
+}
+
+// Four decimals with points between them.
+fn push_dotted(text: &mut Vec<u8>, address: u32) -> io::Result<()>
+    ensures { OnOk result (text.new.items ≡ text.old.items ++ dotted address) }
+{
+    let [first, second, third, fourth] = address.to_be_bytes();
+    push_decimal(text, u64::from(first))?;
+    push_point(text, second)?;
+    push_point(text, third)?;
+    push_point(text, fourth)
+}
+
+fn push_point(text: &mut Vec<u8>, octet: u8) -> io::Result<()>
+    ensures { OnOk result (text.new.items ≡ text.old.items ++ (codes "." ++ decimal octet)) }
+{
+    push_octets(text, b".")?;
+    push_decimal(text, u64::from(octet))
+}
+
+fn push_decimal(text: &mut Vec<u8>, number: u64) -> io::Result<()>
+    ensures { OnOk result (text.new.items ≡ text.old.items ++ decimal number) }
+{
+    push_octets(text, itoa::Buffer::new().format(number).as_bytes())
 }
 
 /// Appends octets as they are.
@@ -74,15 +147,20 @@ pub(crate) fn push_octets(text: &mut Vec<u8>, octets: &[u8]) -> io::Result<()>
     Ok(text.extend_from_slice(octets)?)
 }
 
-fn push_number(text: &mut Vec<u8>, key: &[u8], number: Option<u64>) -> io::Result<()> {
+fn push_number(text: &mut Vec<u8>, key: &[u8], number: Option<u64>) -> io::Result<()>
+    ensures { OnOk result (text.new.items ≡ text.old.items ++ field key.now decimal number) }
+{
     let Some(number) = number else {
         return Ok(());
     };
     push_octets(text, key)?;
-    write!(text, "{number}")
+    push_decimal(text, number)
 }
 
-fn push_text(text: &mut Vec<u8>, key: &[u8], octets: Option<&[u8]>) -> io::Result<()> {
+fn push_text(text: &mut Vec<u8>, key: &[u8], octets: Option<&[u8]>) -> io::Result<()>
+    ensures { OnOk result (text.new.items ≡
+        text.old.items ++ field key.now quoted (option_copied octets.entry)) }
+{
     let Some(octets) = octets else {
         return Ok(());
     };

@@ -14,6 +14,7 @@ use rad_pool::Session;
 use rad_server::Server;
 use rad_shell::{Outcome, Timed, Turn};
 use std::alloc::{AllocError, Global};
+use std::io;
 
 /// How many octets of lines wait at most to be taken, but for one line.
 const LINES_ROOM: usize = 1_048_576;
@@ -143,10 +144,15 @@ impl Watcher {
     // Appends a line, unless too many octets wait already or memory is refused.
     fn push_line(&mut self, event: &Event, now: Now) {
         let len = self.lines.len();
-        if len > LINES_ROOM || write_line(&mut self.lines, now.utc(), event).is_err() {
+        if len > LINES_ROOM || self.write_line(event, now).is_err() {
             self.lines.truncate(len);
             add_one(&mut self.sums.left_out);
         }
+    }
+
+    fn write_line(&mut self, event: &Event, now: Now) -> io::Result<()> {
+        let time = format!(in self.alloc; "{}", now.utc())?;
+        write_line(&mut self.lines, time.as_bytes(), event)
     }
 
     fn tell_count(&mut self, kind: Kind, client: Option<u32>, count: u64, now: Now) {

@@ -1,0 +1,157 @@
+-- Events: what is told of datagrams.
+--
+-- Packets are read by `parts_of` alone. So nothing else that stands in a request or in its reply can be told: no password, no
+-- answer to a challenge, no State and no authenticator.
+use Rattle.std.specs.Prelude.{ℕ, ◌==◌, if◌then◌else◌, List, Option, Some, None, option_copied, option_map, Result, Ok, Err}
+use Rattle.rad_packet.specs.Attributes.{first_value}
+use Rattle.rad_packet.specs.Codes.{code_access_accept, code_access_challenge, code_access_reject, code_status_server}
+use Rattle.rad_packet.specs.Packets.{Packet, packet_of}
+use Rattle.rad_packet.specs.Types.{type_acct_status_type, type_framed_ip_address, type_reply_message, type_user_name}
+use Rattle.rad_packet.specs.declared.packet.ReadFault.{ReadFault}
+use Rattle.rad_auth.specs.Clients.{Client, client_place}
+use Rattle.rad_auth.specs.Datagrams.{Datagram}
+use Rattle.rad_auth.specs.Discards.{discard_name}
+use Rattle.rad_auth.specs.declared.discard.Discard.{Discard}
+use Rattle.rad_round.specs.declared.outcome.Outcome.{Outcome}
+use Rattle.rad_round.specs.declared.outcome.Outcome.TheVariants.{Dropped, Busy, NoMemory, Reply}
+use Rattle.rad_server.specs.Accounting.{class_number, first_integer, status_start, status_stop, status_interim_update, status_accounting_on, status_accounting_off}
+use Rattle.rad_watch.specs.declared.event.Event.{Event as EventOfCode}
+use Rattle.rad_watch.specs.declared.event.Origin.{Origin}
+use Rattle.rad_watch.specs.declared.kind.Kind.{Kind}
+use Rattle.rad_watch.specs.declared.kind.Kind.TheVariants as kinds
+
+-- An event, of which not all need be known. The client is a place counted from 0.
+pub record Event : Type 0 where
+  pub kind : Kind
+  pub client : Option ℕ
+  pub origin : Option Origin
+  pub user : Option (List ℕ)
+  pub address : Option ℕ
+  pub session : Option ℕ
+  pub reason : Option (List ℕ)
+  pub count : Option ℕ
+
+-- an event of the code, without where its octets are in memory
+abbrev pub seen : EventOfCode → Event
+seen event = record {
+  kind = event.kind;
+  client = event.client;
+  origin = event.origin;
+  user = option_copied event.user;
+  address = event.address;
+  session = event.session;
+  reason = option_copied event.reason;
+  count = event.count;
+}
+
+-- an event of which no more is known
+abbrev pub bare : Kind → Event
+bare kind = record {
+  kind = kind;
+  client = None;
+  origin = None;
+  user = None;
+  address = None;
+  session = None;
+  reason = None;
+  count = None;
+}
+
+-- ---- packets
+
+-- The parts of a packet that may be told: its Code, the first User-Name, the first Acct-Status-Type and Framed-IP-Address of four
+-- octets, the number in the first Class of a session, and the first Reply-Message.
+pub record Parts : Type 0 where
+  pub code : ℕ
+  pub user : Option (List ℕ)
+  pub status : Option ℕ
+  pub address : Option ℕ
+  pub session : Option ℕ
+  pub message : Option (List ℕ)
+
+abbrev pub parts_of : Packet → Parts
+parts_of packet = record {
+  code = packet.code;
+  user = first_value type_user_name packet.attributes;
+  status = first_integer type_acct_status_type packet.attributes;
+  address = first_integer type_framed_ip_address packet.attributes;
+  session = class_number packet.attributes;
+  message = first_value type_reply_message packet.attributes;
+}
+
+-- the parts of the packet that a datagram holds, if it holds one
+abbrev pub parts_in : Result Packet ReadFault → Option Parts
+parts_in (Ok packet) = Some (parts_of packet)
+parts_in (Err fault) = None
+
+-- ---- requests and replies
+
+-- what an Acct-Status-Type reports
+abbrev pub kind_of_status : ℕ → Kind
+kind_of_status status =
+    if status == status_start then kinds.Start
+    else if status == status_stop then kinds.Stop
+    else if status == status_interim_update then kinds.Interim
+    else if status == status_accounting_on then kinds.On
+    else if status == status_accounting_off then kinds.Off
+    else kinds.Accounting
+
+-- what an Accounting-Request reports
+abbrev pub reported : Option ℕ → Kind
+reported (Some status) = kind_of_status status
+reported None = kinds.Accounting
+
+-- an event of the session that a packet names
+abbrev pub of_session : Kind → Parts → Event
+of_session kind packet = record (bare kind) { address = packet.address; session = packet.session }
+
+-- what a reply to a request says; one that is none of these answers an Accounting-Request
+abbrev pub of_reply : Parts → Parts → Event
+of_reply request reply =
+    if reply.code == code_access_accept then of_session kinds.Accept reply
+    else if reply.code == code_access_challenge then bare kinds.Challenge
+    else if reply.code == code_access_reject then record (bare kinds.Reject) { reason = reply.message }
+    else of_session (reported request.status) request
+
+-- a request and its reply
+abbrev pub of_answer : Parts → Parts → Event
+of_answer request reply =
+    if request.code == code_status_server then bare kinds.Status
+    else record (of_reply request reply) { user = request.user }
+
+-- the same, where both are packets
+abbrev pub of_answered : Option Parts → Option Parts → Option Event
+of_answered (Some request) (Some reply) = Some (of_answer request reply)
+of_answered (Some request) None = None
+of_answered None reply = None
+
+-- an admitted request without a reply
+abbrev pub of_unanswered : Kind → Option Parts → Event
+of_unanswered kind (Some request) = record (bare kind) { user = request.user }
+of_unanswered kind None = bare kind
+
+-- ---- outcomes
+
+-- a datagram that isn't admitted
+abbrev pub of_discard : Discard → Event
+of_discard discard = record (bare kinds.Discard) { reason = Some (discard_name discard) }
+
+-- what became of octets
+abbrev pub of_outcome : List ℕ → Outcome → Option Event
+of_outcome octets (Dropped discard) = Some (of_discard discard)
+of_outcome octets Busy = Some (of_unanswered kinds.Busy (parts_in (packet_of octets)))
+of_outcome octets NoMemory = Some (of_unanswered kinds.NoMemory (parts_in (packet_of octets)))
+of_outcome octets (Reply reply) = of_answered (parts_in (packet_of octets)) (parts_in (packet_of reply))
+
+-- where a datagram came from, and to
+abbrev pub origin_of : Datagram → Origin
+origin_of datagram = record { source = datagram.source; port = datagram.port; door = datagram.door }
+
+-- an event of a datagram, with whose it is and where it came from
+abbrev pub from_datagram : List Client → Datagram → Event → Event
+from_datagram clients datagram event =
+    record event { client = client_place clients datagram.source; origin = Some (origin_of datagram) }
+
+-- what became of a datagram
+abbrev pub told : List Client → Datagram → Outcome → Option Event
+told clients datagram outcome = option_map (from_datagram clients datagram) (of_outcome datagram.octets outcome)
