@@ -1,3 +1,4 @@
 pub mod LineLemmas
 pub mod RecordingLemmas
 pub mod ShownLemmas
+pub mod UntoldLemmas

@@ -1,8 +1,8 @@
--- Events: what is told of datagrams.
+-- Events: what is told of datagrams, and of what else happens.
 --
 -- Packets are read by `parts_of` alone. So nothing else that stands in a request or in its reply can be told: no password, no
 -- answer to a challenge, no State and no authenticator.
-use Rattle.std.specs.Prelude.{ℕ, ◌==◌, if◌then◌else◌, List, Option, Some, None, option_copied, option_map, Result, Ok, Err}
+use Rattle.std.specs.Prelude.{ℕ, ◌==◌, if◌then◌else◌, List, Option, Some, None, option_copied, option_map, slice_get, Result, Ok, Err}
 use Rattle.rad_packet.specs.Attributes.{first_value}
 use Rattle.rad_packet.specs.Codes.{code_access_accept, code_access_challenge, code_access_reject, code_status_server}
 use Rattle.rad_packet.specs.Packets.{Packet, packet_of}
@@ -12,9 +12,12 @@ use Rattle.rad_auth.specs.Clients.{Client, client_place}
 use Rattle.rad_auth.specs.Datagrams.{Datagram}
 use Rattle.rad_auth.specs.Discards.{discard_name}
 use Rattle.rad_auth.specs.declared.discard.Discard.{Discard}
+use Rattle.rad_config.specs.declared.user.User.{User}
+use Rattle.rad_pool.specs.declared.session.Session.{Session}
 use Rattle.rad_round.specs.declared.outcome.Outcome.{Outcome}
 use Rattle.rad_round.specs.declared.outcome.Outcome.TheVariants.{Dropped, Busy, NoMemory, Reply}
 use Rattle.rad_server.specs.Accounting.{class_number, first_integer, status_start, status_stop, status_interim_update, status_accounting_on, status_accounting_off}
+use Rattle.rad_watch.specs.Kinds.{kind_name}
 use Rattle.rad_watch.specs.declared.event.Event.{Event as EventOfCode}
 use Rattle.rad_watch.specs.declared.event.Origin.{Origin}
 use Rattle.rad_watch.specs.declared.kind.Kind.{Kind}
@@ -155,3 +158,26 @@ from_datagram clients datagram event =
 -- what became of a datagram
 abbrev pub told : List Client → Datagram → Outcome → Option Event
 told clients datagram outcome = option_map (from_datagram clients datagram) (of_outcome datagram.octets outcome)
+
+-- ---- other events
+
+-- so many of what a kind says
+abbrev pub counted : Kind → Option ℕ → ℕ → Event
+counted kind client count = record (bare kind) { client = client; count = Some count }
+
+-- so many lines of a kind and client were left out
+abbrev pub left_out : Kind → Option ℕ → ℕ → Event
+left_out kind client count = record (counted kinds.LeftOut client count) { reason = Some (kind_name kind) }
+
+-- the name of the user at a place
+abbrev pub user_name : List User → ℕ → Option (List ℕ)
+user_name users place = option_map (λ user. user.name) (slice_get users place)
+
+-- a session that expired
+abbrev pub expired : List User → Session → Event
+expired users session = record (bare kinds.Expire) {
+  client = Some session.client;
+  user = user_name users session.user;
+  address = session.address;
+  session = Some session.number;
+}

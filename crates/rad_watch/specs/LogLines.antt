@@ -9,10 +9,9 @@ use Rattle.std.specs.List.{join_by}
 use Rattle.rad_auth.specs.declared.arrival.Door.{Door}
 use Rattle.rad_auth.specs.declared.arrival.Door.TheVariants.{Auth, Acct}
 use Rattle.rad_watch.specs.Events.{Event}
+use Rattle.rad_watch.specs.Kinds.{kind_name}
 use Rattle.rad_watch.specs.Shown.{quoted}
 use Rattle.rad_watch.specs.declared.event.Origin.{Origin}
-use Rattle.rad_watch.specs.declared.kind.Kind.{Kind}
-use Rattle.rad_watch.specs.declared.kind.Kind.TheVariants as kinds
 
 -- ---- values
 
@@ -28,26 +27,6 @@ source_text origin = dotted origin.source ++ codes ":" ++ decimal origin.port
 abbrev pub door_name : Door → List ℕ
 door_name Auth = codes "auth"
 door_name Acct = codes "acct"
-
--- the name by which lines call an event
-abbrev pub kind_name : Kind → List ℕ
-kind_name kinds.Discard = codes "discard"
-kind_name kinds.Busy = codes "busy"
-kind_name kinds.NoMemory = codes "nomemory"
-kind_name kinds.Lost = codes "lost"
-kind_name kinds.Failure = codes "failure"
-kind_name kinds.Reject = codes "reject"
-kind_name kinds.Accept = codes "accept"
-kind_name kinds.Challenge = codes "challenge"
-kind_name kinds.Start = codes "start"
-kind_name kinds.Stop = codes "stop"
-kind_name kinds.Interim = codes "interim"
-kind_name kinds.On = codes "on"
-kind_name kinds.Off = codes "off"
-kind_name kinds.Accounting = codes "accounting"
-kind_name kinds.Status = codes "status"
-kind_name kinds.Expire = codes "expire"
-kind_name kinds.LeftOut = codes "left_out"
 
 -- a client's place, counted from 1
 abbrev pub place_text : ℕ → List ℕ

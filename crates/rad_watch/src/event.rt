@@ -1,16 +1,17 @@
-//! What became of a datagram.
+//! Events: what became of a datagram, and what else is told.
 ghost use Rattle.std.specs.Prelude.{◌≡◌, option_copied, option_map};
 ghost use Rattle.rad_auth.specs.Datagrams.{datagram_of};
 ghost use Rattle.rad_packet.specs.Packets.{packet_of};
 ghost use Rattle.rad_server.specs.Accounting.{class_number, first_integer};
-ghost use Rattle.rad_watch.specs.Events.{bare, of_answer, of_answered, of_discard, of_outcome, of_reply, of_session, of_unanswered, origin_of, parts_in, parts_of, reported, seen, told};
+ghost use Rattle.rad_watch.specs.Events.{bare, counted, expired, left_out, of_answer, of_answered, of_discard, of_outcome, of_reply, of_session, of_unanswered, origin_of, parts_in, parts_of, reported, seen, told, user_name};
 
 use crate::kind::Kind;
 use rad_auth::{Arrival, Discard, Door};
-use rad_config::Config;
+use rad_config::{Config, User};
 use rad_packet::Packet;
 use rad_packet::attribute::{ACCT_STATUS_TYPE, CLASS, FRAMED_IP_ADDRESS, REPLY_MESSAGE, USER_NAME};
 use rad_packet::code::{ACCESS_ACCEPT, ACCESS_CHALLENGE, ACCESS_REJECT, STATUS_SERVER};
+use rad_pool::Session;
 use rad_server::{
     ACCOUNTING_OFF, ACCOUNTING_ON, INTERIM_UPDATE, START, STOP, class_number_of, integer_of,
 };
@@ -76,6 +77,41 @@ impl<'t> Event<'t> {
         }
     }
 
+    /// So many of what the kind says.
+    pub fn counted(kind: Kind, client: Option<u32>, count: u64) -> Event<'t>
+        ensures { seen result ≡ counted kind client count }
+    {
+        Event {
+            client,
+            count: Some(count),
+            ..Event::of(kind)
+        }
+    }
+
+    /// So many lines of a kind and client were left out.
+    pub fn left_out(kind: Kind, client: Option<u32>, count: u32) -> Event<'t>
+        ensures { seen result ≡ left_out kind client count }
+    {
+        let event = Event::counted(Kind::LeftOut, client, u64::from(count));
+        Event {
+            reason: Some(kind.name().as_bytes()),
+            ..event
+        }
+    }
+
+    /// A session expired.
+    pub fn expired(users: &'t [User], session: &Session) -> Event<'t>
+        ensures { seen result ≡ expired users.now session.now }
+    {
+        Event {
+            client: Some(session.client),
+            user: name_of(users, session.user),
+            address: session.address,
+            session: Some(session.number),
+            ..Event::of(Kind::Expire)
+        }
+    }
+
     /// What became of a datagram.
     ///
     /// None if what was admitted or sent is no packet, which can't be.
@@ -90,6 +126,14 @@ impl<'t> Event<'t> {
             ..event
         })
     }
+}
+
+// The name of the user at a place.
+fn name_of(users: &[User], place: u32) -> Option<&[u8]>
+    ensures { option_copied result ≡ user_name users.now place }
+{
+    let user = users.get(place as usize)?;
+    Some(user.name.octets())
 }
 
 /// Whether a reply is an Access-Reject.

@@ -1,6 +1,6 @@
 //! Kinds of events, and which of them a log tells.
 ghost use Rattle.std.specs.Prelude.{◌≡◌};
-ghost use Rattle.rad_watch.specs.LogLines.{kind_name};
+ghost use Rattle.rad_watch.specs.Kinds.{kind_name};
 
 /// What a log tells.
 #[derive(Clone, Copy, Debug, PartialEq, Eq)]

@@ -1,6 +1,7 @@
 //! The time at which something is told.
 
 use jiff::Timestamp;
+use std::alloc::{AllocError, Global};
 use std::fmt;
 
 /// The time by two clocks, in milliseconds.
@@ -19,9 +20,10 @@ impl Now {
         Utc(self.since_1970.saturating_sub(ago))
     }
 
-    /// This time in UTC.
-    pub(crate) fn utc(self) -> Utc {
-        Utc(self.since_1970)
+    /// This time in UTC, as text.
+    pub(crate) fn text(self, alloc: Global) -> Result<String, AllocError> {
+        let time = Utc(self.since_1970);
+        format!(in alloc; "{time}")
     }
 }
 

@@ -151,29 +151,16 @@ impl Watcher {
     }
 
     fn write_line(&mut self, event: &Event, now: Now) -> io::Result<()> {
-        let time = format!(in self.alloc; "{}", now.utc())?;
+        let time = now.text(self.alloc)?;
         write_line(&mut self.lines, time.as_bytes(), event)
     }
 
     fn tell_count(&mut self, kind: Kind, client: Option<u32>, count: u64, now: Now) {
-        let event = Event {
-            client,
-            count: Some(count),
-            ..Event::of(kind)
-        };
-        self.tell(&event, now);
+        self.tell(&Event::counted(kind, client, count), now);
     }
 
     fn tell_expired(&mut self, config: &Config, session: &Session, now: Now) {
-        let user = config.users().get(session.user as usize);
-        let event = Event {
-            client: Some(session.client),
-            user: user.map(|user| user.name.octets()),
-            address: session.address,
-            session: Some(session.number),
-            ..Event::of(Kind::Expire)
-        };
-        self.tell(&event, now);
+        self.tell(&Event::expired(config.users(), session), now);
     }
 
     // Counts the failures of the ports since the last turn.
@@ -207,7 +194,7 @@ impl Watcher {
             let count = self.limiter.begin_anew(*kind, client);
             if count > 0 {
                 self.sums.left_out = self.sums.left_out.saturating_add(u64::from(count));
-                self.push_line(&left_out(*kind, client, count), now);
+                self.push_line(&Event::left_out(*kind, client, count), now);
             }
         }
     }
@@ -219,15 +206,5 @@ fn may_be_told(level: Option<Level>, outcome: &Outcome) -> bool {
         (None, _) => false,
         (Some(Level::Refused), Outcome::Reply(frame)) => is_reject(frame.octets()),
         _ => true,
-    }
-}
-
-// That so many lines of a kind and client were left out.
-fn left_out<'t>(kind: Kind, client: Option<u32>, count: u32) -> Event<'t> {
-    Event {
-        client,
-        reason: Some(kind.name().as_bytes()),
-        count: Some(u64::from(count)),
-        ..Event::of(Kind::LeftOut)
     }
 }
