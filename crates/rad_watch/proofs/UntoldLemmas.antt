@@ -5,7 +5,7 @@ use Rattle.std.specs.Int.{w32, w64, from_be_bytes}
 use Rattle.std.proofs.lemmas.Bool.{eqb-true}
 use Rattle.rad_packet.specs.Attributes.{Attribute, first_value, integer_size, is_of, is_of_len}
 use Rattle.rad_packet.specs.Packets.{Packet, packet_of}
-use Rattle.rad_packet.specs.Types.{type_acct_status_type, type_class, type_framed_ip_address, type_reply_message, type_user_name}
+use Rattle.rad_packet.specs.Types.{type_acct_status_type, type_class, type_framed_ip_address, type_user_name}
 use Rattle.rad_server.specs.Accounting.{class_number, class_size, first_integer, is_class}
 use Rattle.rad_server.specs.Replies.{class_prefix}
 use Rattle.rad_round.specs.declared.outcome.Outcome.{Outcome}
@@ -58,8 +58,7 @@ parts_kept packet =
     let status = integer_kept type_acct_status_type refl list in
     let address = integer_kept type_framed_ip_address refl list in
     let session = class_kept list in
-    let message = value_kept type_reply_message refl list in
-    cc (user, status, address, session, message)
+    cc (user, status, address, session)
 
 parts_alike : (octets others : List ℕ) → AreAlike octets others → parts_in (packet_of octets) ≡ parts_in (packet_of others)
 parts_alike octets others alike =
@@ -70,7 +69,7 @@ outcome_alike : (octets others : List ℕ) → AreAlike octets others → (outco
 outcome_alike octets others alike (Dropped discard) = refl
 outcome_alike octets others alike Busy = ap (λ parts. Some (of_unanswered kinds.Busy parts)) (parts_alike octets others alike)
 outcome_alike octets others alike NoMemory = ap (λ parts. Some (of_unanswered kinds.NoMemory parts)) (parts_alike octets others alike)
-outcome_alike octets others alike (Reply reply) = ap (λ parts. of_answered parts (parts_in (packet_of reply))) (parts_alike octets others alike)
+outcome_alike octets others alike (Reply reply) = ap (λ parts. of_answered parts (packet_of reply)) (parts_alike octets others alike)
 
 pub alike_are_told_alike : AlikeAreToldAlike
 alike_are_told_alike clients datagram others outcome alike =

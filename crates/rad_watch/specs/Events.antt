@@ -1,7 +1,7 @@
 -- Events: what is told of datagrams, and of what else happens.
 --
--- Packets are read by `parts_of` alone. So nothing else that stands in a request or in its reply can be told: no password, no
--- answer to a challenge, no State and no authenticator.
+-- A request is read by `parts_of` alone. So nothing else that stands in it can be told: no password, no answer to a challenge, no
+-- State and no authenticator.
 use Rattle.std.specs.Prelude.{ℕ, ◌==◌, if◌then◌else◌, List, Option, Some, None, option_copied, option_map, slice_get, Result, Ok, Err}
 use Rattle.rad_packet.specs.Attributes.{first_value}
 use Rattle.rad_packet.specs.Codes.{code_access_accept, code_access_challenge, code_access_reject, code_status_server}
@@ -63,14 +63,13 @@ bare kind = record {
 -- ---- packets
 
 -- The parts of a packet that may be told: its Code, the first User-Name, the first Acct-Status-Type and Framed-IP-Address of four
--- octets, the number in the first Class of a session, and the first Reply-Message.
+-- octets, and the number in the first Class of a session.
 pub record Parts : Type 0 where
   pub code : ℕ
   pub user : Option (List ℕ)
   pub status : Option ℕ
   pub address : Option ℕ
   pub session : Option ℕ
-  pub message : Option (List ℕ)
 
 abbrev pub parts_of : Packet → Parts
 parts_of packet = record {
@@ -79,7 +78,6 @@ parts_of packet = record {
   status = first_integer type_acct_status_type packet.attributes;
   address = first_integer type_framed_ip_address packet.attributes;
   session = class_number packet.attributes;
-  message = first_value type_reply_message packet.attributes;
 }
 
 -- the parts of the packet that a datagram holds, if it holds one
@@ -108,24 +106,28 @@ reported None = kinds.Accounting
 abbrev pub of_session : Kind → Parts → Event
 of_session kind packet = record (bare kind) { address = packet.address; session = packet.session }
 
+-- a rejection, by its first Reply-Message
+abbrev pub of_reject : Packet → Event
+of_reject reply = record (bare kinds.Reject) { reason = first_value type_reply_message reply.attributes }
+
 -- what a reply to a request says; one that is none of these answers an Accounting-Request
-abbrev pub of_reply : Parts → Parts → Event
+abbrev pub of_reply : Parts → Packet → Event
 of_reply request reply =
-    if reply.code == code_access_accept then of_session kinds.Accept reply
+    if reply.code == code_access_accept then of_session kinds.Accept (parts_of reply)
     else if reply.code == code_access_challenge then bare kinds.Challenge
-    else if reply.code == code_access_reject then record (bare kinds.Reject) { reason = reply.message }
+    else if reply.code == code_access_reject then of_reject reply
     else of_session (reported request.status) request
 
 -- a request and its reply
-abbrev pub of_answer : Parts → Parts → Event
+abbrev pub of_answer : Parts → Packet → Event
 of_answer request reply =
     if request.code == code_status_server then bare kinds.Status
     else record (of_reply request reply) { user = request.user }
 
 -- the same, where both are packets
-abbrev pub of_answered : Option Parts → Option Parts → Option Event
-of_answered (Some request) (Some reply) = Some (of_answer request reply)
-of_answered (Some request) None = None
+abbrev pub of_answered : Option Parts → Result Packet ReadFault → Option Event
+of_answered (Some request) (Ok reply) = Some (of_answer request reply)
+of_answered (Some request) (Err fault) = None
 of_answered None reply = None
 
 -- an admitted request without a reply
@@ -144,7 +146,7 @@ abbrev pub of_outcome : List ℕ → Outcome → Option Event
 of_outcome octets (Dropped discard) = Some (of_discard discard)
 of_outcome octets Busy = Some (of_unanswered kinds.Busy (parts_in (packet_of octets)))
 of_outcome octets NoMemory = Some (of_unanswered kinds.NoMemory (parts_in (packet_of octets)))
-of_outcome octets (Reply reply) = of_answered (parts_in (packet_of octets)) (parts_in (packet_of reply))
+of_outcome octets (Reply reply) = of_answered (parts_in (packet_of octets)) (packet_of reply)
 
 -- where a datagram came from, and to
 abbrev pub origin_of : Datagram → Origin

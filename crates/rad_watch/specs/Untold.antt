@@ -2,23 +2,22 @@
 use Rattle.std.specs.Prelude.{◌≡◌, ℕ, ◌==◌, ◌||◌, Bool, List, [], filter, Ok}
 use Rattle.rad_packet.specs.Attributes.{Attribute}
 use Rattle.rad_packet.specs.Packets.{Packet, packet_of}
-use Rattle.rad_packet.specs.Types.{type_acct_status_type, type_class, type_framed_ip_address, type_reply_message, type_user_name}
+use Rattle.rad_packet.specs.Types.{type_acct_status_type, type_class, type_framed_ip_address, type_user_name}
 use Rattle.rad_auth.specs.Clients.{Client}
 use Rattle.rad_auth.specs.Datagrams.{Datagram}
 use Rattle.rad_round.specs.declared.outcome.Outcome.{Outcome}
 use Rattle.rad_watch.specs.Events.{told}
 
--- whether a line may tell something of attributes of a Type
+-- whether a line may tell something of a request's attributes of a Type
 abbrev pub may_be_told : ℕ → Bool
 may_be_told kind =
-    (kind == type_user_name) || (kind == type_framed_ip_address) || (kind == type_reply_message) || (kind == type_class)
-    || (kind == type_acct_status_type)
+    (kind == type_user_name) || (kind == type_framed_ip_address) || (kind == type_class) || (kind == type_acct_status_type)
 
 -- the attributes of those Types
 abbrev pub told_attributes : List Attribute → List Attribute
 told_attributes list = filter (λ a. may_be_told a.kind) list
 
--- the part of a packet that may be told: not its other attributes, its Identifier and its Authenticator
+-- the part of a request that may be told: not its other attributes, its Identifier and its Authenticator
 abbrev pub told_part : Packet → Packet
 told_part packet = record {
   code = packet.code;

@@ -178,7 +178,7 @@ fn unanswered<'t>(kind: Kind, octets: &'t [u8]) -> Event<'t>
 // An admitted request and its reply, which are packets.
 fn answered<'t>(request: &'t [u8], reply: &'t [u8]) -> Option<Event<'t>>
     ensures { option_map seen result
-        ≡ of_answered (parts_in (packet_of request.now)) (parts_in (packet_of reply.now)) }
+        ≡ of_answered (parts_in (packet_of request.now)) (packet_of reply.now) }
 {
     let Ok(request) = Packet::read(request) else {
         return None;
@@ -190,7 +190,7 @@ fn answered<'t>(request: &'t [u8], reply: &'t [u8]) -> Option<Event<'t>>
 }
 
 fn of_answer<'t>(request: &Packet<'t>, reply: &Packet<'t>) -> Event<'t>
-    ensures { seen result ≡ of_answer (parts_of request.now) (parts_of reply.now) }
+    ensures { seen result ≡ of_answer (parts_of request.now) reply.now }
 {
     if request.code() == STATUS_SERVER {
         return Event::of(Kind::Status);
@@ -203,7 +203,7 @@ fn of_answer<'t>(request: &Packet<'t>, reply: &Packet<'t>) -> Event<'t>
 }
 
 fn of_reply<'t>(request: &Packet<'t>, reply: &Packet<'t>) -> Event<'t>
-    ensures { seen result ≡ of_reply (parts_of request.now) (parts_of reply.now) }
+    ensures { seen result ≡ of_reply (parts_of request.now) reply.now }
 {
     match reply.code() {
         ACCESS_ACCEPT => of_session(Kind::Accept, reply),
