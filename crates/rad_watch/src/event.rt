@@ -1,6 +1,7 @@
 //! Events: what became of a datagram, and what else is told.
-ghost use Rattle.std.specs.Prelude.{◌≡◌, option_copied, option_map};
+ghost use Rattle.std.specs.Prelude.{◌≡◌, ◌↔◌, IsTrue, option_copied, option_map, slice_get};
 ghost use Rattle.rad_auth.specs.Datagrams.{datagram_of};
+ghost use Rattle.rad_packet.specs.Codes.{code_access_reject};
 ghost use Rattle.rad_packet.specs.Packets.{packet_of};
 ghost use Rattle.rad_server.specs.Accounting.{class_number, first_integer};
 ghost use Rattle.rad_watch.specs.Events.{bare, counted, expired, left_out, of_answer, of_answered, of_discard, of_outcome, of_reply, of_session, of_unanswered, origin_of, parts_in, parts_of, reported, seen, told, user_name};
@@ -137,7 +138,9 @@ fn name_of(users: &[User], place: u32) -> Option<&[u8]>
 }
 
 /// Whether a reply is an Access-Reject.
-pub(crate) fn is_reject(reply: &[u8]) -> bool {
+pub(crate) fn is_reject(reply: &[u8]) -> bool
+    ensures { IsTrue result ↔ (slice_get reply.now 0 ≡ Some code_access_reject) }
+{
     reply.first() == Some(&ACCESS_REJECT)
 }
 
