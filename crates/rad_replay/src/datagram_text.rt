@@ -34,8 +34,8 @@ pub fn datagram_texts_are_read()
     ensures { DatagramTextsAreRead }
 {}
 
-// The word for one of the server's ports.
-fn door_name(door: Door) -> &'static [u8]
+/// The word for one of the server's ports.
+pub fn door_name(door: Door) -> &'static [u8]
     ensures { result.now ≡ door_name door }
 {
     match door {
@@ -44,7 +44,8 @@ fn door_name(door: Door) -> &'static [u8]
     }
 }
 
-fn push_decimal(text: &mut Vec<u8>, number: u64) -> Result<(), AllocError>
+/// Appends a number in decimal digits.
+pub fn push_decimal(text: &mut Vec<u8>, number: u64) -> Result<(), AllocError>
     ensures { OnOk result (text.new.items ≡ text.old.items ++ decimal number) }
 {
     text.extend_from_slice(itoa::Buffer::new().format(number).as_bytes())
@@ -59,8 +60,8 @@ fn push_source(text: &mut Vec<u8>, arrival: &Arrival) -> Result<(), AllocError>
     push_decimal(text, u64::from(arrival.port))
 }
 
-// Four numbers joined by points.
-fn push_address(text: &mut Vec<u8>, address: u32) -> Result<(), AllocError>
+/// Appends an IPv4 address, most significant octet first: four numbers joined by points.
+pub fn push_address(text: &mut Vec<u8>, address: u32) -> Result<(), AllocError>
     ensures { OnOk result (text.new.items ≡ text.old.items ++ address_text address) }
 {
     push_decimal(text, u64::from(address / 0x100_0000))?;

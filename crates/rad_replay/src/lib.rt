@@ -16,7 +16,9 @@ mod replay;
 mod run_fault;
 
 pub use datagram_line::{DatagramLine, read_datagram_line};
-pub use datagram_text::{datagram_texts_are_read, push_datagram_text};
+pub use datagram_text::{
+    datagram_texts_are_read, door_name, push_address, push_datagram_text, push_decimal,
+};
 pub use make::{KINDS, Kind, Make, MakeFault};
 pub use replay::run_replay;
 pub use run_fault::RunFault;

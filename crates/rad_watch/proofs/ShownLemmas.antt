@@ -3,21 +3,13 @@ use Rattle.std.proofs.Common.{◌≡◌, ◌<◌, ◌+◌, ◌%◌, ◌/◌, ℕ
 use Rattle.std.specs.List.{All}
 use Rattle.std.proofs.lemmas.List.{flat_map_more, take_more}
 use Rattle.std.proofs.lemmas.List.Elements.{All-append, All-cons, All-nil}
-use Rattle.rad_watch.specs.Shown.{IsPlain, digit, hexadecimal, is_plain, shown, shown_octet}
+use Rattle.rad_watch.specs.Shown.{IsPlain, digit, is_plain, shown, shown_octet}
 
 -- of one octet more, what is shown is appended
 pub shown_one_more : (before octets : List ℕ) (i : ℕ) (d : ℕ) → i < length octets →
     (before ++ shown (take i octets)) ++ shown_octet (get_or octets i d) ≡ before ++ shown (take (i + 1) octets)
 shown_one_more before octets i d lt =
     flat_map_more shown_octet before (take i octets) (get_or octets i d) ∙ ap (λ l. before ++ shown l) (sym (take_more octets i d lt))
-
--- of one octet more, two digits are appended
-pub hexadecimal_one_more : (before octets : List ℕ) (i : ℕ) (d : ℕ) → i < length octets →
-    (before ++ hexadecimal (take i octets)) ++ (digit (get_or octets i d / 16 % 16) ∷ digit (get_or octets i d % 16) ∷ [])
-    ≡ before ++ hexadecimal (take (i + 1) octets)
-hexadecimal_one_more before octets i d lt =
-    flat_map_more (λ octet. digit (octet / 16 % 16) ∷ digit (octet % 16) ∷ []) before (take i octets) (get_or octets i d)
-    ∙ ap (λ l. before ++ hexadecimal l) (sym (take_more octets i d lt))
 
 digit_is_plain : (n : ℕ) → n < 16 → IsPlain (digit n)
 digit_is_plain n lt = record { least = grind (arith); most = grind (arith); unquoted = grind (arith) }

@@ -4,10 +4,7 @@
 --
 -- A field of which nothing is known is left out.
 use Rattle.std.specs.Prelude.{ℕ, ◌+◌, List, [], ◌++◌, codes, decimal, Option, Some, None}
-use Rattle.std.specs.Int.{w32, to_be_bytes}
-use Rattle.std.specs.List.{join_by}
-use Rattle.rad_auth.specs.declared.arrival.Door.{Door}
-use Rattle.rad_auth.specs.declared.arrival.Door.TheVariants.{Auth, Acct}
+use Rattle.rad_replay.specs.DatagramTexts.{address_text, door_name}
 use Rattle.rad_watch.specs.Events.{Event}
 use Rattle.rad_watch.specs.Kinds.{kind_name}
 use Rattle.rad_watch.specs.Shown.{quoted}
@@ -15,18 +12,9 @@ use Rattle.rad_watch.specs.declared.event.Origin.{Origin}
 
 -- ---- values
 
--- an IPv4 address: four decimals, most significant octet first, with points between them
-abbrev pub dotted : ℕ → List ℕ
-dotted address = join_by decimal (codes ".") (to_be_bytes w32 address)
-
 -- the address and the port that a datagram came from
 abbrev pub source_text : Origin → List ℕ
-source_text origin = dotted origin.source ++ codes ":" ++ decimal origin.port
-
--- the name of a port of the server
-abbrev pub door_name : Door → List ℕ
-door_name Auth = codes "auth"
-door_name Acct = codes "acct"
+source_text origin = address_text origin.source ++ codes ":" ++ decimal origin.port
 
 -- a client's place, counted from 1
 abbrev pub place_text : ℕ → List ℕ
@@ -60,7 +48,7 @@ origin_fields event =
 abbrev pub session_fields : Event → List ℕ
 session_fields event =
     field (codes " user=") quoted event.user
-    ++ field (codes " address=") dotted event.address
+    ++ field (codes " address=") address_text event.address
     ++ field (codes " session=") decimal event.session
 
 -- the line of an event, after the text of the time

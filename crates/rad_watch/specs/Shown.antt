@@ -25,10 +25,6 @@ shown octets = flat_map shown_octet octets
 abbrev pub quoted : List ℕ → List ℕ
 quoted octets = 34 ∷ shown octets ++ 34 ∷ []
 
--- octets as hexadecimal digits
-abbrev pub hexadecimal : List ℕ → List ℕ
-hexadecimal octets = flat_map (λ octet. digit (octet / 16 % 16) ∷ digit (octet % 16) ∷ []) octets
-
 -- printable ASCII, and no quote
 pub record IsPlain (octet : ℕ) : Type 0 where
   pub least : 32 ≤ octet

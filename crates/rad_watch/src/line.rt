@@ -1,13 +1,14 @@
 //! Lines of a log: `key=value` fields in a fixed order.
 ghost use Rattle.std.specs.Prelude.{◌≡◌, ◌++◌, OnOk, codes, decimal, option_copied};
 ghost use Rattle.std.specs.Option.{option_map_or};
+ghost use Rattle.rad_replay.specs.DatagramTexts.{address_text};
 ghost use Rattle.rad_watch.specs.Events.{seen};
-ghost use Rattle.rad_watch.specs.LogLines.{door_name, dotted, field, line_head, log_line, origin_fields, origin_text, place_text, session_fields, source_text};
+ghost use Rattle.rad_watch.specs.LogLines.{field, line_head, log_line, origin_fields, origin_text, place_text, session_fields, source_text};
 ghost use Rattle.rad_watch.specs.Shown.{quoted};
 
 use crate::event::{Event, Origin};
 use crate::shown::push_shown;
-use rad_auth::Door;
+use rad_replay::{door_name, push_decimal};
 use std::io;
 
 /// Appends the line of an event, after the text of the time. A field of which nothing is known is left out.
@@ -58,7 +59,7 @@ fn push_client(text: &mut Vec<u8>, client: Option<u32>) -> io::Result<()>
         return Ok(());
     };
     push_octets(text, b" client=")?;
-    push_decimal(text, u64::from(client) + 1)
+    Ok(push_decimal(text, u64::from(client) + 1)?)
 }
 
 // Where the datagram came from, and to.
@@ -71,73 +72,39 @@ fn push_origin(text: &mut Vec<u8>, origin: Option<Origin>) -> io::Result<()>
     push_octets(text, b" source=")?;
     push_source(text, origin)?;
     push_octets(text, b" port=")?;
-    push_octets(text, name_of_door(origin.door))
+    push_octets(text, door_name(origin.door))
 }
 
-/// Appends the address and the port that a datagram came from.
-pub(crate) fn push_source(text: &mut Vec<u8>, origin: Origin) -> io::Result<()>
+// The address and the port that a datagram came from.
+fn push_source(text: &mut Vec<u8>, origin: Origin) -> io::Result<()>
     ensures { OnOk result (text.new.items ≡ text.old.items ++ source_text origin) }
 {
-    push_dotted(text, origin.source)?;
+    rad_replay::push_address(text, origin.source)?;
     push_octets(text, b":")?;
-    push_decimal(text, u64::from(origin.port))
-}
-
-/// The name of a port of the server.
-pub(crate) fn name_of_door(door: Door) -> &'static [u8]
-    ensures { result.now ≡ door_name door }
-{
-    match door {
-        Door::Auth => b"auth",
-        Door::Acct => b"acct",
-    }
+    Ok(push_decimal(text, u64::from(origin.port))?)
 }
 
 // The address of the session.
 fn push_session_address(text: &mut Vec<u8>, address: Option<u32>) -> io::Result<()>
     ensures { OnOk result (text.new.items ≡
-        text.old.items ++ field (codes " address=") dotted address) }
+        text.old.items ++ field (codes " address=") address_text address) }
 {
     let Some(address) = address else {
         return Ok(());
     };
     push_octets(text, b" address=")?;
-    push_dotted(text, address)
+    Ok(rad_replay::push_address(text, address)?)
 }
 
 /// Appends an IPv4 address, most significant octet first, or `-`.
 pub(crate) fn push_address(text: &mut Vec<u8>, address: Option<u32>) -> io::Result<()>
     ensures { OnOk result (text.new.items ≡
-        text.old.items ++ option_map_or dotted address (codes "-")) }
+        text.old.items ++ option_map_or address_text address (codes "-")) }
 {
     match address {
-        Some(address) => push_dotted(text, address),
+        Some(address) => Ok(rad_replay::push_address(text, address)?),
         None => push_octets(text, b"-"),
     }
-}
-
-// Four decimals with points between them.
-fn push_dotted(text: &mut Vec<u8>, address: u32) -> io::Result<()>
-    ensures { OnOk result (text.new.items ≡ text.old.items ++ dotted address) }
-{
-    let [first, second, third, fourth] = address.to_be_bytes();
-    push_decimal(text, u64::from(first))?;
-    push_point(text, second)?;
-    push_point(text, third)?;
-    push_point(text, fourth)
-}
-
-fn push_point(text: &mut Vec<u8>, octet: u8) -> io::Result<()>
-    ensures { OnOk result (text.new.items ≡ text.old.items ++ (codes "." ++ decimal octet)) }
-{
-    push_octets(text, b".")?;
-    push_decimal(text, u64::from(octet))
-}
-
-fn push_decimal(text: &mut Vec<u8>, number: u64) -> io::Result<()>
-    ensures { OnOk result (text.new.items ≡ text.old.items ++ decimal number) }
-{
-    push_octets(text, itoa::Buffer::new().format(number).as_bytes())
 }
 
 /// Appends octets as they are.
@@ -154,7 +121,7 @@ fn push_number(text: &mut Vec<u8>, key: &[u8], number: Option<u64>) -> io::Resul
         return Ok(());
     };
     push_octets(text, key)?;
-    push_decimal(text, number)
+    Ok(push_decimal(text, number)?)
 }
 
 fn push_text(text: &mut Vec<u8>, key: &[u8], octets: Option<&[u8]>) -> io::Result<()>

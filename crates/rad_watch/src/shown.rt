@@ -1,6 +1,6 @@
 //! Octets that others chose, as texts show them.
 ghost use Rattle.std.specs.Prelude.{◌≡◌, ◌++◌, ◌<◌, All, OnOk};
-ghost use Rattle.rad_watch.specs.Shown.{IsPlain, digit, hexadecimal, is_plain, shown, shown_octet};
+ghost use Rattle.rad_watch.specs.Shown.{IsPlain, digit, is_plain, shown, shown_octet};
 
 use std::alloc::AllocError;
 
@@ -33,17 +33,6 @@ fn push_octet(text: &mut Vec<u8>, octet: u8) -> Result<(), AllocError>
         return Ok(());
     }
     text.extend_from_slice(&[b'\\', b'x', digit(octet / 16), digit(octet % 16)])
-}
-
-/// Appends octets as hexadecimal digits, in lower case.
-#[tactic(auto, using(crate::proofs::ShownLemmas::hexadecimal_one_more))]
-pub(crate) fn push_hex(text: &mut Vec<u8>, octets: &[u8]) -> Result<(), AllocError>
-    ensures { OnOk result (text.new.items ≡ text.old.items ++ hexadecimal octets.now) }
-{
-    for i in 0..octets.len() {
-        text.extend_from_slice(&[digit(octets[i] / 16), digit(octets[i] % 16)])?;
-    }
-    Ok(())
 }
 
 // A hexadecimal digit, in lower case.
