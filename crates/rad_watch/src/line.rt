@@ -53,7 +53,8 @@ fn write_session(text: &mut Vec<u8>, event: &Event) -> io::Result<()>
 
 // The client, by its place counted from 1.
 fn push_client(text: &mut Vec<u8>, client: Option<u32>) -> io::Result<()>
-    ensures { OnOk result (text.new.items ≡ text.old.items ++ field (codes " client=") place_text client) }
+    ensures { OnOk result (text.new.items ≡
+        text.old.items ++ field (codes " client=") place_text client) }
 {
     let Some(client) = client else {
         return Ok(());
@@ -64,7 +65,8 @@ fn push_client(text: &mut Vec<u8>, client: Option<u32>) -> io::Result<()>
 
 // Where the datagram came from, and to.
 fn push_origin(text: &mut Vec<u8>, origin: Option<Origin>) -> io::Result<()>
-    ensures { OnOk result (text.new.items ≡ text.old.items ++ field (codes " source=") origin_text origin) }
+    ensures { OnOk result (text.new.items ≡
+        text.old.items ++ field (codes " source=") origin_text origin) }
 {
     let Some(origin) = origin else {
         return Ok(());
