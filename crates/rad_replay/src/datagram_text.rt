@@ -53,7 +53,8 @@ pub fn push_decimal(text: &mut Vec<u8>, number: u64) -> Result<(), AllocError>
 
 // The address and the port that a datagram came from.
 fn push_source(text: &mut Vec<u8>, arrival: &Arrival) -> Result<(), AllocError>
-    ensures { OnOk result (text.new.items ≡ text.old.items ++ source_text (datagram_of arrival.now)) }
+    ensures { OnOk result (text.new.items
+        ≡ text.old.items ++ source_text (datagram_of arrival.now)) }
 {
     push_address(text, arrival.source)?;
     text.push(b':')?;

@@ -261,9 +261,17 @@ fn serve_turns<R: Print + Threads + Wait + Sync, P: Ports, D: Rng, G: Gate + Syn
     ports: &mut P,
 ) -> Result<(), ServeError>
     ensures called { (ending : Result (Unit {0}) ServeFault) × MadeCalls
-        (record { server = service.old; random = D.stream turns.old.random.now; passed = P.passed ports.old })
+        (record {
+          server = service.old;
+          random = D.stream turns.old.random.now;
+          passed = P.passed ports.old;
+        })
         ending
-        (record { server = service.new; random = D.stream turns.new.random.now; passed = P.passed ports.new }) }
+        (record {
+          server = service.new;
+          random = D.stream turns.new.random.now;
+          passed = P.passed ports.new;
+        }) }
     ensures reported { P.reported ports.new ≡ P.reported ports.old + reported_by result }
 {
     time_passes_unseen();

@@ -77,7 +77,8 @@ pub trait Ports {
     /// Returns `PortFault` only if a failure was counted in the call.
     fn send(&mut self, door: Door, address: u32, port: u16, octets: &[u8]) -> Result<(), PortFault>
         ensures passed { HavePassed
-            (sent result (record { door = door; address = address; port = port; octets = octets.now }))
+            (sent result
+            (record { door = door; address = address; port = port; octets = octets.now }))
             (passed self.old) (passed self.new) }
         ensures reported { reported self.new ≡ reported self.old + reported_by result }
         ensures counted { failures self.old ≤ failures self.new }

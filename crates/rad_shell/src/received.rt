@@ -48,7 +48,8 @@ impl Received {
     /// Receives until no datagram waits or a round is full. What was there before is dropped. It takes no memory.
     #[tactic(auto, using(crate::proofs::PassageLemmas::octets_more, crate::proofs::PassageLemmas::none_passed))]
     pub fn receive<P: Ports>(&mut self, ports: &mut P) -> Result<(), PortFault>
-        ensures passed { HavePassed (received_all result (came_in self.new.got.items self.new.octets.items))
+        ensures passed { HavePassed
+            (received_all result (came_in self.new.got.items self.new.octets.items))
             (P.passed ports.old) (P.passed ports.new) }
         ensures reported { P.reported ports.new ≡ P.reported ports.old + reported_by result }
         ensures counted { P.failures ports.old ≤ P.failures ports.new }
@@ -75,7 +76,8 @@ impl Received {
         ensures got { self.new.got.items ≡ self.old.got.items }
         ensures octets { self.new.octets.items ≡ self.old.octets.items }
         ensures drawn { self.new.draws.items ≡ draws (vec_len self.new.got) (D.stream random.old) }
-        ensures rest { D.stream random.new ≡ after_draws (vec_len self.new.got) (D.stream random.old) }
+        ensures rest { D.stream random.new
+            ≡ after_draws (vec_len self.new.got) (D.stream random.old) }
     {
         self.draws.clear();
         for _ in 0..self.got.len() {
@@ -124,7 +126,8 @@ impl Received {
     #[tactic(auto, using(crate::proofs::PassageLemmas::none_sent, crate::proofs::PassageLemmas::one_more_sent, crate::proofs::PassageLemmas::all_sent, crate::proofs::PassageLemmas::sent_until))]
     pub fn reply<P: Ports>(&self, ports: &mut P, outcomes: &[Outcome]) -> Result<(), PortFault>
         requires count { length outcomes.now ≡ vec_len self.now.got }
-        ensures sent { AreSent (replies (came_in self.now.got.items self.now.octets.items) outcomes.now)
+        ensures sent { AreSent
+            (replies (came_in self.now.got.items self.now.octets.items) outcomes.now)
             result (P.passed ports.old) (P.passed ports.new) }
         ensures reported { P.reported ports.new ≡ P.reported ports.old + reported_by result }
         ensures counted { P.failures ports.old ≤ P.failures ports.new }
@@ -141,7 +144,8 @@ impl Received {
 fn send_reply<P: Ports>(ports: &mut P, got: &Got, outcome: &Outcome) -> Result<(), PortFault>
     ensures sent { OnOk result (HavePassed (map Out (reply_to (came_by got.now []) outcome.now))
         (P.passed ports.old) (P.passed ports.new)) }
-    ensures refused { OnErr result (HavePassed (Fault ∷ []) (P.passed ports.old) (P.passed ports.new)) }
+    ensures refused { OnErr result
+        (HavePassed (Fault ∷ []) (P.passed ports.old) (P.passed ports.new)) }
     ensures replied { OnErr result (is_replied outcome.now ≡ true) }
     ensures reported { P.reported ports.new ≡ P.reported ports.old + reported_by result }
     ensures counted { P.failures ports.old ≤ P.failures ports.new }

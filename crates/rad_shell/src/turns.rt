@@ -96,9 +96,17 @@ impl<'a, D: Rng, G: Gate + Sync, W: Watch + Drop> Turns<'a, D, G, W> {
     ) -> Result<Served, ServeFault>
         requires workers { (1 ≤ workers) × (workers ≤ workers_max) }
         ensures served { IsServed rounds
-            (record { server = service.old; random = D.stream self.old.random.now; passed = P.passed ports.old })
+            (record {
+              server = service.old;
+              random = D.stream self.old.random.now;
+              passed = P.passed ports.old;
+            })
             result
-            (record { server = service.new; random = D.stream self.new.random.now; passed = P.passed ports.new }) }
+            (record {
+              server = service.new;
+              random = D.stream self.new.random.now;
+              passed = P.passed ports.new;
+            }) }
         ensures random { self.new.random.ghost_name ≡ self.old.random.ghost_name }
         ensures reported { P.reported ports.new ≡ P.reported ports.old + reported_by result }
         ensures fault { IfErr result (HasCause (P.failures ports.old) (P.failures ports.new)) }
@@ -138,9 +146,17 @@ impl<'a, D: Rng, G: Gate + Sync, W: Watch + Drop> Turns<'a, D, G, W> {
         requires sums { AddUp served.old }
         requires turns { served.old.rounds < turns_max }
         ensures turn { IsCounted
-            (record { server = service.old; random = D.stream self.old.random.now; passed = P.passed ports.old })
+            (record {
+              server = service.old;
+              random = D.stream self.old.random.now;
+              passed = P.passed ports.old;
+            })
             served.old result
-            (record { server = service.new; random = D.stream self.new.random.now; passed = P.passed ports.new })
+            (record {
+              server = service.new;
+              random = D.stream self.new.random.now;
+              passed = P.passed ports.new;
+            })
             served.new }
         ensures random { self.new.random.ghost_name ≡ self.old.random.ghost_name }
         ensures reported { P.reported ports.new ≡ P.reported ports.old + reported_by result }

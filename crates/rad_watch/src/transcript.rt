@@ -14,8 +14,8 @@ use std::alloc::AllocError;
 ///
 /// Whether there was memory for all; if not, nothing is appended.
 pub fn record(text: &mut Vec<u8>, turn: &Turn) -> bool
-    ensures recorded { IsTrue result → text.new.items ≡ text.old.items
-        ++ recorded turn.now.arrivals.now turn.now.done.now.outcomes.items turn.now.done.now.history.items }
+    ensures recorded { IsTrue result → text.new.items ≡ text.old.items ++ recorded
+        turn.now.arrivals.now turn.now.done.now.outcomes.items turn.now.done.now.history.items }
     // A replay reads each line as that datagram with that moment.
     ensures read { DatagramTextsAreRead }
 {
@@ -30,8 +30,8 @@ pub fn record(text: &mut Vec<u8>, turn: &Turn) -> bool
 
 #[tactic(auto, using(crate::proofs::RecordingLemmas::recorded_both))]
 fn record_turn(text: &mut Vec<u8>, turn: &Turn) -> Result<(), AllocError>
-    ensures { OnOk result (text.new.items ≡ text.old.items
-        ++ recorded turn.now.arrivals.now turn.now.done.now.outcomes.items turn.now.done.now.history.items) }
+    ensures { OnOk result (text.new.items ≡ text.old.items ++ recorded
+        turn.now.arrivals.now turn.now.done.now.outcomes.items turn.now.done.now.history.items) }
 {
     record_history(text, turn.arrivals, &turn.done.history)?;
     record_discards(text, turn.arrivals, &turn.done.outcomes)
