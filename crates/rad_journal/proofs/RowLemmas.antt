@@ -1,0 +1,78 @@
+-- Rows of entries: found by their rowids, and put behind the others.
+use Rattle.std.proofs.Common.{◌≡◌, ◌<◌, ⊎_elim, ℕ, zero, suc, ◌+◌, pos, true, false, List, [], ◌∷◌, ◌++◌, length, filter, Some, None, slice_get, Less, is_eq, refl, sym, ap, subst, ◌∙◌, arith}
+use Rattle.std.proofs.lemmas.Int.{ints}
+use Rattle.std.proofs.lemmas.Bool.Decides.{nat_tests}
+use Rattle.std.proofs.lemmas.Option.{none-some, slice_get_cases}
+use Rattle.sqlite_value.specs.declared.value.Value.TheVariants.{Int}
+use Rattle.sqlite_value.specs.Order.{Row, value_cmp}
+use Rattle.sqlite_value.proofs.OrderLemmas.{value_cmp-Int}
+use Rattle.sqlite_trees.specs.Tree.{has_rowid, put_row}
+use Rattle.sqlite_trees.specs.View.{Finds}
+use Rattle.rad_journal.specs.Rows.{IsLog, entries_of, entry_back, entry_of, row_of, rows_from}
+use Rattle.rad_journal.specs.declared.kept.Kept.{Kept}
+
+lower : (m n : ℕ) → m < n → value_cmp (Int (pos m)) (Int (pos n)) ≡ Less
+lower m n lt = value_cmp-Int (pos m) (pos n) ∙ grind (arith, ints, nat_tests)
+
+is_it : (m n : ℕ) → m ≡ n → is_eq (value_cmp (Int (pos m)) (Int (pos n))) ≡ true
+is_it m n same = ap is_eq (value_cmp-Int (pos m) (pos n)) ∙ grind (arith, ints, nat_tests)
+
+above : (m n : ℕ) → n < m → is_eq (value_cmp (Int (pos m)) (Int (pos n))) ≡ false
+above m n lt = ap is_eq (value_cmp-Int (pos m) (pos n)) ∙ grind (arith, ints, nat_tests)
+
+below : (m n : ℕ) → m < n → is_eq (value_cmp (Int (pos m)) (Int (pos n))) ≡ false
+below m n lt = ap is_eq (lower m n lt)
+
+-- entries come back from their rows
+pub entries_back : (n : ℕ) (entries : List Kept) → entries_of (rows_from n entries) ≡ entries
+entries_back n [] = refl
+entries_back n (entry ∷ entries) = ap (λ (e : Kept). e ∷ entries_of (rows_from (suc n) entries)) (entry_back n entry) ∙ ap (λ (l : List Kept). entry ∷ l) (entries_back (suc n) entries)
+
+-- a row with the next rowid goes behind
+pub put_last : (m n : ℕ) (entries : List Kept) (entry : Kept) → m ≡ n + length entries → put_row (row_of m entry) (rows_from n entries) ≡ rows_from n (entries ++ entry ∷ [])
+put_last m n [] entry is = let same : m ≡ n = omega (arith, is) in ap (λ (k : ℕ). row_of k entry ∷ []) same
+put_last m n (first ∷ entries) entry is =
+    rw (lower n m (omega (arith, is))) (ap (λ (l : List Row). row_of n first ∷ l) (put_last m (suc n) entries entry (omega (arith, is))))
+
+-- no row has a rowid below the first
+none_below : (m n : ℕ) (entries : List Kept) → m < n → filter (has_rowid (pos m)) (rows_from n entries) ≡ []
+none_below m n [] lt = refl
+none_below m n (first ∷ entries) lt = rw (above n m lt) (none_below m (suc n) entries (omega (arith, lt)))
+
+found_at : (m n k : ℕ) (entries : List Kept) (entry : Kept) → m ≡ n + k → slice_get entries k ≡ Some entry → filter (has_rowid (pos m)) (rows_from n entries) ≡ row_of m entry ∷ []
+found_at m n k [] entry is has = absurd (none-some _ has)
+found_at m n zero (first ∷ entries) entry is has =
+    let same : n ≡ m = omega (arith, is) in
+    let it : first ≡ entry = cc has in
+    rw (is_it n m same) (ap (λ (l : List Row). row_of n first ∷ l) (none_below m (suc n) entries (omega (arith, same))) ∙ ap (λ (k : ℕ). row_of k first ∷ []) same ∙ ap (λ (e : Kept). row_of m e ∷ []) it)
+found_at m n (suc k) (first ∷ entries) entry is has = rw (below n m (omega (arith, is))) (found_at m (suc n) k entries entry (omega (arith, is)) has)
+
+none_at : (m n k : ℕ) (entries : List Kept) → m ≡ n + k → slice_get entries k ≡ None → filter (has_rowid (pos m)) (rows_from n entries) ≡ []
+none_at m n k [] is has = refl
+none_at m n zero (first ∷ entries) is has = absurd (none-some _ (sym has))
+none_at m n (suc k) (first ∷ entries) is has = rw (below n m (omega (arith, is))) (none_at m (suc n) k entries (omega (arith, is)) has)
+
+-- the row that is found is that of the entry
+pub read_some : (m k : ℕ) (rows : List Row) (row : Row) → IsLog rows → m ≡ 1 + k → Finds rows (pos m) row true → Some (entry_of row) ≡ slice_get (entries_of rows) k
+read_some m k rows row log is finds = ⊎_elim
+    (λ has.
+    let found = subst (λ (l : List Row). filter (has_rowid (pos m)) l ≡ row_of m has.0 ∷ []) (sym log) (found_at m 1 k (entries_of rows) has.0 is has.2) in
+    let same : row ≡ row_of m has.0 = cc (found, finds) in
+    ap (λ (r : Row). Some (entry_of r)) same ∙ ap (λ (e : Kept). Some e) (entry_back m has.0) ∙ sym has.2)
+    (λ none.
+    let found = subst (λ (l : List Row). filter (has_rowid (pos m)) l ≡ []) (sym log) (none_at m 1 k (entries_of rows) is none.1) in
+    absurd (cc (found, finds)))
+    (slice_get_cases (entries_of rows) k).1
+
+pub read_none : (m k : ℕ) (rows : List Row) (row : Row) → IsLog rows → m ≡ 1 + k → Finds rows (pos m) row false → None ≡ slice_get (entries_of rows) k
+read_none m k rows row log is finds = ⊎_elim
+    (λ has.
+    let found = subst (λ (l : List Row). filter (has_rowid (pos m)) l ≡ row_of m has.0 ∷ []) (sym log) (found_at m 1 k (entries_of rows) has.0 is has.2) in
+    absurd (cc (found, finds)))
+    (λ none. sym none.1)
+    (slice_get_cases (entries_of rows) k).1
+
+-- the rows of one entry more
+pub rows_push : (m n : ℕ) (entries : List Kept) (entry : Kept) → m ≡ n + length entries → rows_from n (entries ++ entry ∷ []) ≡ rows_from n entries ++ row_of m entry ∷ []
+rows_push m n [] entry is = let same : n ≡ m = omega (arith, is) in ap (λ (k : ℕ). row_of k entry ∷ []) same
+rows_push m n (first ∷ entries) entry is = ap (λ (l : List Row). row_of n first ∷ l) (rows_push m (suc n) entries entry (omega (arith, is)))

@@ -1,0 +1,100 @@
+-- Entries as the rows of a table: the rowid, counted from 1, wall time and moment in milliseconds, source address, source port, door,
+-- draw, request and answer.
+use Rattle.std.specs.Prelude.{◌≡◌, ℕ, zero, suc, ℤ, pos, negsuc, List, [], ◌∷◌, map, length, refl}
+use Rattle.std.proofs.Common.{ap}
+use Rattle.sqlite_value.specs.declared.value.Value.{Value}
+use Rattle.sqlite_value.specs.declared.value.Value.TheVariants.{Null, Int, Real, Text, Blob}
+use Rattle.sqlite_value.specs.Order.{Row, column}
+use Rattle.rad_auth.specs.declared.arrival.Door.{Door}
+use Rattle.rad_auth.specs.declared.arrival.Door.TheVariants.{Auth, Acct}
+use Rattle.rad_journal.specs.declared.kept.Kept.{Kept}
+
+-- the tree of the table
+abbrev pub table : ℕ
+table = 0
+
+-- ---- values
+
+abbrev pub magnitude : ℤ → ℕ
+magnitude (pos n) = n
+magnitude (negsuc n) = 0
+
+-- the number of a value that is one, from 0 up
+abbrev pub number_of : Value → ℕ
+number_of (Int n) = magnitude n
+number_of Null = 0
+number_of (Real x) = 0
+number_of (Text t) = 0
+number_of (Blob b) = 0
+
+-- the octets of a value that is a blob
+abbrev pub octets_of : Value → List ℕ
+octets_of (Blob b) = b
+octets_of Null = []
+octets_of (Int n) = []
+octets_of (Real x) = []
+octets_of (Text t) = []
+
+-- the number of a door
+abbrev pub door_number : Door → ℕ
+door_number Auth = 0
+door_number Acct = 1
+
+-- the door of a number that is one's
+abbrev pub door_of : ℕ → Door
+door_of zero = Auth
+door_of (suc n) = Acct
+
+-- ---- rows
+
+-- the row of an entry
+abbrev pub row_of : ℕ → Kept → Row
+row_of number entry =
+    Int (pos number)
+    ∷ Int (pos entry.wall)
+    ∷ Int (pos entry.moment)
+    ∷ Int (pos entry.source)
+    ∷ Int (pos entry.port)
+    ∷ Int (pos (door_number entry.door))
+    ∷ Blob entry.draw
+    ∷ Blob entry.octets
+    ∷ Blob entry.answer
+    ∷ []
+
+-- the entry of a row that is one's
+abbrev pub entry_of : Row → Kept
+entry_of row = record {
+  wall = number_of (column row 1);
+  moment = number_of (column row 2);
+  source = number_of (column row 3);
+  port = number_of (column row 4);
+  door = door_of (number_of (column row 5));
+  draw = octets_of (column row 6);
+  octets = octets_of (column row 7);
+  answer = octets_of (column row 8);
+}
+
+-- the rows of entries, numbered from here
+abbrev pub rows_from : ℕ → List Kept → List Row
+rows_from number [] = []
+rows_from number (entry ∷ entries) = row_of number entry ∷ rows_from (suc number) entries
+
+abbrev pub entries_of : List Row → List Kept
+entries_of rows = map entry_of rows
+
+-- the rows are those of entries, numbered from 1
+abbrev pub IsLog : List Row → Type 0
+IsLog rows = rows ≡ rows_from 1 (entries_of rows)
+
+-- the rows are those of so many entries, numbered from 1
+abbrev pub IsCounted : List Row → ℕ → Type 0
+IsCounted rows count = IsLog rows × (length (entries_of rows) ≡ count)
+
+-- ---- a row is read back as its entry
+
+pub door_back : (door : Door) → door_of (door_number door) ≡ door
+door_back Auth = refl
+door_back Acct = refl
+
+pub entry_back : (number : ℕ) (entry : Kept) → entry_of (row_of number entry) ≡ entry
+entry_back number entry = ap (λ door. record entry { door = door }) (door_back entry.door)

@@ -1,0 +1,40 @@
+-- What a store with the table of a journal shows.
+use Rattle.std.specs.Prelude.{◌≡◌, ◌⊎◌, ℕ, List, ◌++◌, length, Bool, Option, Some, IsTrue, IsSome}
+use Rattle.sqlite_trees.specs.Tree.{Trees}
+use Rattle.sqlite_trees.specs.View.{View}
+use Rattle.sqlite_trees.specs.declared.store.Shape.TheVariants.{Table}
+use Rattle.rad_journal.specs.Rows.{table, entries_of, IsLog}
+use Rattle.rad_journal.specs.declared.kept.Kept.{Kept}
+
+-- Each outcome of a crash is a log. A store that is usable may be opened again. Where the count is known, nothing is pending, and it
+-- counts the entries.
+pub record IsSound (view : View) (recovers : Trees → Type 0) (usable : Bool) (count : Option ℕ) : Type 0 where
+  pub outcomes : (db : Trees) → recovers db → IsLog (db table)
+  pub shape : IsTrue usable → view.shape table ≡ Table
+  pub committed_shape : IsTrue usable → view.shape ≡ view.committed_shape
+  pub known : IsSome count → IsTrue usable
+  pub settled : IsSome count → view.trees ≡ view.committed
+  pub log : IsSome count → IsLog (view.committed table)
+  pub counted : (n : ℕ) → count ≡ Some n → length (entries_of (view.committed table)) ≡ n
+
+-- entries were added and committed
+pub record IsAdded (old new : View) (entries : List Kept) : Type 0 where
+  pub was_open : IsTrue old.is_open
+  pub is_open : IsTrue new.is_open
+  pub added : entries_of (new.committed table) ≡ entries_of (old.committed table) ++ entries
+
+-- what a crash leaves was left before, or has the entries added
+abbrev pub LeavesAdded : View → (Trees → Type 0) → (Trees → Type 0) → List Kept → Type 0
+LeavesAdded view old new entries = (db : Trees) → new db
+    → old db ⊎ (entries_of (db table) ≡ entries_of (view.committed table) ++ entries)
+
+-- only cursors may differ
+abbrev pub OnlyReads : View → View → Type 0
+OnlyReads old new = new ≡ record old { cursors = new.cursors }
+
+-- a store that was just opened, with the table
+pub record IsFresh (view : View) : Type 0 where
+  pub is_open : IsTrue view.is_open
+  pub shape : view.shape table ≡ Table
+  pub committed_shape : view.shape ≡ view.committed_shape
+  pub settled : view.trees ≡ view.committed

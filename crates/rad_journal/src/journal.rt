@@ -1,0 +1,116 @@
+//! Journals: what outlives a crash.
+ghost use Rattle.std.specs.Prelude.{◌≡◌, ◌⊎◌, ◌++◌, List, Bool, slice_get, IfOk, OnOk};
+ghost use Rattle.rad_journal.specs.Journals.{Only, added};
+ghost use Rattle.rad_journal.specs.Faults.{fault_of};
+ghost use Rattle.rad_journal.specs.declared.journal.JournalFault.TheVariants.{NoMemory};
+ghost use Rattle.rad_journal.specs.declared.kept.Kept.{Kept};
+
+use crate::kept::Kept;
+use sqlite_trees::error::StoreError;
+use std::alloc::{AllocError, Global};
+use thiserror::Error;
+
+/// Why a journal gave up.
+#[derive(Clone, Copy, Debug, PartialEq, Eq, Error)]
+pub enum JournalFault {
+    /// An allocation failed.
+    #[error("out of memory")]
+    NoMemory,
+    /// The disk failed, or an earlier call has failed since the journal was opened.
+    #[error("the disk failed")]
+    Disk,
+    /// What was read is not what was written, or is no entry.
+    #[error("the journal is damaged")]
+    Damaged,
+    /// The disk has no room, no more entries can be counted, or a time is 2 ^ 63 or more.
+    #[error("the journal is full")]
+    Full,
+}
+
+impl From<AllocError> for JournalFault {
+    ghost from_gives = { λ _ fault. fault ≡ NoMemory };
+
+    fn from(_: AllocError) -> JournalFault {
+        JournalFault::NoMemory
+    }
+}
+
+impl From<StoreError> for JournalFault {
+    ghost from_gives = { λ error fault. fault ≡ fault_of error };
+
+    fn from(error: StoreError) -> JournalFault {
+        match error {
+            StoreError::OutOfMemory => JournalFault::NoMemory,
+            StoreError::Corrupt => JournalFault::Damaged,
+            StoreError::Full => JournalFault::Full,
+            StoreError::Io | StoreError::Broken | StoreError::Unstorable => JournalFault::Disk,
+        }
+    }
+}
+
+/// Entries that outlive a crash, added by commits.
+///
+/// Each fact on entries holds while no wrong answer of the disk has been taken as true.
+///
+/// For callers: once a call has failed, a journal has to be opened again before it is of use.
+///
+/// For implementers: whatever a failed call may have left on the disk is in `may_leave`.
+pub trait Journal {
+    /// Whether it keeps anything at all.
+    ghost keeps: { Bool };
+
+    /// The entries of each commit so far, the oldest first.
+    ghost kept: { Self → List Kept };
+
+    /// What the next open may find after a crash at this moment.
+    ghost may_leave: { Self → List Kept → Type 0 };
+
+    /// No wrong answer of the disk has been taken as true so far.
+    ghost is_clean: { Self → Type 0 };
+
+    /// It may be asked for more, and a crash leaves what was kept.
+    ghost is_open: { Self → Type 0 };
+
+    /// Adds the entries in their order, all or none.
+    ///
+    /// At `Ok` each crash from then on leaves them. At `Err` a crash may leave them or not. `Full`: the disk has no room, there would
+    /// be 2 ^ 32 - 1 entries or more, or a time is 2 ^ 63 or more. `Disk`: the disk failed, or an earlier call has failed.
+    fn commit(&mut self, entries: &[Kept]) -> Result<(), JournalFault>
+        ensures clean { is_clean self.new → is_clean self.old }
+        ensures kept { OnOk result (is_clean self.new
+            → kept self.new ≡ kept self.old ++ added keeps entries.now) }
+        ensures open { OnOk result (is_clean self.new → is_open self.old → is_open self.new) }
+        ensures crash { is_clean self.new → (left : List Kept) → may_leave self.new left
+            → may_leave self.old left ⊎ (left ≡ kept self.old ++ added keeps entries.now) };
+
+    /// The entry at a place, counted from 0, if there is one.
+    ///
+    /// `Damaged`: what was read is not what was written, or is no entry.
+    fn entry(&mut self, alloc: Global, place: u32) -> Result<Option<Kept>, JournalFault>
+        ensures clean { is_clean self.new → is_clean self.old }
+        ensures found { IfOk result (λ entry. is_clean self.new
+            → entry ≡ slice_get (kept self.old) place) }
+        ensures kept { OnOk result (is_clean self.new → kept self.new ≡ kept self.old) }
+        ensures open { OnOk result (is_clean self.new → is_open self.old → is_open self.new) }
+        ensures crash { is_clean self.new → (left : List Kept) → may_leave self.new left
+            → may_leave self.old left };
+
+    /// While it is open, a crash leaves what was kept and nothing else.
+    ghost settled: { (journal : Self) → is_open journal
+        → Only (kept journal) (may_leave journal) };
+}
+
+/// A journal that can be made to crash, and is then opened again.
+pub trait Reopen: Journal {
+    /// Crashes, and opens what is left.
+    ///
+    /// At `Err` it is of no use until a later call succeeds.
+    fn crash_and_reopen(&mut self, alloc: Global) -> Result<(), JournalFault>
+        ensures clean { Self.Journal.is_clean self.new → Self.Journal.is_clean self.old }
+        ensures found { OnOk result (Self.Journal.is_clean self.new
+            → Self.Journal.may_leave self.old (Self.Journal.kept self.new)) }
+        ensures open { OnOk result (Self.Journal.is_clean self.new
+            → Self.Journal.is_open self.new) }
+        ensures crash { Self.Journal.is_clean self.new → (left : List Kept)
+            → Self.Journal.may_leave self.new left → Self.Journal.may_leave self.old left };
+}

@@ -1,0 +1,24 @@
+//! What a server keeps on a disk of its exchanges, over any store.
+//!
+//! `Kept` is an exchange as it is kept, and a `Journal` has those of each commit so far. `StoreJournal` is a journal in a table of any
+//! `Store` of the kit's SQLite, and `NoJournal` keeps nothing. Nothing here opens a file or reads a clock.
+//!
+//! Other crates rest on this: a commit that answers Ok has kept all of its entries, each crash from then on leaves them, and a crash
+//! at any time leaves what was kept before a commit or that and all of its entries.
+#![tactic(auto)]
+
+mod append;
+mod checking;
+mod journal;
+mod kept;
+mod no_journal;
+mod reading;
+mod store_journal;
+
+pub use journal::{Journal, JournalFault, Reopen};
+pub use kept::Kept;
+pub use no_journal::NoJournal;
+pub use store_journal::StoreJournal;
+
+#[cfg(test)]
+mod tests;

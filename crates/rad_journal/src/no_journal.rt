@@ -1,0 +1,38 @@
+//! A journal that keeps nothing.
+ghost use Rattle.std.specs.Prelude.{◌≡◌, [], false};
+
+use crate::journal::{Journal, JournalFault, Reopen};
+use crate::kept::Kept;
+use std::alloc::Global;
+
+/// A journal that keeps nothing: each commit succeeds, and a crash leaves no entry.
+#[derive(Clone, Copy, Debug)]
+pub struct NoJournal;
+
+impl Journal for NoJournal {
+    ghost keeps = { false };
+
+    ghost kept = { λ _. [] };
+
+    ghost may_leave = { λ _ left. left ≡ [] };
+
+    ghost is_clean = { λ _. Unit {0} };
+
+    ghost is_open = { λ _. Unit {0} };
+
+    ghost settled = { λ _ _ left is. is };
+
+    fn commit(&mut self, _entries: &[Kept]) -> Result<(), JournalFault> {
+        Ok(())
+    }
+
+    fn entry(&mut self, _alloc: Global, _place: u32) -> Result<Option<Kept>, JournalFault> {
+        Ok(None)
+    }
+}
+
+impl Reopen for NoJournal {
+    fn crash_and_reopen(&mut self, _alloc: Global) -> Result<(), JournalFault> {
+        Ok(())
+    }
+}

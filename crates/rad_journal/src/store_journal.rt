@@ -1,0 +1,116 @@
+//! A journal in a table of a store.
+ghost use Rattle.std.specs.Prelude.{◌≡◌, ◌≤◌, true, IsTrue, IsSome};
+ghost use Rattle.std.proofs.Common.{◌∙◌, ap};
+ghost use Rattle.sqlite_trees.specs.Tree.{Trees};
+ghost use Rattle.sqlite_trees.specs.View.{IsClean, doubt};
+ghost use Rattle.rad_journal.specs.Rows.{entries_of, table};
+ghost use Rattle.rad_journal.specs.Stores.{IsSound};
+
+use crate::append::add;
+use crate::checking::check;
+use crate::journal::{Journal, JournalFault, Reopen};
+use crate::kept::Kept;
+use crate::reading::{count, read};
+use sqlite_trees::store::{Reopen as ReopenStore, Store};
+use sqlite_value::row::Row;
+use std::alloc::Global;
+
+/// A journal in the first table of a store, whose rows are numbered from 1.
+///
+/// Its columns are wall time and moment (milliseconds), source address and port, door (0 authentication, 1 accounting), draw, request
+/// and answer: five integers and three blobs.
+#[derive(Drop)]
+pub struct StoreJournal<S: Store> {
+    store: S,
+    row: Row,
+    // How many entries there are; unknown once a call has failed, until the store is opened again.
+    count: Option<u32>,
+    // Whether it may be opened again: not once that has failed.
+    usable: bool,
+    ghost sound: { IsClean (S.view store)
+        → IsSound (S.view store) (S.recovers store) usable count },
+}
+
+impl<S: Store + Drop> StoreJournal<S> {
+    ghost use Rattle.std.specs.Prelude.{IfOk};
+    ghost use Rattle.rad_journal.specs.Stores.{IsFresh};
+
+    /// The journal of a store that was just opened, if its rows are those of entries.
+    ///
+    /// `Damaged`: a row is none of an entry, or not the next one's. `Full`: there are 2 ^ 32 - 1 or more.
+    pub fn open(alloc: Global, store: S) -> Result<StoreJournal<S>, JournalFault>
+        requires { IsClean (S.view store) → IsFresh (S.view store) }
+        ensures opened { IfOk result (λ journal. IsClean (S.view journal.store)
+            → IsTrue (S.view journal.store).is_open × IsSome journal.count) }
+        ensures kept { IfOk result (λ journal. IsClean (S.view journal.store)
+            → entries_of ((S.view journal.store).committed table)
+            ≡ entries_of ((S.view store).committed table)) }
+        ensures clean { IfOk result (λ journal.
+            doubt (S.view store).is_clean ≤ doubt (S.view journal.store).is_clean) }
+        ensures crash { IfOk result (λ journal. (db : Trees)
+            → S.recovers journal.store db → S.recovers store db) }
+    {
+        let mut store = store;
+        let count = check(alloc, &mut store)?;
+        Ok(StoreJournal {
+            store,
+            row: Row::new(alloc),
+            count: Some(count),
+            usable: true,
+        })
+    }
+}
+
+impl<S: Store> Journal for StoreJournal<S> {
+    ghost keeps = { true };
+
+    ghost kept = { λ journal. entries_of ((S.view journal.store).committed table) };
+
+    ghost may_leave = { λ journal left. (db : Trees) × S.recovers journal.store db
+        × (left ≡ entries_of (db table)) };
+
+    ghost is_clean = { λ journal. IsClean (S.view journal.store) };
+
+    ghost is_open = { λ journal. IsTrue (S.view journal.store).is_open × IsSome journal.count };
+
+    ghost settled = { λ journal is_open left is. is.2
+        ∙ ap (λ (t : Trees). entries_of (t table)) (S.settled journal.store is.0 is_open.0 is.1) };
+
+    fn commit(&mut self, entries: &[Kept]) -> Result<(), JournalFault> {
+        let Some(count) = self.count else {
+            return Err(JournalFault::Disk);
+        };
+        if entries.is_empty() {
+            // Nothing is written, so the disk has nothing to sync.
+            return Ok(());
+        }
+        self.count = None;
+        self.count = Some(add(&mut self.store, &mut self.row, count, entries)?);
+        Ok(())
+    }
+
+    fn entry(&mut self, alloc: Global, place: u32) -> Result<Option<Kept>, JournalFault> {
+        if self.count.is_none() {
+            return Err(JournalFault::Disk);
+        }
+        let known = self.count;
+        self.count = None;
+        let entry = read(alloc, &mut self.store, &mut self.row, place)?;
+        self.count = known;
+        Ok(entry)
+    }
+}
+
+impl<S: ReopenStore> Reopen for StoreJournal<S> {
+    fn crash_and_reopen(&mut self, alloc: Global) -> Result<(), JournalFault> {
+        if !self.usable {
+            return Err(JournalFault::Disk);
+        }
+        self.count = None;
+        self.usable = false;
+        self.store.crash_and_reopen()?;
+        self.usable = true;
+        self.count = Some(count(alloc, &mut self.store, &mut self.row)?);
+        Ok(())
+    }
+}

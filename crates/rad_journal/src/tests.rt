@@ -1,0 +1,202 @@
+//! Journals over a store in memory, rows that are no entry's, and what is kept of an entry.
+ghost use Rattle.std.specs.Prelude.{IfOk};
+ghost use Rattle.sqlite_trees.specs.Memory.{memory_view};
+ghost use Rattle.rad_journal.specs.Stores.{IsFresh};
+
+use crate::journal::{JournalFault, Reopen};
+use crate::kept::Kept;
+use crate::no_journal::NoJournal;
+use crate::reading::entry;
+use crate::store_journal::StoreJournal;
+use rad_auth::Door;
+use rad_packet::{Body, Octets};
+use rad_server::{Answer, Entry};
+use sqlite_trees::memory::MemStore;
+use sqlite_trees::schema::Object;
+use sqlite_trees::store::Shape;
+use sqlite_value::row::Row;
+use sqlite_value::value::ValueRef;
+use std::alloc::{AllocError, Global};
+use std::process::Abort;
+use std::test::Fail;
+
+// A store that was just made, with the table.
+fn blank(alloc: Global) -> Result<MemStore, AllocError>
+    ensures { IfOk result (λ store. IsFresh (memory_view store)) }
+{
+    let table = Object {
+        shape: Shape::Table,
+        kind: "table",
+        name: "exchange",
+        table: "exchange",
+        reals: 0,
+        sql: None,
+    };
+    let store = MemStore::new(alloc, &[table])?;
+    Ok(store)
+}
+
+// An entry of a door, whose numbers differ from each other and from those of another moment.
+fn kept(alloc: Global, door: Door, moment: u64) -> Result<Kept, AllocError> {
+    Ok(Kept {
+        wall: moment.wrapping_add(1_700_000_000_000),
+        moment,
+        source: 0xC000_0201,
+        port: 50_000,
+        door,
+        draw: [7; 16],
+        octets: Octets::of(alloc, &[1, 2, 3])?,
+        answer: Octets::of(alloc, &[2])?,
+    })
+}
+
+// Asserts that the entry at a place is that of a door and a moment.
+fn assert_entry<J: Reopen>(
+    rt: &impl Abort,
+    alloc: Global,
+    journal: &mut J,
+    place: u32,
+    door: Door,
+    moment: u64,
+) -> Result<(), Fail> {
+    let Some(entry) = journal.entry(alloc, place)? else {
+        panic!(rt; "no entry at {place}");
+    };
+    assert_eq!(rt; entry.wall, moment.wrapping_add(1_700_000_000_000));
+    assert_eq!(rt; entry.moment, moment);
+    assert_eq!(rt; entry.source, 0xC000_0201);
+    assert_eq!(rt; entry.port, 50_000);
+    assert!(rt; entry.door == door);
+    assert!(rt; entry.draw == [7; 16]);
+    assert!(rt; entry.octets.octets() == [1, 2, 3].as_slice());
+    assert!(rt; entry.answer.octets() == [2].as_slice());
+    Ok(())
+}
+
+fn keep_and_crash<J: Reopen>(rt: &impl Abort, alloc: Global, journal: &mut J) -> Result<(), Fail> {
+    let mut entries = Vec::new(alloc);
+    entries.push(kept(alloc, Door::Auth, 5)?)?;
+    entries.push(kept(alloc, Door::Acct, 9)?)?;
+    journal.commit(&entries)?;
+    journal.crash_and_reopen(alloc)?;
+    journal.commit(&[])?;
+    journal.commit(&entries[..1])?;
+    assert_entry(rt, alloc, journal, 0, Door::Auth, 5)?;
+    assert_entry(rt, alloc, journal, 1, Door::Acct, 9)?;
+    assert_entry(rt, alloc, journal, 2, Door::Auth, 5)?;
+    assert!(rt; journal.entry(alloc, 3)?.is_none());
+    Ok(())
+}
+
+#[test]
+fn a_crash_leaves_what_was_kept(rt: HostRuntime) -> Result<(), Fail> {
+    let alloc = rt.alloc();
+    let mut journal = StoreJournal::open(alloc, blank(alloc)?)?;
+    keep_and_crash(&rt, alloc, &mut journal)
+}
+
+#[test]
+fn a_time_out_of_range_is_not_kept(rt: HostRuntime) -> Result<(), Fail> {
+    let alloc = rt.alloc();
+    let mut journal = StoreJournal::open(alloc, blank(alloc)?)?;
+    let mut entries = Vec::new(alloc);
+    entries.push(kept(alloc, Door::Auth, 5)?)?;
+    entries.push(kept(alloc, Door::Auth, 1 << 63)?)?;
+    assert_eq!(rt;
+        crate::Journal::commit(&mut journal, &entries).err(),
+        Some(JournalFault::Full)
+    );
+    assert_eq!(rt;
+        crate::Journal::commit(&mut journal, &[]).err(),
+        Some(JournalFault::Disk)
+    );
+    crate::Reopen::crash_and_reopen(&mut journal, alloc)?;
+    assert!(rt; crate::Journal::entry(&mut journal, alloc, 0)?.is_none());
+    Ok(())
+}
+
+#[test]
+fn no_journal_keeps_nothing(rt: HostRuntime) -> Result<(), Fail> {
+    let alloc = rt.alloc();
+    let mut journal = NoJournal;
+    let mut entries = Vec::new(alloc);
+    entries.push(kept(alloc, Door::Auth, 5)?)?;
+    crate::Journal::commit(&mut journal, &entries)?;
+    crate::Reopen::crash_and_reopen(&mut journal, alloc)?;
+    assert!(rt; crate::Journal::entry(&mut journal, alloc, 0)?.is_none());
+    Ok(())
+}
+
+// The row of an entry with another value in a column.
+fn row_with(alloc: Global, other: usize, value: ValueRef<'_>) -> Result<Row, AllocError> {
+    let mut row = Row::new(alloc);
+    for at in 0..9 {
+        let usual = match at {
+            0..=5 => ValueRef::Int(1),
+            6 => ValueRef::Blob(&[7; 16]),
+            _ => ValueRef::Blob(&[1, 2, 3]),
+        };
+        row.push(if at == other { value } else { usual })?;
+    }
+    Ok(row)
+}
+
+#[test]
+fn a_row_of_no_entry_is_refused(rt: HostRuntime) -> Result<(), Fail> {
+    let alloc = rt.alloc();
+    for (column, value, want) in [
+        (0, ValueRef::Int(1), None),
+        (1, ValueRef::Int(-1), Some(JournalFault::Damaged)),
+        (2, ValueRef::Null, Some(JournalFault::Damaged)),
+        (3, ValueRef::Int(1 << 32), Some(JournalFault::Damaged)),
+        (4, ValueRef::Int(65_536), Some(JournalFault::Damaged)),
+        (5, ValueRef::Int(2), Some(JournalFault::Damaged)),
+        (6, ValueRef::Blob(&[7; 15]), Some(JournalFault::Damaged)),
+        (7, ValueRef::Text(&[1, 2, 3]), Some(JournalFault::Damaged)),
+        (8, ValueRef::Null, Some(JournalFault::Damaged)),
+    ] {
+        let row = row_with(alloc, column, value)?;
+        assert_eq!(rt; entry(alloc, &row).err(), want, "column {column}");
+    }
+    Ok(())
+}
+
+#[test]
+fn a_reply_is_kept_and_busy_is_not(rt: HostRuntime) -> Result<(), Fail> {
+    let alloc = rt.alloc();
+    let mut body = Body::new(alloc, 2);
+    body.push(6, &[0, 0, 0, 2])?;
+    let mut entry = Entry {
+        tag: 1,
+        source: 2,
+        port: 3,
+        door: Door::Acct,
+        octets: Octets::of(alloc, &[4, 5])?,
+        moment: 6,
+        draw: [7; 16],
+        answer: Answer::Send(body),
+    };
+    let Some(kept) = Kept::of(alloc, 8, &entry)? else {
+        panic!(rt; "nothing is kept");
+    };
+    assert_eq!(rt; kept.wall, 8);
+    assert!(rt; kept.octets.octets() == [4, 5].as_slice());
+    assert!(rt; kept.answer.octets() == [2, 6, 6, 0, 0, 0, 2].as_slice());
+    entry.answer = Answer::Busy;
+    assert!(rt; Kept::of(alloc, 8, &entry)?.is_none());
+    Ok(())
+}
+
+#[test]
+fn faults_have_texts(rt: HostRuntime) -> Result<(), Fail> {
+    for (fault, want) in [
+        (JournalFault::NoMemory, "out of memory"),
+        (JournalFault::Disk, "the disk failed"),
+        (JournalFault::Damaged, "the journal is damaged"),
+        (JournalFault::Full, "the journal is full"),
+    ] {
+        let text = format!(in rt.alloc(); "{fault}")?;
+        assert_eq!(rt; text.as_str(), want);
+    }
+    Ok(())
+}
