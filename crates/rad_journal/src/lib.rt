@@ -1,7 +1,7 @@
 //! What a server keeps on a disk of its exchanges, over any store.
 //!
 //! `Kept` is an exchange as it is kept, and a `Journal` has those of each commit so far. `StoreJournal` is a journal in a table of any
-//! `Store` of the kit's SQLite, and `NoJournal` keeps nothing. Nothing here opens a file or reads a clock.
+//! `Store` of the toolchain's SQLite, and `NoJournal` keeps nothing. Nothing here opens a file or reads a clock.
 //!
 //! Other crates rest on this: a commit that answers Ok has kept all of its entries, each crash from then on leaves them, and a crash
 //! at any time leaves what was kept before a commit or that and all of its entries.
