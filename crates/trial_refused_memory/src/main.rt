@@ -227,6 +227,12 @@ const RUNS: &[(&str, Run)] = &[
         Run::Replay(replays::Call::Fault),
     ),
     ("Make::request", Run::Replay(replays::Call::Make)),
+    (
+        "push_datagram_text",
+        Run::Replay(replays::Call::PushDatagramText),
+    ),
+    ("push_address", Run::Replay(replays::Call::PushAddress)),
+    ("push_decimal", Run::Replay(replays::Call::PushDecimal)),
 ];
 
 fn judge<R: Threads + Wait + Sync + AllocGlobal>(rt: &R, run: Run) -> Verdict {

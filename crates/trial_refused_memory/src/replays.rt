@@ -2,14 +2,18 @@
 //!
 //! Neither the readers nor the writers take memory, so the allocations that can be refused are those of the calls.
 
+use crate::requests::NEMO;
 use crate::trial::{Called, Trial, Verdict, are_alike, begin, end, judge, keep};
-use rad_config::{ConfigFault, InputFault, Key, Part, Spot, read_text};
+use rad_auth::Arrival;
+use rad_config::{ConfigFault, InputFault, Key, MOMENT_MAX, Part, Spot, read_text};
 use rad_packet::Frame;
-use rad_replay::{Kind, Make, MakeFault, RunFault, run_replay};
+use rad_replay::{
+    Kind, Make, MakeFault, RunFault, push_address, push_datagram_text, push_decimal, run_replay,
+};
 use std::alloc::Global;
 use std::io;
 use std::io::{Read, Write};
-use test_common::CAMPUS;
+use test_common::{CAMPUS, CLIENT};
 
 #[derive(Clone, Copy)]
 pub(crate) enum Call {
@@ -18,6 +22,9 @@ pub(crate) enum Call {
     /// The configuration has a fault.
     Fault,
     Make,
+    PushDatagramText,
+    PushAddress,
+    PushDecimal,
 }
 
 /// The number of datagrams of the transcript.
@@ -62,6 +69,63 @@ pub(crate) fn judge_call(alloc: Global, call: Call) -> Verdict {
         Call::Replay => judge_replay(alloc),
         Call::Fault => judge_fault(alloc),
         Call::Make => judge(alloc, Some(MakeTrial { alloc, given: None })),
+        Call::PushDatagramText | Call::PushAddress | Call::PushDecimal => {
+            judge(alloc, Some(PushTrial::new(alloc, call)))
+        }
+    }
+}
+
+/// Something is appended to a text.
+#[derive(Drop)]
+struct PushTrial {
+    alloc: Global,
+    call: Call,
+    text: Vec<u8>,
+}
+
+impl PushTrial {
+    fn new(alloc: Global, call: Call) -> PushTrial {
+        PushTrial {
+            alloc,
+            call,
+            text: Vec::new(alloc),
+        }
+    }
+}
+
+impl Trial for PushTrial {
+    fn copy(&self) -> Option<PushTrial> {
+        Some(PushTrial::new(self.alloc, self.call))
+    }
+
+    fn is_like(&self, other: &PushTrial) -> bool {
+        self.text == other.text
+    }
+
+    // After a refusal a text may have a part of it, which a caller cuts off.
+    fn call(&mut self) -> Called {
+        let is_done = pushes(&mut self.text, self.call);
+        if !is_done {
+            self.text.clear();
+        }
+        Called::by(is_done)
+    }
+}
+
+// Whether there is memory for what is appended.
+fn pushes(text: &mut Vec<u8>, call: Call) -> bool {
+    match call {
+        Call::PushAddress => push_address(text, CLIENT).is_ok(),
+        Call::PushDecimal => push_decimal(text, u64::MAX).is_ok(),
+        _ => {
+            let arrival = Arrival {
+                source: CLIENT,
+                port: NEMO.port,
+                door: NEMO.door,
+                octets: NEMO.octets,
+            };
+            push_datagram_text(text, MOMENT_MAX, &arrival).is_ok()
+        }
     }
 }
 
