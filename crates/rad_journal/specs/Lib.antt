@@ -1,5 +1,6 @@
 pub mod Faults
 pub mod Kept
 pub mod Journals
+pub mod Restores
 pub mod Rows
 pub mod Stores

@@ -1,10 +1,12 @@
-//! What a server keeps on a disk of its exchanges, over any store.
+//! What a server keeps on a disk of its exchanges, over any store, and the server that it leads to.
 //!
 //! `Kept` is an exchange as it is kept, and a `Journal` has those of each commit so far. `StoreJournal` is a journal in a table of any
-//! `Store` of the toolchain's SQLite, and `NoJournal` keeps nothing. Nothing here opens a file or reads a clock.
+//! `Store` of the toolchain's SQLite, and `NoJournal` keeps nothing. `restore` steps a server through a journal. Nothing here opens a file
+//! or reads a clock.
 //!
 //! Other crates rest on this: a commit that answers Ok has kept all of its entries, each crash from then on leaves them, and a crash
-//! at any time leaves what was kept before a commit or that and all of its entries.
+//! at any time leaves what was kept before a commit or that and all of its entries. A server that is restored has run a history that is
+//! kept as the journal has it, and a fault of an entry says that there is none.
 #![tactic(auto)]
 
 mod append;
@@ -13,11 +15,15 @@ mod journal;
 mod kept;
 mod no_journal;
 mod reading;
+mod restore_fault;
+mod restoring;
 mod store_journal;
 
 pub use journal::{Journal, JournalFault, Reopen};
 pub use kept::Kept;
 pub use no_journal::NoJournal;
+pub use restore_fault::RestoreFault;
+pub use restoring::restore;
 pub use store_journal::StoreJournal;
 
 #[cfg(test)]

@@ -1,4 +1,4 @@
-//! Journals over a store in memory, rows that are no entry's, and what is kept of an entry.
+//! Journals over a store in memory, rows that are no entry's, what is kept of an entry, and servers restored from journals.
 ghost use Rattle.std.specs.Prelude.{IfOk};
 ghost use Rattle.sqlite_trees.specs.Memory.{memory_view};
 ghost use Rattle.rad_journal.specs.Stores.{IsFresh};
@@ -7,10 +7,13 @@ use crate::journal::{JournalFault, Reopen};
 use crate::kept::Kept;
 use crate::no_journal::NoJournal;
 use crate::reading::entry;
+use crate::restore_fault::RestoreFault;
+use crate::restoring::{admit, restore};
 use crate::store_journal::StoreJournal;
-use rad_auth::Door;
+use rad_auth::{Arrival, Door};
+use rad_config::Config;
 use rad_packet::{Body, Octets};
-use rad_server::{Answer, Entry};
+use rad_server::{Answer, Entry, Server};
 use sqlite_trees::memory::MemStore;
 use sqlite_trees::schema::Object;
 use sqlite_trees::store::Shape;
@@ -194,6 +197,148 @@ fn faults_have_texts(rt: HostRuntime) -> Result<(), Fail> {
         (JournalFault::Disk, "the disk failed"),
         (JournalFault::Damaged, "the journal is damaged"),
         (JournalFault::Full, "the journal is full"),
+    ] {
+        let text = format!(in rt.alloc(); "{fault}")?;
+        assert_eq!(rt; text.as_str(), want);
+    }
+    Ok(())
+}
+
+// A configuration with one client, one pool and one user.
+const TEXT: &str = r#"
+window = 30
+hold = 60
+
+[[client]]
+address = "192.168.1.16"
+secret = "xyzzy5461"
+
+[[pool]]
+name = "one"
+first = "10.0.0.1"
+last = "10.0.0.1"
+
+[[user]]
+name = "nemo"
+password = "arctangent"
+pool = "one"
+"#;
+
+// The Access-Request of RFC 2865, section 7.1: nemo's.
+const REQUEST: &[u8; 56] = b"\
+    \x01\x00\x00\x38\
+    \x0f\x40\x3f\x94\x73\x97\x80\x57\xbd\x83\xd5\xcb\x98\xf4\x22\x7a\
+    \x01\x06nemo\
+    \x02\x12\x0d\xbe\x70\x8d\x93\xd4\x13\xce\x31\x96\xe4\x3f\x78\x2a\x0a\xee\
+    \x04\x06\xc0\xa8\x01\x10\
+    \x05\x06\x00\x00\x00\x03";
+
+// Logs nemo in, if the request is admitted. Returns what is kept of it.
+fn log_in(alloc: Global, server: &mut Server) -> Result<Option<Kept>, AllocError> {
+    let arrival = Arrival {
+        source: 0xC0A8_0110,
+        port: 1645,
+        door: Door::Auth,
+        octets: REQUEST,
+    };
+    let Ok(request) = admit(server.config().clients(), arrival) else {
+        return Ok(None);
+    };
+    let answer = server.step(&request, 5000, &[7; 16])?;
+    let entry = Entry {
+        tag: 1,
+        source: request.source,
+        port: request.port,
+        door: request.door,
+        octets: Octets::of(alloc, REQUEST)?,
+        moment: 5000,
+        draw: [7; 16],
+        answer,
+    };
+    Kept::of(alloc, 1_700_000_000_000, &entry)
+}
+
+// Asserts that a journal leads to a server with nemo's session.
+fn assert_restored<J: Reopen>(
+    rt: &impl Abort,
+    alloc: Global,
+    journal: &mut J,
+    server: &Server,
+) -> Result<(), Fail> {
+    let mut restored = Server::open(alloc, server.config())?;
+    restore(alloc, journal, &mut restored)?;
+    assert!(rt; restored.same(server));
+    let session = restored.sessions().rows().next();
+    assert_eq!(rt;
+        session.and_then(|session| session.address),
+        Some(0x0A00_0001)
+    );
+    Ok(())
+}
+
+#[test]
+fn a_login_is_restored(rt: HostRuntime) -> Result<(), Fail> {
+    let alloc = rt.alloc();
+    let config = Config::read(alloc, TEXT)?;
+    let mut server = Server::open(alloc, &config)?;
+    let Some(kept) = log_in(alloc, &mut server)? else {
+        panic!(rt; "nothing is kept");
+    };
+    let mut journal = StoreJournal::open(alloc, blank(alloc)?)?;
+    crate::Journal::commit(&mut journal, &[kept])?;
+    assert_restored(&rt, alloc, &mut journal, &server)
+}
+
+// What restoring a server from a journal with this entry reports.
+fn fault_of(alloc: Global, config: &Config, kept: Kept) -> Result<Option<RestoreFault>, Fail> {
+    let mut journal = StoreJournal::open(alloc, blank(alloc)?)?;
+    crate::Journal::commit(&mut journal, &[kept])?;
+    let mut server = Server::open(alloc, config)?;
+    Ok(restore(alloc, &mut journal, &mut server).err())
+}
+
+#[test]
+fn an_altered_journal_is_refused(rt: HostRuntime) -> Result<(), Fail> {
+    let alloc = rt.alloc();
+    let config = Config::read(alloc, TEXT)?;
+    for (altered, want) in [
+        ("nothing", None),
+        ("answer", Some(RestoreFault::OtherAnswer { entry: 0 })),
+        ("source", Some(RestoreFault::NotAdmitted { entry: 0 })),
+        ("moment", Some(RestoreFault::TooLate { entry: 0 })),
+    ] {
+        let mut server = Server::open(alloc, &config)?;
+        let Some(mut kept) = log_in(alloc, &mut server)? else {
+            panic!(rt; "nothing is kept");
+        };
+        match altered {
+            "answer" => kept.answer = Octets::of(alloc, &[3])?,
+            "source" => kept.source = 0xC0A8_0111,
+            "moment" => kept.moment = (1 << 62) + 1,
+            _ => {}
+        }
+        assert_eq!(rt; fault_of(alloc, &config, kept)?, want, "{altered}");
+    }
+    Ok(())
+}
+
+#[test]
+fn faults_of_restoring_have_texts(rt: HostRuntime) -> Result<(), Fail> {
+    for (fault, want) in [
+        (RestoreFault::NoMemory, "out of memory"),
+        (RestoreFault::Journal(JournalFault::Disk), "the disk failed"),
+        (
+            RestoreFault::TooLate { entry: 1 },
+            "the moment of entry 1 is too late",
+        ),
+        (
+            RestoreFault::NotAdmitted { entry: 2 },
+            "the request of entry 2 is not admitted",
+        ),
+        (
+            RestoreFault::OtherAnswer { entry: 3 },
+            "the answer of entry 3 is another",
+        ),
     ] {
         let text = format!(in rt.alloc(); "{fault}")?;
         assert_eq!(rt; text.as_str(), want);

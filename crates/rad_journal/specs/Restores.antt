@@ -1,0 +1,59 @@
+-- What restoring a server from kept entries makes of it.
+use Rattle.std.specs.Prelude.{◌≡◌, List, [], ◌∷◌, Some}
+use Rattle.rad_auth.specs.Admission.{IsAdmitted, own_datagram}
+use Rattle.rad_auth.specs.Clients.{Client}
+use Rattle.rad_auth.specs.Datagrams.{Datagram}
+use Rattle.rad_auth.specs.declared.arrival.Request.{Request}
+use Rattle.rad_server.specs.Runs.{IsExchange, Run}
+use Rattle.rad_server.specs.Servers.{Server}
+use Rattle.rad_server.specs.declared.entry.Entry.{Entry}
+use Rattle.rad_journal.specs.Kept.{kept_by}
+use Rattle.rad_journal.specs.declared.kept.Kept.{Kept}
+use Rattle.rad_journal.specs.declared.restore_fault.RestoreFault.{RestoreFault}
+use Rattle.rad_journal.specs.declared.restore_fault.RestoreFault.TheVariants.{NoMemory, Journal, TooLate, NotAdmitted, OtherAnswer}
+
+-- the datagram that a kept request was, without padding
+abbrev pub datagram_of_kept : Kept → Datagram
+datagram_of_kept kept = record { source = kept.source; port = kept.port; door = kept.door; octets = kept.octets }
+
+-- what is kept of the entries, one by one and in their order, is this
+abbrev pub AreKept : List Entry → List Kept → Type 0
+AreKept [] [] = Unit {0}
+AreKept [] (kept ∷ others) = ⊥
+AreKept (entry ∷ rest) [] = ⊥
+AreKept (entry ∷ rest) (kept ∷ others) = (kept_by kept.wall entry ≡ Some kept) × AreKept rest others
+
+-- an entry leads from one server to another, and this is kept of it
+pub record IsStep (before : Server) (kept : Kept) (after : Server) : Type 0 where
+  pub entry : Entry
+  pub exchange : IsExchange before.configuration before.state entry after.state
+  pub is_kept : kept_by kept.wall entry ≡ Some kept
+
+-- a history leads from one server to another, and this is kept of it
+pub record IsRestored (before : Server) (kept : List Kept) (after : Server) : Type 0 where
+  pub history : List Entry
+  pub run : Run before.configuration before.state history after.state
+  pub are_kept : AreKept history kept
+
+-- ---- what cannot be restored
+
+-- no entry that is kept as this leads on from the server
+abbrev pub CannotStep : Server → Kept → Type 0
+CannotStep before kept = (after : Server) → IsStep before kept after → ⊥
+
+-- no history that is kept as this leads on from the server
+abbrev pub CannotRestore : Server → List Kept → Type 0
+CannotRestore before kept = (after : Server) → IsRestored before kept after → ⊥
+
+-- no request is the one that was kept
+abbrev pub IsNoRequest : List Client → Kept → Type 0
+IsNoRequest clients kept =
+    (request : Request) → IsAdmitted clients request → own_datagram request ≡ datagram_of_kept kept → ⊥
+
+-- the faults of an entry
+abbrev pub IsOfEntry : RestoreFault → Type 0
+IsOfEntry NoMemory = ⊥
+IsOfEntry (Journal reported) = ⊥
+IsOfEntry (TooLate entry) = Unit {0}
+IsOfEntry (NotAdmitted entry) = Unit {0}
+IsOfEntry (OtherAnswer entry) = Unit {0}
