@@ -1,6 +1,7 @@
 //! Rounds and turns of a service that remembers nothing yet.
 mod coming;
 mod datagrams;
+mod exchanges;
 mod gates;
 mod rounds;
 mod serving;
