@@ -61,17 +61,42 @@ row_of number entry =
     ∷ Blob entry.answer
     ∷ []
 
+-- the columns of a row, after its rowid
+abbrev pub at_wall : ℕ
+at_wall = 1
+
+abbrev pub at_moment : ℕ
+at_moment = 2
+
+abbrev pub at_source : ℕ
+at_source = 3
+
+abbrev pub at_port : ℕ
+at_port = 4
+
+abbrev pub at_door : ℕ
+at_door = 5
+
+abbrev pub at_draw : ℕ
+at_draw = 6
+
+abbrev pub at_octets : ℕ
+at_octets = 7
+
+abbrev pub at_answer : ℕ
+at_answer = 8
+
 -- the entry of a row that is one's
 abbrev pub entry_of : Row → Kept
 entry_of row = record {
-  wall = number_of (column row 1);
-  moment = number_of (column row 2);
-  source = number_of (column row 3);
-  port = number_of (column row 4);
-  door = door_of (number_of (column row 5));
-  draw = octets_of (column row 6);
-  octets = octets_of (column row 7);
-  answer = octets_of (column row 8);
+  wall = number_of (column row at_wall);
+  moment = number_of (column row at_moment);
+  source = number_of (column row at_source);
+  port = number_of (column row at_port);
+  door = door_of (number_of (column row at_door));
+  draw = octets_of (column row at_draw);
+  octets = octets_of (column row at_octets);
+  answer = octets_of (column row at_answer);
 }
 
 -- the rows of entries, numbered from here

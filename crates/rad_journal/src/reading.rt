@@ -5,7 +5,7 @@ ghost use Rattle.sqlite_value.specs.declared.value.Value.TheVariants.{Blob, Int}
 ghost use Rattle.sqlite_trees.specs.Tree.{Trees};
 ghost use Rattle.sqlite_trees.specs.View.{IsClean, KeepsSchema, doubt};
 ghost use Rattle.sqlite_trees.specs.declared.store.Shape.TheVariants.{Table};
-ghost use Rattle.rad_journal.specs.Rows.{IsLog, door_number, entries_of, entry_of, table};
+ghost use Rattle.rad_journal.specs.Rows.{IsLog, at_door, at_draw, at_port, at_source, door_number, entries_of, entry_of, table};
 
 use crate::append::{ACCT, AUTH, TABLE};
 use crate::journal::JournalFault;
@@ -114,7 +114,7 @@ pub(crate) fn entry(alloc: Global, row: &Row) -> Result<Kept, JournalFault>
 
 // The source address of a row.
 fn source(row: &Row) -> Result<u32, JournalFault>
-    ensures { IfOk result (λ n. column row.now 3 ≡ Int (pos n)) }
+    ensures { IfOk result (λ n. column row.now at_source ≡ Int (pos n)) }
 {
     match u32::try_from(number(row, SOURCE)?) {
         Ok(source) => Ok(source),
@@ -124,7 +124,7 @@ fn source(row: &Row) -> Result<u32, JournalFault>
 
 // The source port of a row.
 fn port(row: &Row) -> Result<u16, JournalFault>
-    ensures { IfOk result (λ n. column row.now 4 ≡ Int (pos n)) }
+    ensures { IfOk result (λ n. column row.now at_port ≡ Int (pos n)) }
 {
     match u16::try_from(number(row, PORT)?) {
         Ok(port) => Ok(port),
@@ -134,7 +134,7 @@ fn port(row: &Row) -> Result<u16, JournalFault>
 
 // The door of a row.
 fn door(row: &Row) -> Result<Door, JournalFault>
-    ensures { IfOk result (λ door. column row.now 5 ≡ Int (pos (door_number door))) }
+    ensures { IfOk result (λ door. column row.now at_door ≡ Int (pos (door_number door))) }
 {
     match number(row, DOOR)? {
         AUTH => Ok(Door::Auth),
@@ -158,7 +158,7 @@ fn number(row: &Row, at: usize) -> Result<u64, JournalFault>
 
 // The draw of a row.
 fn draw(row: &Row) -> Result<[u8; 16], JournalFault>
-    ensures { IfOk result (λ draw. column row.now 6 ≡ Blob draw) }
+    ensures { IfOk result (λ draw. column row.now at_draw ≡ Blob draw) }
 {
     let ValueRef::Blob(octets) = row.get(DRAW) else {
         return Err(JournalFault::Damaged);
