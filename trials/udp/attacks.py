@@ -2,7 +2,7 @@
 
 All of the good client's requests must be answered and, but in a flood that takes all of the server's time, half of them soon: within 20 ms,
 or within three times the time that half of them took without the attack, before it or after it. So that it isn't judged how busy the machine
-is, a trial is made anew, up to three times, until all is as it must be, and one whose attack was too weak each time isn't judged. All
+is, a trial is made anew, up to three times, until all is as it must be; of one whose attack was too weak each time the times aren't judged. All
 attackers and the good client are addresses of 127/8, which is one client's network; where one takes what all need, two of them are clients.
 """
 
@@ -170,7 +170,7 @@ def class_of(number):
 
 
 class Seen(NamedTuple):
-    """What a trial saw, whether it is as it must be, and whether the machine sent too little of an attack to judge by it."""
+    """What a trial saw, whether it is as it must be, and whether the machine sent too little of an attack to judge times by it."""
 
     line: str
     is_so: bool
@@ -183,32 +183,33 @@ def answered(what, seen):
     return Seen(line, seen.answered == seen.asked)
 
 
-def compared(what, seen, before, after):
-    """All must be answered, and the replies must take little longer than before and after."""
+def compared(what, seen, before, after, is_weak):
+    """All must be answered, and the replies must take little longer than before and after, unless the attack was weak."""
     line, is_so, _ = answered(what, seen)
     slower = max(before, after, key=lambda figures: figures.middle)
     times = seen.middle / slower.middle
     quiet = answered("without it", Figures(before.asked + after.asked, before.answered + after.answered, slower.middle))
-    is_soon = times <= SLOWER or seen.middle <= SOON
-    return Seen(f"{line}, {times:.1f} times as long; {quiet.line}", is_so and quiet.is_so and is_soon)
+    is_soon = is_weak or times <= SLOWER or seen.middle <= SOON
+    return Seen(f"{line}, {times:.1f} times as long; {quiet.line}", is_so and quiet.is_so and is_soon, is_weak)
 
 
 def tried(trial):
-    """Makes a trial up to three times, until what it saw is as it must be and no attack was too weak."""
+    """Makes a trial up to three times, until what it saw is as it must be and no attack was too weak; that all was answered must be seen."""
 
     @functools.wraps(trial)
     def made():
-        weak = 0
+        weak = so = 0
         for number in range(1, TRIES + 1):
             all_seen = trial()
             for seen in all_seen:
                 print(f"{seen.line} (try {number})", flush=True)
-            is_weak = any(seen.is_weak for seen in all_seen)
-            if all(seen.is_so for seen in all_seen) and not is_weak:
+            is_so, is_weak = all(seen.is_so for seen in all_seen), any(seen.is_weak for seen in all_seen)
+            if is_so and not is_weak:
                 return
             weak += is_weak
-        judge(weak == TRIES, f"all is as it must be in one of {TRIES} tries: {trial.__name__}")
-        print(f"{trial.__name__}: not judged, since this machine was too busy to attack")
+            so += is_so
+        judge(weak == TRIES and so > 0, f"all is as it must be in one of {TRIES} tries: {trial.__name__}")
+        print(f"{trial.__name__}: its times aren't judged, since this machine was too busy to attack")
 
     return made
 
@@ -265,8 +266,7 @@ def attacked(what, client, server, port, datagrams, rate):
     """What a client sees before, beside and after an attack of so many datagrams a second."""
     before = client(server)
     seen, sent = beside(client, server, port, datagrams, rate)
-    line, is_so, _ = compared(f"{what}, {sent} of {rate} a second", seen, before, client(server))
-    return Seen(line, is_so, sent < WEAKEST * rate)
+    return compared(f"{what}, {sent} of {rate} a second", seen, before, client(server), sent < WEAKEST * rate)
 
 
 def padding(octets):
@@ -339,7 +339,7 @@ def colliding_keys():
     A server that finds kept replies by either looks for these among thousands. That a server passes doesn't show that its hash has a key
     which others can't foresee: only that it is neither of these two.
     """
-    return [colliding_by("fold", "FoldHasher"), colliding_by("sip", "SipHash-1-3 under a key of zeros")]
+    return [*colliding_by("fold", "FoldHasher"), *colliding_by("sip", "SipHash-1-3 under a key of zeros")]
 
 
 def colliding_by(word, name):
@@ -349,7 +349,12 @@ def colliding_by(word, name):
         fill(server.auth, unsigned(keys, b"no"))
         # Those that came last are found last.
         log_ins = unsigned(reversed(keys), b"nor")
-        return attacked(f"log-ins beside others that collide by {name}", logging_in, server, server.auth, log_ins, 10_000)
+        seen = attacked(f"log-ins beside others that collide by {name}", logging_in, server, server.auth, log_ins, 10_000)
+        others = [(FILLER, 20_000 + at // 256, access_request(at % 256, b"u" * 20, b"no")) for at in range(PART)]
+        parts = [(spent(server, server.auth, unsigned(reversed(keys[-PART:]), bytes([at + 1]))), spent(server, server.auth, others))
+                 for at in range(PARTS)]
+    colliding, other = map(least, zip(*parts))
+    return [seen, beside_another(f"log-ins that collide by {name}", colliding, other, "another")]
 
 
 def unsigned(keys, password):
@@ -360,10 +365,10 @@ def cost_of_an_accounting_on():
     """An Accounting-On of a source costs about as much as an Interim-Update, whether it has no session or one."""
     with full_server() as server:
         parts = [costs(server, number * PART) for number in range(PARTS)]
-    update, nothing, one = (min(seen, key=lambda cost: cost.each) for seen in zip(*parts))
+    update, nothing, one = map(least, zip(*parts))
     return [
-        beside_another("Accounting-Ons that end nothing", nothing, update),
-        beside_another("Accounting-Ons that end a session", one, update),
+        beside_another("Accounting-Ons that end nothing", nothing, update, "an Interim-Update"),
+        beside_another("Accounting-Ons that end a session", one, update, "an Interim-Update"),
     ]
 
 
@@ -384,12 +389,19 @@ def costs(server, first):
 
 def cost(server, status, sources, first):
     """That of reports, one from each source, the first of this session."""
+    reports = ((source, 20_000, accounting_request(at % 256, status, class_of(first + at))) for at, source in enumerate(sources))
+    return spent(server, server.acct, reports)
+
+
+def spent(server, port, datagrams):
+    """That of datagrams to a port."""
     before = processor_time(server)
-    asked, replies = ask(
-        server.acct,
-        ((source, 20_000, accounting_request(at % 256, status, class_of(first + at))) for at, source in enumerate(sources)),
-    )
+    asked, replies = ask(port, datagrams)
     return Cost(asked, replies, (processor_time(server) - before) / asked)
+
+
+def least(costs):
+    return min(costs, key=lambda cost: cost.each)
 
 
 def processor_time(server):
@@ -403,10 +415,10 @@ def text_of(name):
         return file.read()
 
 
-def beside_another(what, cost, update):
-    times = cost.each / update.each
+def beside_another(what, cost, other, name):
+    times = cost.each / other.each
     line = f"{what}: {cost.answered} of {cost.asked} answered, {cost.each:.0f} µs of processor time each"
-    return Seen(f"{line}, {times:.1f} times as much as an Interim-Update", cost.answered == cost.asked and times <= SLOWER)
+    return Seen(f"{line}, {times:.1f} times as much as {name}", cost.answered == cost.asked and times <= SLOWER)
 
 
 class LogIns:
