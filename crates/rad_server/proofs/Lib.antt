@@ -1,5 +1,6 @@
 mod AddressLemmas
 mod DecisionLemmas
+mod FreshLemmas
 mod LawfulLemmas
 mod OccurrenceLemmas
 mod PassingLemmas

@@ -66,7 +66,7 @@ challenges_later earlier later table le =
     λ j. record { challenges = same j; next = table.next; hold = table.hold }
 
 -- the state at two moments, one after the other, is the one at the later of both
-at_both : (first second : ℕ) (state : State) → at_moment second (at_moment first state) ≡ at_moment (max first second) state
+pub at_both : (first second : ℕ) (state : State) → at_moment second (at_moment first state) ≡ at_moment (max first second) state
 at_both first second state =
     let once : ℕ = max state.clock first in
     let twice : ℕ = max once second in

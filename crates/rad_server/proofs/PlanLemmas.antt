@@ -1,5 +1,5 @@
 -- What a plan answers: a kept reply again, nothing at all, or a new reply.
-use Rattle.std.proofs.Common.{◌≡◌, ℕ, Bool, true, false, cond, List, [], ◌∷◌, find, All, Option, Some, None, IfSome, option_map, Result, Ok, Err, Bor, refl, sym, ap, ◌∙◌}
+use Rattle.std.proofs.Common.{◌≡◌, ℕ, Bool, true, false, not, ◌||◌, is_some, cond, List, [], ◌∷◌, find, All, Option, Some, None, IfSome, option_map, Result, Ok, Err, Bor, refl, sym, ap, ◌∙◌}
 use Rattle.std.specs.Prelude.{◌==◌, IfOk, option_copied, unwrap_or}
 use Rattle.std.proofs.lemmas.List.Elements.{All-head, All-tail}
 use Rattle.rad_packet.specs.Bodies.{Body}
@@ -11,11 +11,11 @@ use Rattle.rad_recent.specs.declared.kept.Kept.{Kept}
 use Rattle.rad_server.specs.Access.{Decision, decided, without_challenge}
 use Rattle.rad_server.specs.Decisions.{CanBeGiven, Gives, decision_of}
 use Rattle.rad_server.specs.FixedReplies.{fixed_body}
-use Rattle.rad_server.specs.Plans.{IsDecidedReply, IsNewReply}
+use Rattle.rad_server.specs.Plans.{IsDecidedReply, IsNewReply, IsPlanOf, is_new}
 use Rattle.rad_server.specs.Prepared.{IsBodyOf, IsFixed, fixed_reply}
 use Rattle.rad_server.specs.Shares.{lacks_room}
 use Rattle.rad_server.specs.States.{State}
-use Rattle.rad_server.specs.Steps.{answer, answer_with, key_of, reply_by_port, reply_kept, sent_and_kept, without_reply}
+use Rattle.rad_server.specs.Steps.{answer, answer_with, is_fresh, key_of, reply_by_port, reply_kept, sent_and_kept, without_reply}
 use Rattle.rad_server.specs.declared.access.Decision.{Decision as DecisionOfCode}
 use Rattle.rad_server.specs.declared.access.Decision.TheVariants as decisions
 use Rattle.rad_server.specs.declared.answer.Answer.TheVariants.{Send, Busy}
@@ -23,6 +23,8 @@ use Rattle.rad_server.specs.declared.change.Change.{Change}
 use Rattle.rad_server.specs.declared.denial.Denial.{Denial}
 use Rattle.rad_server.specs.declared.fixed_reply.FixedReply.{FixedReply}
 use Rattle.rad_server.specs.declared.plan.NewReply.{NewReply}
+use Rattle.rad_server.specs.declared.plan.Plan.{Plan}
+use Rattle.rad_server.specs.declared.plan.Plan.TheVariants as plans
 use Rattle.rad_server.specs.declared.rule.Rule.{Rule}
 
 -- what holds of each element holds of the one that is found
@@ -39,39 +41,53 @@ pub image_has : {X Y : Type 0} (P : Y → Type 0) (f : X → Y) (o : Option X) �
 image_has P f None holds = tt
 image_has P f (Some x) holds = holds
 
--- a repeat is answered by the kept reply
+-- a repeat is answered by the kept reply, and isn't fresh
 pub kept_again : (configuration : Configuration) (current : State) (request : Request) (draw : List ℕ) (body : Body) → (request.packet.code == code_status_server) ≡ false
-    → option_map (λ reply. reply.body) (reply_kept request current) ≡ Some body → answer configuration current request draw ≡ (Send body, current)
+    → option_map (λ reply. reply.body) (reply_kept request current) ≡ Some body
+    → (answer configuration current request draw ≡ (Send body, current)) × (is_fresh configuration current request ≡ false)
 kept_again configuration current request draw body other found = rw (other) (at (reply_kept request current) found)
   where
-    at : (o : Option Kept) → option_map (λ reply. reply.body) o ≡ Some body → answer_with configuration current request draw o ≡ (Send body, current)
+    at : (o : Option Kept) → option_map (λ reply. reply.body) o ≡ Some body
+        → (answer_with configuration current request draw o ≡ (Send body, current))
+        × (not (is_some o || lacks_room configuration request.client (without_reply request current).replies) ≡ false)
     at None e = absurd cc
-    at (Some reply) e = ap (λ (o : Option Body). (Send (body_or o), current)) e
+    at (Some reply) e = (ap (λ (o : Option Body). (Send (body_or o), current)) e, refl)
       where
         body_or : Option Body → Body
         body_or None = body
         body_or (Some found) = found
 
--- without room for one more reply, a request that is no repeat isn't answered
+-- without room for one more reply, a request that is no repeat isn't answered, and isn't fresh
 pub no_answer : (configuration : Configuration) (current : State) (request : Request) (draw : List ℕ) → (request.packet.code == code_status_server) ≡ false
     → option_map (λ reply. reply.body) (reply_kept request current) ≡ None → lacks_room configuration request.client (without_key (key_of request) current.replies) ≡ true
-    → answer configuration current request draw ≡ (Busy, without_reply request current)
+    → (answer configuration current request draw ≡ (Busy, without_reply request current)) × (is_fresh configuration current request ≡ false)
 no_answer configuration current request draw other found full = rw (other) (at (reply_kept request current) found)
   where
-    at : (o : Option Kept) → option_map (λ reply. reply.body) o ≡ None → answer_with configuration current request draw o ≡ (Busy, without_reply request current)
+    at : (o : Option Kept) → option_map (λ reply. reply.body) o ≡ None
+        → (answer_with configuration current request draw o ≡ (Busy, without_reply request current))
+        × (not (is_some o || lacks_room configuration request.client (without_reply request current).replies) ≡ false)
     at (Some reply) e = absurd cc
-    at None e = rw (full) refl
+    at None e = rw (full) (refl, refl)
 
--- with room, it is answered by the rule of its port, and the reply is kept
+-- with room, it is fresh, and answered by the rule of its port, and the reply is kept
 pub new_answer : (configuration : Configuration) (current : State) (request : Request) (draw : List ℕ) → (request.packet.code == code_status_server) ≡ false
     → option_map (λ reply. reply.body) (reply_kept request current) ≡ None → lacks_room configuration request.client (without_key (key_of request) current.replies) ≡ false
-    → answer configuration current request draw ≡ sent_and_kept request (reply_by_port request.door configuration (without_reply request current) request draw)
+    → (answer configuration current request draw ≡ sent_and_kept request (reply_by_port request.door configuration (without_reply request current) request draw))
+    × (is_fresh configuration current request ≡ true)
 new_answer configuration current request draw other found room = rw (other) (at (reply_kept request current) found)
   where
     at : (o : Option Kept) → option_map (λ reply. reply.body) o ≡ None
-        → answer_with configuration current request draw o ≡ sent_and_kept request (reply_by_port request.door configuration (without_reply request current) request draw)
+        → (answer_with configuration current request draw o ≡ sent_and_kept request (reply_by_port request.door configuration (without_reply request current) request draw))
+        × (not (is_some o || lacks_room configuration request.client (without_reply request current).replies) ≡ true)
     at (Some reply) e = absurd cc
-    at None e = rw (room) refl
+    at None e = rw (room) (refl, refl)
+
+-- a plan tells whether its request is fresh
+pub plan_tells_fresh : (configuration : Configuration) (current : State) (request : Request) (draw : List ℕ) (plan : Plan) → IsPlanOf configuration current request draw plan
+    → is_new plan ≡ is_fresh configuration current request
+plan_tells_fresh configuration current request draw (plans.Unchanged body) planned = sym planned.1
+plan_tells_fresh configuration current request draw plans.Busy planned = sym planned.1
+plan_tells_fresh configuration current request draw (plans.New reply kept) planned = sym planned.fresh
 
 -- ---- new replies
 

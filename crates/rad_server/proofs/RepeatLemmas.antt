@@ -207,9 +207,9 @@ new_in_force clients window now entry (Send body) lasts = rw (lt-ltb now (now + 
 -- ---- the rules
 
 -- a rule by which a request is answered leaves the clock and the kept replies as they are
-record LeavesReplies (before after : State) : Type 0 where
-  clock : after.clock ≡ before.clock
-  replies : after.replies ≡ before.replies
+pub record LeavesReplies (before after : State) : Type 0 where
+  pub clock : after.clock ≡ before.clock
+  pub replies : after.replies ≡ before.replies
 
 -- to take a challenge away leaves them
 challenge_leaves : (client : ℕ) (value : Option (List ℕ)) (state : State) → LeavesReplies state (without_challenge client value state)
@@ -231,7 +231,7 @@ access_leaves configuration state request draw (Ok credentials) =
     decided_leaves configuration state (without_challenge request.client credentials.state state) request draw _ (challenge_leaves request.client credentials.state state)
 
 -- so does the rule of each port
-reply_leaves : (door : Door) (configuration : Configuration) (state : State) (request : Request) (draw : List ℕ)
+pub reply_leaves : (door : Door) (configuration : Configuration) (state : State) (request : Request) (draw : List ℕ)
     → LeavesReplies state (reply_by_port door configuration state request draw).1
 reply_leaves Auth configuration state request draw = access_leaves configuration state request draw (credentials_in request.packet.attributes)
 reply_leaves Acct configuration state request draw = record { clock = refl; replies = refl }

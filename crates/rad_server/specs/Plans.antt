@@ -1,5 +1,5 @@
 -- What a plan says. No other crate cites these.
-use Rattle.std.specs.Prelude.{◌≡◌, ℕ, List, Some, option_copied, Result, IfOk}
+use Rattle.std.specs.Prelude.{◌≡◌, ℕ, Bool, false, true, List, Some, option_copied, Result, IfOk}
 use Rattle.rad_packet.specs.Bodies.{Body}
 use Rattle.rad_packet.specs.Packets.{packet_octets}
 use Rattle.rad_auth.specs.declared.arrival.Request.{Request}
@@ -8,7 +8,7 @@ use Rattle.rad_recent.specs.declared.kept.Kept.{Kept}
 use Rattle.rad_server.specs.Access.{Decision, decided, without_challenge}
 use Rattle.rad_server.specs.Decisions.{CanBeGiven, Gives, decision_of}
 use Rattle.rad_server.specs.States.{State}
-use Rattle.rad_server.specs.Steps.{answer, key_of, reply_by_port, sent_and_kept, without_reply}
+use Rattle.rad_server.specs.Steps.{answer, is_fresh, key_of, reply_by_port, sent_and_kept, without_reply}
 use Rattle.rad_server.specs.declared.access.Decision.{Decision as DecisionOfCode}
 use Rattle.rad_server.specs.declared.denial.Denial.{Denial}
 use Rattle.rad_server.specs.declared.answer.Answer.{Answer}
@@ -41,8 +41,9 @@ pub record IsToBeKept (now : ℕ) (request : Request) (body : Body) (kept : Kept
   pub says : kept.body ≡ body
   pub made : kept.made ≡ now
 
--- a new reply and what is kept of it answer a request that is no repeat
+-- a new reply and what is kept of it answer a fresh request
 pub record IsNewAnswer (configuration : Configuration) (current : State) (request : Request) (draw : List ℕ) (reply : NewReply) (kept : Kept) : Type 0 where
+  pub fresh : is_fresh configuration current request ≡ true
   pub answered : answer configuration current request draw
       ≡ sent_and_kept request (reply_by_port request.door configuration (without_reply request current) request draw)
   pub rule : IsNewReply configuration current request draw reply
@@ -50,8 +51,10 @@ pub record IsNewAnswer (configuration : Configuration) (current : State) (reques
 
 -- a plan says the answer to a request in the current state, and what the next state is
 abbrev pub IsPlanOf : Configuration → State → Request → List ℕ → Plan → Type 0
-IsPlanOf configuration current request draw (plans.Unchanged body) = answer configuration current request draw ≡ (Send body, current)
-IsPlanOf configuration current request draw plans.Busy = answer configuration current request draw ≡ (Busy, without_reply request current)
+IsPlanOf configuration current request draw (plans.Unchanged body) =
+    (answer configuration current request draw ≡ (Send body, current)) × (is_fresh configuration current request ≡ false)
+IsPlanOf configuration current request draw plans.Busy =
+    (answer configuration current request draw ≡ (Busy, without_reply request current)) × (is_fresh configuration current request ≡ false)
 IsPlanOf configuration current request draw (plans.New reply kept) = IsNewAnswer configuration current request draw reply kept
 
 -- the answer of a plan
@@ -59,6 +62,12 @@ abbrev pub planned_answer : Plan → Answer
 planned_answer (plans.Unchanged body) = Send body
 planned_answer plans.Busy = Busy
 planned_answer (plans.New reply kept) = Send reply.body
+
+-- whether a plan is that of a fresh request
+abbrev pub is_new : Plan → Bool
+is_new (plans.Unchanged body) = false
+is_new plans.Busy = false
+is_new (plans.New reply kept) = true
 
 -- memory is ready for a plan
 abbrev pub IsReadyForPlan : Plan → Tables → Type 0

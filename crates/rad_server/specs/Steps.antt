@@ -1,7 +1,7 @@
 -- The step of the server: from a configuration, a state and an admitted request, with its moment in milliseconds and its draw
 -- of 16 octets, to the answer and the next state. A repeated request gets the reply that is kept (RFC 2865, section 3; RFC 5080,
 -- section 2.2.2); that Accounting-Requests are treated alike is our choice.
-use Rattle.std.specs.Prelude.{ℕ, ◌==◌, if◌then◌else◌, List, Option, Some, None}
+use Rattle.std.specs.Prelude.{ℕ, ◌==◌, ◌||◌, not, if◌then◌else◌, is_some, Bool, List, Option, Some, None}
 use Rattle.rad_packet.specs.Bodies.{Body}
 use Rattle.rad_packet.specs.Codes.{code_status_server}
 use Rattle.rad_packet.specs.Packets.{packet_octets}
@@ -85,6 +85,13 @@ answer configuration current request draw =
 -- the answer to a request at a moment, and the state after it
 abbrev pub step : Configuration → State → Request → ℕ → List ℕ → Answer × State
 step configuration state request moment draw = answer configuration (at_moment moment state) request draw
+
+-- Whether a request in the current state is fresh: it gets a new reply, which is kept. Status-Servers and repeats aren't, nor is what gets
+-- no reply for want of room.
+abbrev pub is_fresh : Configuration → State → Request → Bool
+is_fresh configuration current request = not ((request.packet.code == code_status_server)
+    || (is_some (reply_kept request current)
+    || lacks_room configuration request.client (without_reply request current).replies))
 
 -- an answer that is sent says what a reply may say
 abbrev pub IsSealable : Answer → Type 0

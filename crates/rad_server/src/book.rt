@@ -91,7 +91,8 @@ impl<'c> Book<'c> {
         let octets = Octets::of(*alloc, request.packet.octets())?;
         let prepared = Prepared::of(server.config(), request);
         let ask = Ask::new(tag, &prepared, &octets, moment, draw);
-        exchange(server, history, ask)
+        let (entry, _is_fresh) = exchange(server, history, ask)?;
+        Ok(entry)
     }
 
     /// The server as it was when the book was opened.

@@ -1,6 +1,6 @@
 //! An exchange on a server and its history.
-ghost use Rattle.std.specs.Prelude.{◌≡◌, [], ◌∷◌, ◌++◌, IfOk, OnErr};
-ghost use Rattle.rad_server.specs.Runs.{GoesOn, IsAsked};
+ghost use Rattle.std.specs.Prelude.{◌≡◌, [], ◌∷◌, ◌++◌, IfOk, OnErr, OnOk};
+ghost use Rattle.rad_server.specs.Runs.{GoesOn, IsAsked, MarksGoOn};
 ghost use Rattle.rad_server.specs.Steps.{IsSealable, step};
 
 use crate::ask::Ask;
@@ -8,7 +8,7 @@ use crate::entry::Entry;
 use crate::server::Server;
 use std::alloc::AllocError;
 
-/// Steps a server and appends an entry to its history. Returns an equal entry.
+/// Steps a server and appends an entry to its history. Returns an equal entry, and whether its request was fresh.
 ///
 /// The request was prepared under the server's configuration. The rest is as for `Server::step`. If memory is refused, nothing has
 /// changed.
@@ -17,18 +17,20 @@ pub fn exchange(
     server: &mut Server,
     history: &mut Vec<Entry>,
     ask: Ask,
-) -> Result<Entry, AllocError>
+) -> Result<(Entry, bool), AllocError>
     requires { ask.prepared.now.configuration ≡ server.old.configuration }
-    ensures appended { IfOk result (λ entry.
-        history.new.items ≡ history.old.items ++ entry ∷ []) }
-    ensures asked { IfOk result (IsAsked ask.entry.tag ask.entry.prepared.now.request
-        ask.entry.moment ask.entry.draw.now) }
-    ensures answered { IfOk result (λ entry. step server.old.configuration server.old.state
+    ensures appended { IfOk result (λ made.
+        history.new.items ≡ history.old.items ++ made.0 ∷ []) }
+    ensures asked { IfOk result (λ made. IsAsked ask.entry.tag ask.entry.prepared.now.request
+        ask.entry.moment ask.entry.draw.now made.0) }
+    ensures answered { IfOk result (λ made. step server.old.configuration server.old.state
         ask.entry.prepared.now.request ask.entry.moment ask.entry.draw.now
-        ≡ (entry.answer, server.new.state)) }
-    ensures sealable { IfOk result (λ entry. IsSealable entry.answer) }
-    ensures goes_on { IfOk result (λ entry.
-        GoesOn history.old.items server.old history.new.items server.new) }
+        ≡ (made.0.answer, server.new.state)) }
+    ensures sealable { IfOk result (λ made. IsSealable made.0.answer) }
+    ensures goes_on { OnOk result
+        (GoesOn history.old.items server.old history.new.items server.new) }
+    ensures marked { IfOk result (λ made.
+        MarksGoOn history.old.items server.old made.0 made.1 server.new) }
     ensures configuration { server.new.configuration ≡ server.old.configuration }
     ensures server { OnErr result (server.new ≡ server.old) }
     ensures history { OnErr result (history.new.items ≡ history.old.items) }
@@ -43,7 +45,7 @@ pub fn exchange(
     let first_copy = octets.copy()?;
     let second_copy = octets.copy()?;
     history.reserve(1)?;
-    let (answer, answer_copy) = server.step_with_copy(prepared, Some(octets), moment, draw)?;
+    let stepped = server.step_with_copy(prepared, Some(octets), moment, draw)?;
     let request = prepared.request();
     history.push_reserved(Entry {
         tag,
@@ -53,9 +55,9 @@ pub fn exchange(
         octets: first_copy,
         moment,
         draw: *draw,
-        answer: answer_copy,
+        answer: stepped.copy,
     });
-    Ok(Entry {
+    let entry = Entry {
         tag,
         source: request.source,
         port: request.port,
@@ -63,6 +65,7 @@ pub fn exchange(
         octets: second_copy,
         moment,
         draw: *draw,
-        answer,
-    })
+        answer: stepped.answer,
+    };
+    Ok((entry, stepped.is_fresh))
 }

@@ -47,5 +47,5 @@ pub use history::exchange;
 pub use lawful::lawful_steps;
 pub use prepared::{Prepared, prepare8};
 pub use rad_rows::HashKey;
-pub use runs::{runs_are_lawful, runs_repeat, time_passes_unseen};
+pub use runs::{fresh_are_enough, runs_are_lawful, runs_repeat, time_passes_unseen};
 pub use server::Server;

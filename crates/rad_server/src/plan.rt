@@ -8,7 +8,7 @@ ghost use Rattle.rad_config.specs.Configurations.{Configuration};
 ghost use Rattle.rad_config.specs.Spans.{moment_max};
 ghost use Rattle.rad_server.specs.Decisions.{place_given};
 ghost use Rattle.rad_server.specs.FixedReplies.{fixed_body};
-ghost use Rattle.rad_server.specs.Plans.{IsDecidedReply, IsNewReply, IsPlanOf, planned_answer};
+ghost use Rattle.rad_server.specs.Plans.{IsDecidedReply, IsNewReply, IsPlanOf, is_new, planned_answer};
 ghost use Rattle.rad_server.specs.Prepared.{IsRuled};
 ghost use Rattle.rad_server.specs.States.{State};
 ghost use Rattle.rad_server.specs.TableStates.{AreUsable, live_state};
@@ -60,6 +60,13 @@ impl Plan<'_> {
             Plan::Busy => Ok(Answer::Busy),
             Plan::New(reply, _) => Ok(Answer::Send(reply.body.copy()?)),
         }
+    }
+
+    /// Whether it is that of a fresh request.
+    pub fn is_fresh(&self) -> bool
+        ensures { result ≡ is_new self.now }
+    {
+        matches!(self, Plan::New(..))
     }
 }
 

@@ -6,7 +6,7 @@ ghost use Rattle.rad_config.specs.Ranges.{IsConfiguration};
 ghost use Rattle.rad_config.specs.Spans.{moment_max};
 ghost use Rattle.rad_server.specs.Lawful.{IsLawful};
 ghost use Rattle.rad_server.specs.States.{at_moment, opening};
-ghost use Rattle.rad_server.specs.Steps.{IsSealable, step};
+ghost use Rattle.rad_server.specs.Steps.{IsSealable, is_fresh, step};
 
 use crate::answer::Answer;
 use crate::commit::{commit, make_room};
@@ -31,6 +31,16 @@ pub struct Server<'c> {
     config: &'c Config,
     clock: u64,
     tables: Tables,
+}
+
+/// What a step gave.
+#[derive(Drop)]
+pub(crate) struct Stepped {
+    pub answer: Answer,
+    /// An equal answer.
+    pub copy: Answer,
+    /// Whether the request was fresh.
+    pub is_fresh: bool,
 }
 
 // Written out, so that for those who hold a server its end is one step.
@@ -153,11 +163,11 @@ impl<'c> Server<'c> {
         ensures unchanged { OnErr result (self.new ≡ self.old) }
     {
         let prepared = Prepared::of(self.config, request);
-        let (answer, _copy) = self.step_with_copy(&prepared, None, moment, draw)?;
-        Ok(answer)
+        let stepped = self.step_with_copy(&prepared, None, moment, draw)?;
+        Ok(stepped.answer)
     }
 
-    /// The step of a prepared request, and a copy of its answer: the memory for it is there before the state changes.
+    /// The step of a prepared request. The memory for the copy of its answer is there before the state changes.
     ///
     /// What is kept shares the body, and the octets if they are given: those of the request up to Length.
     pub(crate) fn step_with_copy(
@@ -166,16 +176,18 @@ impl<'c> Server<'c> {
         octets: Option<&Octets>,
         moment: u64,
         draw: &[u8; 16],
-    ) -> Result<(Answer, Answer), AllocError>
+    ) -> Result<Stepped, AllocError>
         requires moment { moment ≤ moment_max }
         requires prepared { prepared.now.configuration ≡ self.old.configuration }
         requires octets { IfSome octets
             (λ octets. octets.now ≡ packet_octets prepared.now.request.packet) }
-        ensures answered { IfOk result (λ answers.
+        ensures answered { IfOk result (λ stepped.
             step self.old.configuration self.old.state prepared.now.request moment draw.now
-            ≡ (answers.0, self.new.state)) }
-        ensures copy { IfOk result (λ answers. answers.1 ≡ answers.0) }
-        ensures sealable { IfOk result (λ answers. IsSealable answers.0) }
+            ≡ (stepped.answer, self.new.state)) }
+        ensures copy { IfOk result (λ stepped. stepped.copy ≡ stepped.answer) }
+        ensures fresh { IfOk result (λ stepped. stepped.is_fresh ≡ is_fresh
+            self.old.configuration (at_moment moment self.old.state) prepared.now.request) }
+        ensures sealable { IfOk result (λ stepped. IsSealable stepped.answer) }
         ensures configuration { self.new.configuration ≡ self.old.configuration }
         ensures unchanged { OnErr result (self.new ≡ self.old) }
     {
@@ -192,9 +204,14 @@ impl<'c> Server<'c> {
         let plan = plan_step(*alloc, tables, now, prepared, octets, draw)?;
         let copy = plan.answer()?;
         make_room(tables, &plan)?;
+        let is_fresh = plan.is_fresh();
         *clock = now;
         let answer = commit(config, tables, now, request, draw, plan);
-        Ok((answer, copy))
+        Ok(Stepped {
+            answer,
+            copy,
+            is_fresh,
+        })
     }
 
     /// Lets time pass up to a moment that is no request's: the clock goes on, and what is no longer live is removed.

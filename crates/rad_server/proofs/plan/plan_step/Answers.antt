@@ -38,8 +38,10 @@ returns-clause-planned c =
     let none : option_map (λ reply. reply.body) (reply_kept c.args.prepared.now.request current) ≡ None = search rules in
     let room : lacks_room c.args.prepared.now.configuration c.args.prepared.now.request.client (without_key (key_of c.args.prepared.now.request) current.replies) ≡ false
     = rw (c.config.ensures, c.key_of-key.ensures, c.request-request.ensures.value) at (sym c.lacks_room.ensures ∙ c.if-lacks_room.false) in
+    let new = new_answer c.args.prepared.now.configuration current c.args.prepared.now.request c.args.draw.now (search rules) none room in
     record {
-      answered = new_answer c.args.prepared.now.configuration current c.args.prepared.now.request c.args.draw.now (search rules) none room;
+      fresh = new.1;
+      answered = new.0;
       rule = search rules;
       keeps = search rules;
     }
