@@ -1,6 +1,7 @@
 //! Exchanges as they are kept.
 ghost use Rattle.std.specs.Prelude.{◌≡◌, ◌∷◌, IfOk};
 ghost use Rattle.rad_packet.specs.Attributes.{attributes_octets};
+ghost use Rattle.rad_server.specs.Runs.{counted};
 ghost use Rattle.rad_journal.specs.Kept.{kept_by};
 
 use rad_auth::Door;
@@ -13,7 +14,7 @@ use std::alloc::{AllocError, Global};
 pub struct Kept {
     /// The wall time of the request, in milliseconds since 1970.
     pub wall: u64,
-    /// The moment of the request, in milliseconds.
+    /// The moment at which the request counted, in milliseconds.
     pub moment: u64,
     /// The source address, most significant octet first.
     pub source: u32,
@@ -30,11 +31,17 @@ pub struct Kept {
 }
 
 impl Kept {
-    /// What is kept of an entry: nothing where its answer is Busy.
+    /// What is kept of an entry that came when the clock showed this: nothing where its answer is Busy.
     ///
-    /// `wall` is in milliseconds since 1970. Octets that the entry shares take no memory.
-    pub fn of(alloc: Global, wall: u64, entry: &Entry) -> Result<Option<Kept>, AllocError>
-        ensures { IfOk result (λ kept. kept ≡ kept_by wall entry.now) }
+    /// A clock doesn't go back: an entry with an earlier moment counts, and is kept, at the clock. `wall` is in milliseconds since 1970.
+    /// Octets that the entry shares take no memory.
+    pub fn of(
+        alloc: Global,
+        wall: u64,
+        clock: u64,
+        entry: &Entry,
+    ) -> Result<Option<Kept>, AllocError>
+        ensures { IfOk result (λ kept. kept ≡ kept_by wall (counted clock entry.now)) }
     {
         let Answer::Send(body) = &entry.answer else {
             return Ok(None);
@@ -42,7 +49,7 @@ impl Kept {
         let answer = octets_of_body(alloc, body)?;
         Ok(Some(Kept {
             wall,
-            moment: entry.moment,
+            moment: clock.max(entry.moment),
             source: entry.source,
             port: entry.port,
             door: entry.door,

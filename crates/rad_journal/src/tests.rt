@@ -179,14 +179,15 @@ fn a_reply_is_kept_and_busy_is_not(rt: HostRuntime) -> Result<(), Fail> {
         draw: [7; 16],
         answer: Answer::Send(body),
     };
-    let Some(kept) = Kept::of(alloc, 8, &entry)? else {
+    let Some(kept) = Kept::of(alloc, 8, 5, &entry)? else {
         panic!(rt; "nothing is kept");
     };
     assert_eq!(rt; kept.wall, 8);
+    assert_eq!(rt; kept.moment, 6);
     assert!(rt; kept.octets.octets() == [4, 5].as_slice());
     assert!(rt; kept.answer.octets() == [2, 6, 6, 0, 0, 0, 2].as_slice());
     entry.answer = Answer::Busy;
-    assert!(rt; Kept::of(alloc, 8, &entry)?.is_none());
+    assert!(rt; Kept::of(alloc, 8, 5, &entry)?.is_none());
     Ok(())
 }
 
@@ -244,6 +245,7 @@ fn log_in(alloc: Global, server: &mut Server) -> Result<Option<Kept>, AllocError
     let Ok(request) = admit(server.config().clients(), arrival) else {
         return Ok(None);
     };
+    let clock = server.clock();
     let answer = server.step(&request, 5000, &[7; 16])?;
     let entry = Entry {
         tag: 1,
@@ -255,7 +257,7 @@ fn log_in(alloc: Global, server: &mut Server) -> Result<Option<Kept>, AllocError
         draw: [7; 16],
         answer,
     };
-    Kept::of(alloc, 1_700_000_000_000, &entry)
+    Kept::of(alloc, 1_700_000_000_000, clock, &entry)
 }
 
 // Asserts that a journal leads to a server with nemo's session.
