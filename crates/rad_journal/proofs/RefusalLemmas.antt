@@ -27,7 +27,7 @@ record IsKeptAs (entry : Entry) (kept : Kept) : Type 0 where
   draw : entry.draw ≡ kept.draw
   answer : answer_octets entry.answer ≡ Some kept.answer
 
-abbrev as_kept : ℕ → Entry → List ℕ → Kept
+abbrev pub as_kept : ℕ → Entry → List ℕ → Kept
 as_kept wall entry answer = record {
   wall = wall;
   moment = entry.moment;

@@ -1,5 +1,5 @@
 -- What is kept of an exchange.
-use Rattle.std.specs.Prelude.{ℕ, List, ◌∷◌, Option, None, Some, option_map}
+use Rattle.std.specs.Prelude.{◌≡◌, ℕ, Bool, false, List, ◌∷◌, All, filter_map, Option, None, Some, option_map}
 use Rattle.rad_packet.specs.Attributes.{attributes_octets}
 use Rattle.rad_server.specs.declared.answer.Answer.{Answer}
 use Rattle.rad_server.specs.declared.answer.Answer.TheVariants.{Send, Busy}
@@ -25,3 +25,11 @@ kept_by wall entry = option_map
       answer = answer;
     })
     (answer_octets entry.answer)
+
+-- what is kept of entries, in their order: nothing of one without a reply
+abbrev pub kept_of : ℕ → List Entry → List Kept
+kept_of wall entries = filter_map (kept_by wall) entries
+
+-- no mark says that its entry is fresh
+abbrev pub NoneIsFresh : List Bool → Type 0
+NoneIsFresh marks = All (λ mark. mark ≡ false) marks

@@ -1,13 +1,15 @@
 -- What restoring a server from kept entries makes of it.
-use Rattle.std.specs.Prelude.{◌≡◌, List, [], ◌∷◌, Some}
+use Rattle.std.specs.Prelude.{◌≡◌, ℕ, List, [], ◌∷◌, All, Some}
+use Rattle.rad_packet.specs.Bodies.{Body}
 use Rattle.rad_auth.specs.Admission.{IsAdmitted, own_datagram}
 use Rattle.rad_auth.specs.Clients.{Client}
 use Rattle.rad_auth.specs.Datagrams.{Datagram}
 use Rattle.rad_auth.specs.declared.arrival.Request.{Request}
 use Rattle.rad_server.specs.Runs.{IsExchange, Run}
 use Rattle.rad_server.specs.Servers.{Server}
+use Rattle.rad_server.specs.declared.answer.Answer.TheVariants.{Send}
 use Rattle.rad_server.specs.declared.entry.Entry.{Entry}
-use Rattle.rad_journal.specs.Kept.{kept_by}
+use Rattle.rad_journal.specs.Kept.{kept_by, kept_of}
 use Rattle.rad_journal.specs.declared.kept.Kept.{Kept}
 use Rattle.rad_journal.specs.declared.restore_fault.RestoreFault.{RestoreFault}
 use Rattle.rad_journal.specs.declared.restore_fault.RestoreFault.TheVariants.{NoMemory, Journal, TooLate, NotAdmitted, OtherAnswer}
@@ -22,6 +24,11 @@ AreKept [] [] = Unit {0}
 AreKept [] (kept ∷ others) = ⊥
 AreKept (entry ∷ rest) [] = ⊥
 AreKept (entry ∷ rest) (kept ∷ others) = (kept_by kept.wall entry ≡ Some kept) × AreKept rest others
+
+-- entries that each got a reply are what `kept_of` keeps of them
+abbrev pub RepliedAreKept : Type 0
+RepliedAreKept = (wall : ℕ) (entries : List Entry) → All (λ entry. (body : Body) × (entry.answer ≡ Send body)) entries
+    → AreKept entries (kept_of wall entries)
 
 -- an entry leads from one server to another, and this is kept of it
 pub record IsStep (before : Server) (kept : Kept) (after : Server) : Type 0 where

@@ -1,6 +1,6 @@
 //! What a server keeps on a disk of its exchanges, over any store, and the server that it leads to.
 //!
-//! `Kept` is an exchange as it is kept, and a `Journal` has those of each commit so far. `StoreJournal` is a journal in a table of any
+//! `Kept` is an exchange as it is kept, `keep` makes those of a turn, and a `Journal` has those of each commit so far. `StoreJournal` is a journal in a table of any
 //! `Store` of the toolchain's SQLite, and `NoJournal` keeps nothing. `restore` steps a server through a journal. Nothing here opens a file
 //! or reads a clock.
 //!
@@ -12,6 +12,7 @@
 mod append;
 mod checking;
 mod journal;
+mod keeping;
 mod kept;
 mod no_journal;
 mod reading;
@@ -20,6 +21,7 @@ mod restoring;
 mod store_journal;
 
 pub use journal::{Journal, JournalFault, Reopen};
+pub use keeping::{keep, kept_are_restored};
 pub use kept::Kept;
 pub use no_journal::NoJournal;
 pub use restore_fault::RestoreFault;
