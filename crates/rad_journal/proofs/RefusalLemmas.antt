@@ -17,8 +17,10 @@ use Rattle.rad_server.specs.Steps.{step}
 use Rattle.rad_server.specs.declared.answer.Answer.{Answer}
 use Rattle.rad_server.specs.declared.entry.Entry.{Entry}
 use Rattle.rad_journal.specs.Kept.{answer_octets, kept_by}
-use Rattle.rad_journal.specs.Restores.{AreKept, CannotRestore, CannotStep, IsNoRequest, IsRestored, datagram_of_kept}
+use Rattle.rad_journal.specs.Restores.{AreKept, CannotRestore, CannotStep, HasReason, IsNoRequest, IsRestored, datagram_of_kept}
 use Rattle.rad_journal.specs.declared.kept.Kept.{Kept}
+use Rattle.rad_journal.specs.declared.restore_fault.RestoreFault.{RestoreFault}
+use Rattle.rad_journal.specs.declared.restore_fault.RestoreFault.TheVariants.{NoMemory, Journal, TooLate, NotAdmitted, OtherAnswer}
 
 -- what was kept of an entry is in it
 record IsKeptAs (entry : Entry) (kept : Kept) : Type 0 where
@@ -73,17 +75,17 @@ same_exchange configuration state request kept entry after admitted own exchange
 
 -- ---- no step
 
-pub too_late : (before : Server) (kept : Kept) → moment_max < kept.moment → CannotStep before kept
+too_late : (before : Server) (kept : Kept) → moment_max < kept.moment → CannotStep before kept
 too_late before kept late after s =
     let parts = kept_as kept.wall s.entry kept s.is_kept in
     absurd (omega (arith, late, parts.moment, s.exchange.asked.moment))
 
-pub not_admitted : (before : Server) (kept : Kept) → IsNoRequest before.configuration.clients kept → CannotStep before kept
+not_admitted : (before : Server) (kept : Kept) → IsNoRequest before.configuration.clients kept → CannotStep before kept
 not_admitted before kept none after s =
     let parts = kept_as kept.wall s.entry kept s.is_kept in
     none s.exchange.request s.exchange.asked.admitted (s.exchange.asked.own ∙ parts.datagram)
 
-pub other_answer : (before : Server) (kept : Kept) (request : Request) (answer : Answer) (next : State)
+other_answer : (before : Server) (kept : Kept) (request : Request) (answer : Answer) (next : State)
     → IsAdmitted before.configuration.clients request → own_datagram request ≡ datagram_of_kept kept
     → step before.configuration before.state request kept.moment kept.draw ≡ (answer, next)
     → (answer_octets answer ≡ Some kept.answer → ⊥) → CannotStep before kept
@@ -92,6 +94,15 @@ other_answer before kept request answer next admitted own stepped other after s 
     let there = same_exchange before.configuration before.state request kept s.entry after.state admitted own s.exchange s.is_kept in
     let same : answer ≡ s.entry.answer = ap (λ (x : Answer × State). x.0) (sym stepped ∙ there) in
     other (ap (λ (a : Answer). answer_octets a) same ∙ parts.answer)
+
+-- an entry that fails for a reason is no step
+pub cannot_step : (fault : RestoreFault) (before : Server) (kept : Kept) (after : Server) → HasReason fault before kept after → CannotStep before kept
+cannot_step NoMemory before kept after is = absurd is
+cannot_step (Journal reported) before kept after is = absurd is
+cannot_step (TooLate entry) before kept after is = too_late before kept is.0
+cannot_step (NotAdmitted entry) before kept after is = not_admitted before kept is.1
+cannot_step (OtherAnswer entry) before kept after is =
+    other_answer before kept is.request is.answer after.state is.admitted is.own is.answered is.differs
 
 -- ---- no history
 

@@ -1,15 +1,18 @@
 -- What restoring a server from kept entries makes of it.
-use Rattle.std.specs.Prelude.{◌≡◌, ℕ, List, [], ◌∷◌, All, Some}
+use Rattle.std.specs.Prelude.{◌≡◌, ◌≤◌, ◌<◌, ℕ, List, [], ◌∷◌, take, slice_get, All, Some}
 use Rattle.rad_packet.specs.Bodies.{Body}
 use Rattle.rad_auth.specs.Admission.{IsAdmitted, own_datagram}
 use Rattle.rad_auth.specs.Clients.{Client}
 use Rattle.rad_auth.specs.Datagrams.{Datagram}
 use Rattle.rad_auth.specs.declared.arrival.Request.{Request}
+use Rattle.rad_config.specs.Spans.{moment_max}
 use Rattle.rad_server.specs.Runs.{IsExchange, Run}
 use Rattle.rad_server.specs.Servers.{Server}
+use Rattle.rad_server.specs.Steps.{step}
+use Rattle.rad_server.specs.declared.answer.Answer.{Answer}
 use Rattle.rad_server.specs.declared.answer.Answer.TheVariants.{Send}
 use Rattle.rad_server.specs.declared.entry.Entry.{Entry}
-use Rattle.rad_journal.specs.Kept.{kept_by, kept_of}
+use Rattle.rad_journal.specs.Kept.{answer_octets, kept_by, kept_of}
 use Rattle.rad_journal.specs.declared.kept.Kept.{Kept}
 use Rattle.rad_journal.specs.declared.restore_fault.RestoreFault.{RestoreFault}
 use Rattle.rad_journal.specs.declared.restore_fault.RestoreFault.TheVariants.{NoMemory, Journal, TooLate, NotAdmitted, OtherAnswer}
@@ -64,3 +67,45 @@ IsOfEntry (Journal reported) = ⊥
 IsOfEntry (TooLate entry) = Unit {0}
 IsOfEntry (NotAdmitted entry) = Unit {0}
 IsOfEntry (OtherAnswer entry) = Unit {0}
+
+-- the place of the entry that a fault is of
+abbrev pub place_of : RestoreFault → ℕ
+place_of NoMemory = 0
+place_of (Journal reported) = 0
+place_of (TooLate entry) = entry
+place_of (NotAdmitted entry) = entry
+place_of (OtherAnswer entry) = entry
+
+-- ---- where restoring stops
+
+-- the step of the request that was kept gives another answer, and leads from one server to another
+pub record IsAnsweredOtherwise (before : Server) (kept : Kept) (after : Server) : Type 0 where
+  pub request : Request
+  pub own : own_datagram request ≡ datagram_of_kept kept
+  pub admitted : IsAdmitted before.configuration.clients request
+  pub moment : kept.moment ≤ moment_max
+  pub answer : Answer
+  pub answered : step before.configuration before.state request kept.moment kept.draw ≡ (answer, after.state)
+  pub configuration : after.configuration ≡ before.configuration
+  pub differs : answer_octets answer ≡ Some kept.answer → ⊥
+
+-- why a kept entry fails at a server, and the server after that; the moment is looked at first
+abbrev pub HasReason : RestoreFault → Server → Kept → Server → Type 0
+HasReason NoMemory before kept after = ⊥
+HasReason (Journal reported) before kept after = ⊥
+HasReason (TooLate entry) before kept after = (moment_max < kept.moment) × (after ≡ before)
+HasReason (NotAdmitted entry) before kept after =
+    (kept.moment ≤ moment_max) × IsNoRequest before.configuration.clients kept × (after ≡ before)
+HasReason (OtherAnswer entry) before kept after = IsAnsweredOtherwise before kept after
+
+-- the entries before a fault's are restored, and its entry fails at the server that they lead to
+pub record StopsAt (fault : RestoreFault) (before : Server) (kept : List Kept) (after : Server) : Type 0 where
+  pub reached : Server
+  pub entry : Kept
+  pub restored : IsRestored before (take (place_of fault) kept) reached
+  pub next : slice_get kept (place_of fault) ≡ Some entry
+  pub reason : HasReason fault reached entry after
+
+-- some first entries are restored
+abbrev pub IsBegun : Server → List Kept → Server → Type 0
+IsBegun before kept after = (count : ℕ) × IsRestored before (take count kept) after

@@ -3,7 +3,7 @@ ghost use Rattle.std.specs.Prelude.{◌≡◌, ◌↔◌, List, Some, IfErr, IfN
 ghost use Rattle.rad_auth.specs.Admission.{IsAdmitted, admission, own_datagram};
 ghost use Rattle.rad_auth.specs.Datagrams.{datagram_of};
 ghost use Rattle.rad_journal.specs.Kept.{answer_octets};
-ghost use Rattle.rad_journal.specs.Restores.{CannotRestore, CannotStep, IsNoRequest, IsOfEntry, IsRestored, IsStep, datagram_of_kept};
+ghost use Rattle.rad_journal.specs.Restores.{CannotRestore, HasReason, IsBegun, IsNoRequest, IsOfEntry, IsRestored, IsStep, StopsAt, datagram_of_kept, place_of};
 ghost use Rattle.rad_journal.specs.declared.kept.Kept.{Kept};
 
 use crate::journal::{Journal, JournalFault};
@@ -16,8 +16,9 @@ use std::alloc::Global;
 
 /// Steps a server through the entries of a journal, from the first to the last. Each has to be answered as it was.
 ///
-/// The clients are those of the server's configuration. At `Err` the server may have been stepped through some first entries. A fault
-/// of an entry says that no history of this server is kept as the journal has it.
+/// The clients are those of the server's configuration. At `Err` the server has been stepped through some first entries: up to the one
+/// that a fault names, and at `OtherAnswer` through that too. A fault of an entry says that no history of this server is kept as the
+/// journal has it.
 #[tactic(auto, using(crate::proofs::RunLemmas::restored_next, crate::proofs::RunLemmas::restored_all))]
 pub fn restore<J: Journal>(
     alloc: Global,
@@ -29,6 +30,10 @@ pub fn restore<J: Journal>(
         → IsRestored server.old (J.kept journal.old) server.new) }
     ensures refused { IfErr result (λ fault. IsOfEntry fault → J.is_clean journal.new
         → CannotRestore server.old (J.kept journal.old)) }
+    ensures first { IfErr result (λ fault. IsOfEntry fault → J.is_clean journal.new
+        → StopsAt fault server.old (J.kept journal.old) server.new) }
+    ensures begun { IfErr result (λ fault. ¬ IsOfEntry fault → J.is_clean journal.new
+        → IsBegun server.old (J.kept journal.old) server.new) }
     ensures configuration { server.new.configuration ≡ server.old.configuration }
     ensures kept { OnOk result (J.is_clean journal.new → J.kept journal.new ≡ J.kept journal.old) }
     ensures open { OnOk result (J.is_clean journal.new
@@ -48,8 +53,10 @@ pub fn restore<J: Journal>(
 // Steps a server through the entry at a place.
 fn step_again(server: &mut Server, kept: &Kept, place: u32) -> Result<(), RestoreFault>
     ensures step { OnOk result (IsStep server.old kept.now server.new) }
-    ensures refused { IfErr result (λ fault. IsOfEntry fault
-        → CannotStep server.old kept.now) }
+    ensures place { IfErr result (λ fault. IsOfEntry fault → place_of fault ≡ place) }
+    ensures reason { IfErr result (λ fault. IsOfEntry fault
+        → HasReason fault server.old kept.now server.new) }
+    ensures unchanged { IfErr result (λ fault. ¬ IsOfEntry fault → server.new ≡ server.old) }
     ensures configuration { server.new.configuration ≡ server.old.configuration }
 {
     if MOMENT_MAX < kept.moment {
