@@ -6,6 +6,14 @@ use Rattle.sqlite_trees.specs.declared.store.Shape.TheVariants.{Table}
 use Rattle.rad_journal.specs.Rows.{table, entries_of, IsLog}
 use Rattle.rad_journal.specs.declared.kept.Kept.{Kept}
 
+-- the entries of the last commit
+abbrev pub kept_in : View → List Kept
+kept_in view = entries_of (view.committed table)
+
+-- a crash may leave these entries
+abbrev pub MayLeave : (Trees → Type 0) → List Kept → Type 0
+MayLeave recovers left = (db : Trees) × recovers db × (left ≡ entries_of (db table))
+
 -- Each outcome of a crash is a log. A store that is usable may be opened again. Where the count is known, nothing is pending, and it
 -- counts the entries.
 pub record IsSound (view : View) (recovers : Trees → Type 0) (usable : Bool) (count : Option ℕ) : Type 0 where
@@ -15,18 +23,18 @@ pub record IsSound (view : View) (recovers : Trees → Type 0) (usable : Bool) (
   pub known : IsSome count → IsTrue usable
   pub settled : IsSome count → view.trees ≡ view.committed
   pub log : IsSome count → IsLog (view.committed table)
-  pub counted : (n : ℕ) → count ≡ Some n → length (entries_of (view.committed table)) ≡ n
+  pub counted : (n : ℕ) → count ≡ Some n → length (kept_in view) ≡ n
 
 -- entries were added and committed
 pub record IsAdded (old new : View) (entries : List Kept) : Type 0 where
   pub was_open : IsTrue old.is_open
   pub is_open : IsTrue new.is_open
-  pub added : entries_of (new.committed table) ≡ entries_of (old.committed table) ++ entries
+  pub added : kept_in new ≡ kept_in old ++ entries
 
 -- what a crash leaves was left before, or has the entries added
 abbrev pub LeavesAdded : View → (Trees → Type 0) → (Trees → Type 0) → List Kept → Type 0
 LeavesAdded view old new entries = (db : Trees) → new db
-    → old db ⊎ (entries_of (db table) ≡ entries_of (view.committed table) ++ entries)
+    → old db ⊎ (entries_of (db table) ≡ kept_in view ++ entries)
 
 -- only cursors may differ
 abbrev pub OnlyReads : View → View → Type 0

@@ -1,6 +1,6 @@
 //! Journals: what outlives a crash.
 ghost use Rattle.std.specs.Prelude.{◌≡◌, ◌⊎◌, ◌++◌, List, Bool, slice_get, IfOk, OnOk};
-ghost use Rattle.rad_journal.specs.Journals.{Only, added};
+ghost use Rattle.rad_journal.specs.Journals.{added};
 ghost use Rattle.rad_journal.specs.Faults.{fault_of};
 ghost use Rattle.rad_journal.specs.declared.journal.JournalFault.TheVariants.{NoMemory};
 ghost use Rattle.rad_journal.specs.declared.kept.Kept.{Kept};
@@ -97,7 +97,7 @@ pub trait Journal {
 
     /// While it is open, a crash leaves what was kept and nothing else.
     ghost settled: { (journal : Self) → is_open journal
-        → Only (kept journal) (may_leave journal) };
+        → (left : List Kept) → may_leave journal left → left ≡ kept journal };
 }
 
 /// A journal that can be made to crash, and is then opened again.

@@ -1,10 +1,10 @@
 //! A journal in a table of a store.
-ghost use Rattle.std.specs.Prelude.{◌≡◌, ◌≤◌, true, IsTrue, IsSome};
+ghost use Rattle.std.specs.Prelude.{◌≡◌, true, IsTrue, IsSome};
 ghost use Rattle.std.proofs.Common.{◌∙◌, ap};
 ghost use Rattle.sqlite_trees.specs.Tree.{Trees};
-ghost use Rattle.sqlite_trees.specs.View.{IsClean, doubt};
+ghost use Rattle.sqlite_trees.specs.View.{IsClean};
 ghost use Rattle.rad_journal.specs.Rows.{entries_of, table};
-ghost use Rattle.rad_journal.specs.Stores.{IsSound};
+ghost use Rattle.rad_journal.specs.Stores.{IsSound, MayLeave, kept_in};
 
 use crate::append::add;
 use crate::checking::check;
@@ -32,8 +32,9 @@ pub struct StoreJournal<S: Store> {
 }
 
 impl<S: Store + Drop> StoreJournal<S> {
-    ghost use Rattle.std.specs.Prelude.{IfOk};
+    ghost use Rattle.std.specs.Prelude.{IfOk, List};
     ghost use Rattle.rad_journal.specs.Stores.{IsFresh};
+    ghost use Rattle.rad_journal.specs.declared.kept.Kept.{Kept};
 
     /// The journal of a store that was just opened, if its rows are those of entries.
     ///
@@ -43,12 +44,11 @@ impl<S: Store + Drop> StoreJournal<S> {
         ensures opened { IfOk result (λ journal. IsClean (S.view journal.store)
             → IsTrue (S.view journal.store).is_open × IsSome journal.count) }
         ensures kept { IfOk result (λ journal. IsClean (S.view journal.store)
-            → entries_of ((S.view journal.store).committed table)
-            ≡ entries_of ((S.view store).committed table)) }
+            → kept_in (S.view journal.store) ≡ kept_in (S.view store)) }
         ensures clean { IfOk result (λ journal.
-            doubt (S.view store).is_clean ≤ doubt (S.view journal.store).is_clean) }
-        ensures crash { IfOk result (λ journal. (db : Trees)
-            → S.recovers journal.store db → S.recovers store db) }
+            IsClean (S.view journal.store) → IsClean (S.view store)) }
+        ensures crash { IfOk result (λ journal. (left : List Kept)
+            → MayLeave (S.recovers journal.store) left → MayLeave (S.recovers store) left) }
     {
         let mut store = store;
         let count = check(alloc, &mut store)?;
@@ -64,10 +64,9 @@ impl<S: Store + Drop> StoreJournal<S> {
 impl<S: Store> Journal for StoreJournal<S> {
     ghost keeps = { true };
 
-    ghost kept = { λ journal. entries_of ((S.view journal.store).committed table) };
+    ghost kept = { λ journal. kept_in (S.view journal.store) };
 
-    ghost may_leave = { λ journal left. (db : Trees) × S.recovers journal.store db
-        × (left ≡ entries_of (db table)) };
+    ghost may_leave = { λ journal. MayLeave (S.recovers journal.store) };
 
     ghost is_clean = { λ journal. IsClean (S.view journal.store) };
 
