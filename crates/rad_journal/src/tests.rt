@@ -4,6 +4,7 @@ ghost use Rattle.sqlite_trees.specs.Memory.{memory_view};
 ghost use Rattle.rad_journal.specs.Stores.{IsFresh};
 
 use crate::journal::{JournalFault, Reopen};
+use crate::keeping::keep;
 use crate::kept::Kept;
 use crate::no_journal::NoJournal;
 use crate::reading::entry;
@@ -234,30 +235,48 @@ const REQUEST: &[u8; 56] = b"\
     \x04\x06\xc0\xa8\x01\x10\
     \x05\x06\x00\x00\x00\x03";
 
-// Logs nemo in, if the request is admitted. Returns what is kept of it.
-fn log_in(alloc: Global, server: &mut Server) -> Result<Option<Kept>, AllocError> {
+// The Status-Server of RFC 5997, section 6.1.
+const STATUS: &[u8; 38] = b"\
+    \x0c\xda\x00\x26\
+    \x8a\x54\xf4\x68\x6f\xb3\x94\xc5\x28\x66\xe3\x02\x18\x5d\x06\x23\
+    \x50\x12\x5a\x66\x5e\x2e\x1e\x84\x11\xf3\xe2\x43\x82\x20\x97\xc8\x4f\xa3";
+
+// The entry of a request at a moment, if the request is admitted.
+fn ask(
+    alloc: Global,
+    server: &mut Server,
+    octets: &[u8],
+    moment: u32,
+) -> Result<Option<Entry>, AllocError> {
     let arrival = Arrival {
         source: 0xC0A8_0110,
         port: 1645,
         door: Door::Auth,
-        octets: REQUEST,
+        octets,
     };
     let Ok(request) = admit(server.config().clients(), arrival) else {
         return Ok(None);
     };
-    let clock = server.clock();
-    let answer = server.step(&request, 5000, &[7; 16])?;
-    let entry = Entry {
+    let moment = u64::from(moment);
+    let answer = server.step(&request, moment, &[7; 16])?;
+    Ok(Some(Entry {
         tag: 1,
         source: request.source,
         port: request.port,
         door: request.door,
-        octets: Octets::of(alloc, REQUEST)?,
-        moment: 5000,
+        octets: Octets::of(alloc, octets)?,
+        moment,
         draw: [7; 16],
         answer,
+    }))
+}
+
+// Logs nemo in, if the request is admitted. Returns what is kept of it.
+fn log_in(alloc: Global, server: &mut Server) -> Result<Option<Kept>, AllocError> {
+    let Some(entry) = ask(alloc, server, REQUEST, 5000)? else {
+        return Ok(None);
     };
-    Kept::of(alloc, 1_700_000_000_000, clock, &entry)
+    Kept::of(alloc, 1_700_000_000_000, 0, &entry)
 }
 
 // Asserts that a journal leads to a server with nemo's session.
@@ -289,6 +308,63 @@ fn a_login_is_restored(rt: HostRuntime) -> Result<(), Fail> {
     let mut journal = StoreJournal::open(alloc, blank(alloc)?)?;
     crate::Journal::commit(&mut journal, &[kept])?;
     assert_restored(&rt, alloc, &mut journal, &server)
+}
+
+// A turn: a login, its repeat, a Status-Server, and a login of another Identifier at an earlier moment.
+fn turn(alloc: Global, server: &mut Server) -> Result<Vec<Entry>, AllocError> {
+    let mut again = *REQUEST;
+    again[1] = 1;
+    let requests: [(&[u8], u32); 4] = [
+        (REQUEST, 5000),
+        (REQUEST, 6000),
+        (STATUS, 7000),
+        (&again, 4000),
+    ];
+    let mut history = Vec::new(alloc);
+    for (octets, moment) in requests {
+        if let Some(entry) = ask(alloc, server, octets, moment)? {
+            history.push(entry)?;
+        }
+    }
+    Ok(history)
+}
+
+#[test]
+fn what_is_fresh_of_a_turn_is_kept(rt: HostRuntime) -> Result<(), Fail> {
+    let alloc = rt.alloc();
+    let config = Config::read(alloc, TEXT)?;
+    let mut server = Server::open(alloc, &config)?;
+    let history = turn(alloc, &mut server)?;
+    if history.len() != 4 {
+        panic!(rt; "a request is not admitted");
+    }
+    let kept = keep(alloc, 8, 0, &history, &[true, false, false, true])?;
+    let [login, other] = kept.as_slice() else {
+        panic!(rt; "not two entries are kept");
+    };
+    assert_eq!(rt; login.moment, 5000);
+    assert_eq!(rt; other.moment, 7000);
+    let none = keep(alloc, 8, 0, &history, &[false; 4])?;
+    assert!(rt; none.is_empty());
+
+    let mut journal = StoreJournal::open(alloc, blank(alloc)?)?;
+    crate::Journal::commit(&mut journal, &kept)?;
+    let mut restored = Server::open(alloc, &config)?;
+    restore(alloc, &mut journal, &mut restored)?;
+    assert_eq!(rt; restored.clock(), 7000);
+    assert!(rt; restored.same(&server));
+    let answer = ask(alloc, &mut server, REQUEST, 8000)?;
+    let other = ask(alloc, &mut restored, REQUEST, 8000)?;
+    assert!(rt; is_same(&answer, &other));
+    Ok(())
+}
+
+// Whether both are the same entry.
+fn is_same(entry: &Option<Entry>, other: &Option<Entry>) -> bool {
+    match (entry, other) {
+        (Some(entry), Some(other)) => entry.same(other),
+        _ => false,
+    }
 }
 
 // What restoring a server from a journal with this entry reports.
