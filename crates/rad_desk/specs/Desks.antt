@@ -1,6 +1,6 @@
 -- Desks: what a desk keeps under its lock.
-use Rattle.std.specs.Prelude.{◌≡◌, ℕ, List, [], ◌∷◌, ◌++◌, length, None}
-use Rattle.rad_server.specs.Runs.{IsHistory}
+use Rattle.std.specs.Prelude.{◌≡◌, ℕ, Bool, List, [], ◌∷◌, ◌++◌, length, None}
+use Rattle.rad_server.specs.Runs.{IsHistory, IsMarkedHistory}
 use Rattle.rad_config.specs.Configurations.{Configuration}
 use Rattle.rad_server.specs.Servers.{Server}
 use Rattle.rad_server.specs.States.{opening}
@@ -17,9 +17,11 @@ pub record IsBlankOf (blank_name blank_parts name parts passes : ℕ) : Type 0 w
   pub same_parts : blank_parts ≡ parts
   pub part_each : blank_parts ≡ passes
 
--- the history leads from the opening to the server, the ledger's total is its length, and the share that is left has no part
-pub record IsConsistent (opening : Server) (history : List Entry) (server : Server) (total parts amount : ℕ) : Type 0 where
+-- the history leads from the opening to the server and has these marks, the ledger's total is its length, and the share that is left has no
+-- part
+pub record IsConsistent (opening : Server) (history : List Entry) (marks : List Bool) (server : Server) (total parts amount : ℕ) : Type 0 where
   pub run : IsHistory opening history server
+  pub marked : IsMarkedHistory opening history marks server
   pub counted : total ≡ length history
   pub no_part : parts ≡ 0
   pub no_amount : amount ≡ 0

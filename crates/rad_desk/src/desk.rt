@@ -8,7 +8,7 @@ ghost use Rattle.rad_desk.specs.Passes.{AddsReceipt, AreNew};
 ghost use Rattle.rad_desk.specs.Settlements.{Agrees, Disagrees, receipt_count};
 ghost use Rattle.rad_desk.specs.declared.mismatch.Mismatch.{Mismatch};
 
-use crate::locked::Locked;
+use crate::locked::{Locked, Unlocked};
 use crate::mismatch::Mismatch;
 use crate::opened::Opened;
 use crate::pass::Pass;
@@ -52,7 +52,8 @@ impl<'c, L: Opened> Desk<'c, L> {
         let copy = server.copy()?;
         let (total, mut rest) = blank.open::<L>();
         let all = split(alloc, &mut rest, passes)?;
-        let lock = Mutex::new(Locked::new(copy, Vec::new(alloc), total, rest));
+        let locked = Locked::new(copy, Vec::new(alloc), Vec::new(alloc), total, rest);
+        let lock = Mutex::new(locked);
         Ok((Desk { opening, lock }, all))
     }
 
@@ -132,7 +133,13 @@ fn close<'c, L: Opened>(locked: Locked<'c, L>, passes: Vec<Pass<L>>) -> Result<C
     ensures complete { vec_len passes ≡ L.parts → result ≢ Err Mismatch.Count }
 {
     let verdict = compare(locked.history(), passes.as_slice());
-    let (history, server, mut total, rest) = locked.into_parts();
+    let Unlocked {
+        history,
+        server,
+        mut total,
+        rest,
+        ..
+    } = locked.into_parts();
     let mut all = merged(passes, rest);
     total.audit(&mut all);
     verdict?;

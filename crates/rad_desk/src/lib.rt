@@ -18,7 +18,7 @@ mod settling;
 
 pub use desk::{Desk, PASSES_MAX};
 #[doc(hidden)]
-pub use locked::Locked;
+pub use locked::{Locked, Unlocked};
 pub use mismatch::Mismatch;
 pub use opened::Opened;
 pub use pass::Pass;

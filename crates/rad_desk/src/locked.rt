@@ -1,6 +1,6 @@
 //! What lies under the desk's lock.
 ghost use Rattle.std.specs.Prelude.{◌≡◌, ◌+◌, [], length, OnErr, OnOk, IfOk};
-ghost use Rattle.rad_server.specs.Runs.{IsAsked, IsHistory};
+ghost use Rattle.rad_server.specs.Runs.{IsAsked, IsHistory, IsMarkedHistory};
 ghost use Rattle.rad_server.specs.Steps.{IsSealable};
 ghost use Rattle.rad_desk.specs.Desks.{Appends};
 
@@ -11,13 +11,15 @@ use std::alloc::AllocError;
 use std::marker::Model;
 use std::sync::ledger::{self, Share};
 
-/// A server and its history, and the total of the ledger, which is the history's length.
+/// A server, its history with a mark for each entry, and the total of the ledger, which is the history's length.
 ///
 /// Contracts see them as a book, with the server that the desk was opened with. That one isn't stored here: `L` names it.
 #[derive(Drop)]
 pub struct Locked<'c, L: Opened> {
     server: Server<'c>,
     history: Vec<Entry>,
+    // Whether the request of each entry was fresh.
+    marks: Vec<bool>,
     total: ledger::Book<L>,
     // What was left of the ledger when the passes had their parts: no part.
     rest: Share<L>,
@@ -36,19 +38,35 @@ impl<'c, L: Opened> Model for Locked<'c, L> {
     } };
 
     ghost invariant = { λ locked.
-        IsConsistent L.opening locked.history.items locked.server locked.total.total locked.rest.parts locked.rest.amount };
+        IsConsistent L.opening locked.history.items locked.marks.items locked.server locked.total.total
+        locked.rest.parts locked.rest.amount };
+}
+
+/// What lay under a lock that is open for good.
+#[derive(Drop)]
+pub struct Unlocked<'c, L: Opened> {
+    /// The entries, oldest first.
+    pub history: Vec<Entry>,
+    /// Whether the request of each was fresh.
+    pub marks: Vec<bool>,
+    pub server: Server<'c>,
+    /// The total is the history's length.
+    pub total: ledger::Book<L>,
+    /// No part.
+    pub rest: Share<L>,
 }
 
 impl<'c, L: Opened> Locked<'c, L> {
-    /// A server that is moved in, with room for its history.
+    /// A server that is moved in, with room for its history and its marks.
     pub fn new(
         server: Server<'c>,
         history: Vec<Entry>,
+        marks: Vec<bool>,
         total: ledger::Book<L>,
         rest: Share<L>,
     ) -> Locked<'c, L>
         requires opening { server ≡ L.opening }
-        requires empty { history.items ≡ [] }
+        requires empty { (history.items ≡ []) × (marks.items ≡ []) }
         requires total { total.total ≡ 0 }
         requires rest { (rest.parts ≡ 0) × (rest.amount ≡ 0) }
         ensures { result.history ≡ [] }
@@ -56,6 +74,7 @@ impl<'c, L: Opened> Locked<'c, L> {
         Locked {
             server,
             history,
+            marks,
             total,
             rest,
         }
@@ -79,11 +98,14 @@ impl<'c, L: Opened> Locked<'c, L> {
         let Locked {
             server,
             history,
+            marks,
             total,
             rest: _,
         } = self;
+        marks.reserve(1)?;
         let place = history.len() as u64;
-        let entry = exchange(server, history, ask)?;
+        let (entry, is_fresh) = exchange(server, history, ask)?;
+        marks.push_reserved(is_fresh);
         total.add(share, 1);
         Ok(Receipt { place, entry })
     }
@@ -95,20 +117,29 @@ impl<'c, L: Opened> Locked<'c, L> {
         &self.history
     }
 
-    /// The history and the server, and what is left of the ledger: its total is the history's length.
-    pub fn into_parts(self) -> (Vec<Entry>, Server<'c>, ledger::Book<L>, Share<L>)
-        ensures history { result.0.items ≡ self.entry.history }
-        ensures server { result.1 ≡ self.entry.server }
+    /// Its parts.
+    pub fn into_parts(self) -> Unlocked<'c, L>
+        ensures history { result.history.items ≡ self.entry.history }
+        ensures server { result.server ≡ self.entry.server }
         ensures run { IsHistory L.opening self.entry.history self.entry.server }
-        ensures total { result.2.total ≡ length self.entry.history }
-        ensures rest { (result.3.parts ≡ 0) × (result.3.amount ≡ 0) }
+        ensures marked { IsMarkedHistory L.opening result.history.items result.marks.items
+            result.server }
+        ensures total { result.total.total ≡ length self.entry.history }
+        ensures rest { (result.rest.parts ≡ 0) × (result.rest.amount ≡ 0) }
     {
         let Locked {
             server,
             history,
+            marks,
             total,
             rest,
         } = self;
-        (history, server, total, rest)
+        Unlocked {
+            history,
+            marks,
+            server,
+            total,
+            rest,
+        }
     }
 }

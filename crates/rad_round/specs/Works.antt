@@ -413,5 +413,5 @@ pub record IsRoomFor (arrivals : List Timed) (workers : ℕ) (room : Room) : Typ
   pub new : All (IsNewSeatOf room.claims) room.seats.items
   pub none_returned : room.returned.items ≡ []
   pub returned_room : workers ≤ vec_capacity room.returned
-  pub no_history : room.history.items ≡ []
+  pub no_history : (room.history.items ≡ []) × (room.marks.items ≡ [])
   pub outcome_each : length room.outcomes.items ≡ length arrivals

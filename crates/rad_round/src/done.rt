@@ -11,3 +11,11 @@ pub struct Done {
     /// The exchanges, oldest first. The tag of an entry is the number of its arrival, counted from 0.
     pub history: Vec<Entry>,
 }
+
+/// What a round made, and which requests of its history were fresh.
+#[derive(Drop)]
+pub struct Marked {
+    pub done: Done,
+    /// One for each entry.
+    pub marks: Vec<bool>,
+}

@@ -1,17 +1,18 @@
 //! The end of a round: what the workers made, put together. Nothing here can fail.
 ghost use Rattle.std.specs.Prelude.{◌≡◌, ◌≤◌, ◌<◌, ◌*◌, [], length, vec_len, All};
 ghost use Rattle.std.specs.Vec.{vec_capacity};
+ghost use Rattle.rad_server.specs.Runs.{IsMarkedHistory};
 ghost use Rattle.rad_round.specs.Rounds.{Round, arrivals_max};
 ghost use Rattle.rad_round.specs.Works.{AreLogged, ArePut, FitsAmong, HasFinished, HaveHandedIn, LastFit, PutsLast, TakesIn, answers_of};
 
-use crate::done::Done;
+use crate::done::{Done, Marked};
 use crate::lanes::BATCH;
 use crate::leftovers::Leftovers;
 use crate::outcome::Outcome;
 use crate::shared::{OpenRound, Setting};
 use crate::worker::{Claimed, Parts, Worker};
 use rad_claim::ClaimSeat;
-use rad_desk::Opened;
+use rad_desk::{Opened, Unlocked};
 use rad_log::{Keeper, Log, Logged};
 use rad_packet::Frame;
 use rad_server::{Entry, Server};
@@ -48,21 +49,30 @@ pub(crate) fn gather<'c, L: Opened + Logged>(
     seats: Vec<ClaimSeat>,
     outcomes: Vec<Outcome>,
     leftovers: &mut Leftovers,
-) -> (Server<'c>, Done)
+) -> (Server<'c>, Marked)
     requires parts { vec_len workers ≡ L.parts }
     requires count { vec_len workers ≡ round.setting.claims.seats }
     requires finished { All (HasFinished round.setting.claims round.setting.config.now.clients
         round.setting.arrivals.now) workers.items }
     requires seats { (seats.items ≡ []) × (vec_len workers ≤ vec_capacity seats) }
     requires outcomes { length outcomes.items ≡ length round.setting.arrivals.now }
-    ensures { Round L.opening round.entry.setting.arrivals.now
-        result.1.outcomes.items result.1.history.items result.0 }
+    ensures round { Round L.opening round.entry.setting.arrivals.now
+        result.1.done.outcomes.items result.1.done.history.items result.0 }
+    ensures marked { IsMarkedHistory L.opening
+        result.1.done.history.items result.1.marks.items result.0 }
 {
     let OpenRound { setting, lock } = round;
-    let (history, server, mut total, share, mut keeper) = lock.into_inner().into_parts();
+    let (unlocked, mut keeper) = lock.into_inner().into_parts();
+    let Unlocked {
+        history,
+        marks,
+        server,
+        mut total,
+        rest,
+    } = unlocked;
     let mut handed = HandedIn {
         seats,
-        share,
+        share: rest,
         outcomes,
     };
     hand_in(&setting, &mut keeper, workers, &mut handed, leftovers);
@@ -75,7 +85,8 @@ pub(crate) fn gather<'c, L: Opened + Logged>(
         unreachable!()
     };
     total.audit(&mut share);
-    (server, Done { outcomes, history })
+    let done = Done { outcomes, history };
+    (server, Marked { done, marks })
 }
 
 // Takes what the workers hand in, and finds the takings of their batches in the log.

@@ -25,7 +25,7 @@ mod shared;
 mod timed;
 mod worker;
 
-pub use done::Done;
+pub use done::{Done, Marked};
 pub use gate::{Gate, OpenGate};
 pub use outcome::Outcome;
 pub use round_fault::RoundFault;

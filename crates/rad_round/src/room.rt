@@ -25,6 +25,8 @@ pub(crate) struct Room {
     pub returned: Vec<ClaimSeat>,
     /// Empty, with room for an entry of each arrival.
     pub history: Vec<Entry>,
+    /// Empty, with room for a mark of each entry.
+    pub marks: Vec<bool>,
     /// A place for the outcome of each arrival.
     pub outcomes: Vec<Outcome>,
 }
@@ -47,6 +49,7 @@ impl Room {
             seats,
             returned: Vec::with_capacity(alloc, workers as usize)?,
             history: Vec::with_capacity(alloc, arrivals.len())?,
+            marks: Vec::with_capacity(alloc, arrivals.len())?,
             outcomes: outcomes_for(alloc, arrivals.len())?,
         })
     }

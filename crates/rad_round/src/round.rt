@@ -1,11 +1,12 @@
 //! A round: its workers, each on a thread, over one lock.
 ghost use Rattle.std.specs.Prelude.{◌≡◌, ◌<◌, ◌≤◌, length, vec_len, All, IfErr, IfOk, OnOk};
 ghost use Rattle.rad_claim.specs.Claims.{IsNewSeatOf};
+ghost use Rattle.rad_server.specs.Runs.{IsMarkedHistory};
 ghost use Rattle.rad_round.specs.Rounds.{AreMoments, Round, arrivals_max};
 ghost use Rattle.rad_round.specs.Works.{HasFinished, IsIdle, IsRoomFor};
 
 use crate::batch::batch_count;
-use crate::done::Done;
+use crate::done::Marked;
 use crate::gate::Gate;
 use crate::gather::gather;
 use crate::leftovers::Leftovers;
@@ -32,12 +33,14 @@ pub(crate) fn run_round<'c, R: Threads + Wait + Sync, G: Gate + Sync>(
     arrivals: &[Timed],
     gate: &G,
     leftovers: &mut Leftovers,
-) -> Result<(Server<'c>, Done), Server<'c>>
+) -> Result<(Server<'c>, Marked), Server<'c>>
     requires room { IsRoomFor arrivals.now room.claims.seats room }
     requires count { length arrivals.now ≤ arrivals_max }
     requires moments { AreMoments arrivals.now }
-    ensures round { IfOk result (λ made.
-        Round server.entry arrivals.now made.1.outcomes.items made.1.history.items made.0) }
+    ensures round { IfOk result (λ made. Round server.entry arrivals.now
+        made.1.done.outcomes.items made.1.done.history.items made.0) }
+    ensures marked { IfOk result (λ made. IsMarkedHistory server.entry
+        made.1.done.history.items made.1.marks.items made.0) }
     ensures unchanged { IfErr result (λ left. left ≡ server.entry) }
 {
     run_in::<Brand, R, G>(rt, server, room, arrivals, gate, leftovers)
@@ -51,15 +54,17 @@ fn run_in<'c, L: Opened + Logged + Send + Sync, R: Threads + Wait + Sync, G: Gat
     arrivals: &[Timed],
     gate: &G,
     leftovers: &mut Leftovers,
-) -> Result<(Server<'c>, Done), Server<'c>>
+) -> Result<(Server<'c>, Marked), Server<'c>>
     requires room { IsRoomFor arrivals.now L.parts room }
     requires blank { (room.blank.name ≡ L.name) × (room.blank.parts ≡ L.parts) }
     requires log { room.log ≡ L.table }
     requires opening { server ≡ L.opening }
     requires count { length arrivals.now ≤ arrivals_max }
     requires moments { AreMoments arrivals.now }
-    ensures round { IfOk result (λ made.
-        Round L.opening arrivals.now made.1.outcomes.items made.1.history.items made.0) }
+    ensures round { IfOk result (λ made. Round L.opening arrivals.now
+        made.1.done.outcomes.items made.1.done.history.items made.0) }
+    ensures marked { IfOk result (λ made. IsMarkedHistory L.opening
+        made.1.done.history.items made.1.marks.items made.0) }
     ensures unchanged { IfErr result (λ left. left ≡ L.opening) }
 {
     let Room {
@@ -71,6 +76,7 @@ fn run_in<'c, L: Opened + Logged + Send + Sync, R: Threads + Wait + Sync, G: Gat
         seats,
         returned,
         history,
+        marks,
         outcomes,
     } = room;
     let (total, mut rest) = blank.open::<L>();
@@ -84,7 +90,7 @@ fn run_in<'c, L: Opened + Logged + Send + Sync, R: Threads + Wait + Sync, G: Gat
     let Ok(mut workers) = begin(alloc, &setting, seats, &mut rest, leftovers) else {
         return Err(server);
     };
-    let locked = Locked::new(server, history, total, rest);
+    let locked = Locked::new(server, history, marks, total, rest);
     let lock = Mutex::new(Shared::new(locked, first.keeper()));
     let round = OpenRound { setting, lock };
     work_all(rt, &round, workers.as_mut_slice(), gate);

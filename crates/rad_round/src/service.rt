@@ -2,14 +2,14 @@
 ghost use Rattle.std.specs.Prelude.{◌≡◌, ◌≢◌, ◌≤◌, length, Err, IfErr, IfOk, OnErr};
 ghost use Rattle.rad_desk.specs.declared.mismatch.Mismatch.{Mismatch};
 ghost use Rattle.rad_server.specs.Repeats.{Repeat};
-ghost use Rattle.rad_server.specs.Runs.{IsLawfulThroughout};
+ghost use Rattle.rad_server.specs.Runs.{IsLawfulThroughout, IsMarkedHistory};
 ghost use Rattle.rad_config.specs.Spans.{moment_max};
 ghost use Rattle.rad_server.specs.States.{at_moment, opening};
 ghost use Rattle.rad_round.specs.Rounds.{AreMoments, Round, arrivals_max, workers_max};
 ghost use Rattle.rad_round.specs.declared.round_fault.RoundFault.{RoundFault};
 
 use crate::batch::batch_count;
-use crate::done::Done;
+use crate::done::{Done, Marked};
 use crate::gate::Gate;
 use crate::leftovers::Leftovers;
 use crate::room::Room;
@@ -123,22 +123,27 @@ impl<'c> Service<'c> {
         self.server().state_is_lawful();
         runs_repeat();
         runs_are_lawful();
-        self.answer(rt, arrivals, workers, gate)
+        let marked = self.round_marked(rt, arrivals, workers, gate)?;
+        Ok(marked.done)
     }
 
-    // Answers the datagrams, by no more workers than there are batches, but one at least.
-    fn answer<R: Threads + Wait + Sync, G: Gate + Sync>(
+    /// The same round, and which requests of its history were fresh: got a new reply, which is kept.
+    ///
+    /// The others leave the server as time would (`rad_server::fresh_are_enough`).
+    pub fn round_marked<R: Threads + Wait + Sync, G: Gate + Sync>(
         &mut self,
         rt: &R,
         arrivals: &[Timed],
         workers: u64,
         gate: &G,
-    ) -> Result<Done, RoundFault>
+    ) -> Result<Marked, RoundFault>
         requires workers { (1 ≤ workers) × (workers ≤ workers_max) }
         requires count { length arrivals.now ≤ arrivals_max }
         requires moments { AreMoments arrivals.now }
-        ensures round { IfOk result (λ done.
-            Round self.old arrivals.now done.outcomes.items done.history.items self.new) }
+        ensures round { IfOk result (λ made. Round self.old arrivals.now
+            made.done.outcomes.items made.done.history.items self.new) }
+        ensures marked { IfOk result (λ made. IsMarkedHistory self.old
+            made.done.history.items made.marks.items self.new) }
         ensures unchanged { OnErr result (self.new ≡ self.old) }
         ensures fault { IfErr result (λ fault. fault ≡ RoundFault.NoMemory) }
     {
@@ -153,9 +158,9 @@ impl<'c> Service<'c> {
             unreachable!()
         };
         match run_round(rt, server, room, arrivals, gate, leftovers) {
-            Ok((server, done)) => {
+            Ok((server, marked)) => {
                 *current = Some(server);
-                Ok(done)
+                Ok(marked)
             }
             Err(server) => {
                 *current = Some(server);

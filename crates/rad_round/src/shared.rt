@@ -1,7 +1,7 @@
 //! What the workers of a round share: the lock, what lies under it, and what lies beside it.
 ghost use Rattle.std.specs.Prelude.{◌≡◌, ◌≤◌, ◌<◌, ◌+◌, ◌++◌, [], ◌∷◌, length, replicate, IfSome, None};
 ghost use Rattle.rad_log.specs.Logs.{taking};
-ghost use Rattle.rad_server.specs.Runs.{IsHistory};
+ghost use Rattle.rad_server.specs.Runs.{IsHistory, IsMarkedHistory};
 ghost use Rattle.rad_round.specs.Rounds.{AreMoments, arrivals_max};
 ghost use Rattle.rad_round.specs.Works.{AreAskedOf, IsAskedIn, IsLogged, batch_count, entries_in, entry_of, somes, taken};
 
@@ -10,11 +10,11 @@ use crate::lanes::BATCH;
 use crate::timed::Timed;
 use rad_claim::Claims;
 use rad_config::Config;
-use rad_desk::{Locked, Opened, Receipt};
+use rad_desk::{Locked, Opened, Receipt, Unlocked};
 use rad_log::{Keeper, Log, Logged, Ticket};
-use rad_server::{Entry, Server};
+use rad_server::Entry;
 use std::marker::{Model, PhantomData};
-use std::sync::ledger::{Book, Share};
+use std::sync::ledger::Share;
 use std::sync::{Mutex, Wait};
 
 /// What lies under the lock of a round: what lies under a desk's, and the keeper of the log of takings.
@@ -66,16 +66,17 @@ impl<'c, L: Opened + Logged> Shared<'c, L> {
             .publish(log, batch.number as u64, self.locked.history())
     }
 
-    /// The parts, once the lock is open: the history, the server, what is left of the ledger, and the keeper.
-    pub fn into_parts(self) -> (Vec<Entry>, Server<'c>, Book<L>, Share<L>, Keeper<Entry, L>)
-        ensures run { IsHistory L.opening result.0.items result.1 }
-        ensures total { result.2.total ≡ length result.0.items }
-        ensures rest { (result.3.parts ≡ 0) × (result.3.amount ≡ 0) }
-        ensures logged { IsLogged result.0.items result.4 }
+    /// What lay under the lock, once it is open, and the keeper.
+    pub fn into_parts(self) -> (Unlocked<'c, L>, Keeper<Entry, L>)
+        ensures run { IsHistory L.opening result.0.history.items result.0.server }
+        ensures marked { IsMarkedHistory L.opening result.0.history.items result.0.marks.items
+            result.0.server }
+        ensures total { result.0.total.total ≡ length result.0.history.items }
+        ensures rest { (result.0.rest.parts ≡ 0) × (result.0.rest.amount ≡ 0) }
+        ensures logged { IsLogged result.0.history.items result.1 }
     {
         let Shared { locked, keeper } = self;
-        let (history, server, total, rest) = locked.into_parts();
-        (history, server, total, rest, keeper)
+        (locked.into_parts(), keeper)
     }
 }
 

@@ -29,12 +29,12 @@ unreachable-requires g c =
     c.hand_in.ensures.handed.finished)) in
     none-some _ (sym none ∙ sym c.in_default.ensures.fault)
 
-pub returns : goal.returns
-returns g c =
+pub returns-clause-round : goal.returns-clause-round
+returns-clause-round g c =
     let setting = c.args.round.setting in
     let opening = g.L.Opened.opening in
     let arrivals = setting.arrivals.now in
-    let log = c.into_parts-history.result.4 in
+    let log = c.into_parts-unlocked.result.1 in
     let handed : HandedIn = record {
       seats = c.handed.inside.seats.items;
       parts = c.handed.inside.share.parts;
@@ -50,5 +50,5 @@ returns g c =
     let once : IsEachOnce (batch_count arrivals) (map (λ (seat : ClaimSeat). seat.claimed) handed.seats) =
     subst (λ n. IsEachOnce n (map (λ (seat : ClaimSeat). seat.claimed) handed.seats)) setting.batches
     (subst (IsEachOnce setting.claims.batches) c.in-Ok.ensures.dealt.of_seats c.in-Ok.ensures.dealt.once) in
-    gathered c.into_parts-history.result.0.items c.into_parts-history.result.1 c.into_parts-history.ensures.run c.into_parts-history.ensures.logged have once
-    (c.audit.ensures.whole (have.part_each ∙ c.requires.parts) ∙ c.into_parts-history.ensures.total) c.requires.outcomes
+    gathered c.into_parts-unlocked.result.0.history.items c.into_parts-unlocked.result.0.server c.into_parts-unlocked.ensures.run c.into_parts-unlocked.ensures.logged have once
+    (c.audit.ensures.whole (have.part_each ∙ c.requires.parts) ∙ c.into_parts-unlocked.ensures.total) c.requires.outcomes
