@@ -1,6 +1,7 @@
 pub mod Faults
 pub mod Kept
 pub mod Journals
+pub mod Leads
 pub mod Restores
 pub mod Rows
 pub mod Stores

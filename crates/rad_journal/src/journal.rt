@@ -1,5 +1,5 @@
 //! Journals: what outlives a crash.
-ghost use Rattle.std.specs.Prelude.{◌≡◌, ◌⊎◌, ◌++◌, List, Bool, slice_get, IfOk, OnOk};
+ghost use Rattle.std.specs.Prelude.{◌≡◌, ◌⊎◌, ◌++◌, List, Bool, slice_get, IfOk, IsTrue, OnErr, OnOk};
 ghost use Rattle.rad_journal.specs.Journals.{added};
 ghost use Rattle.rad_journal.specs.Faults.{fault_of};
 ghost use Rattle.rad_journal.specs.declared.journal.JournalFault.TheVariants.{NoMemory};
@@ -71,7 +71,11 @@ pub trait Journal {
     /// It may be asked for more, and a crash leaves what was kept.
     ghost is_open: { Self → Type 0 };
 
-    /// Adds the entries in their order, all or none.
+    /// Whether it keeps anything at all.
+    fn keeps(&self) -> bool
+        ensures { result ≡ keeps };
+
+    /// Adds the entries in their order, all or none. A journal that keeps nothing does so.
     ///
     /// At `Ok` each crash from then on leaves them. At `Err` a crash may leave them or not. `Full`: the disk has no room, there would
     /// be 2 ^ 32 - 1 entries or more, or a time is 2 ^ 63 or more. `Disk`: the disk failed, or an earlier call has failed.
@@ -81,7 +85,8 @@ pub trait Journal {
             → kept self.new ≡ kept self.old ++ added keeps entries.now) }
         ensures open { OnOk result (is_clean self.new → is_open self.old → is_open self.new) }
         ensures crash { is_clean self.new → (left : List Kept) → may_leave self.new left
-            → may_leave self.old left ⊎ (left ≡ kept self.old ++ added keeps entries.now) };
+            → may_leave self.old left ⊎ (left ≡ kept self.old ++ added keeps entries.now) }
+        ensures fault { OnErr result (IsTrue keeps) };
 
     /// The entry at a place, counted from 0, if there is one.
     ///

@@ -12,6 +12,7 @@ use std::alloc::{AllocError, Global};
 ///
 /// `wall` is in milliseconds since 1970, `clock` the server's before the turn, and a mark says of each entry whether it is fresh. Where
 /// none is, this takes no memory.
+#[tactic(auto, using(crate::proofs::KeepLemmas::none_counted))]
 pub fn keep(
     alloc: Global,
     wall: u64,

@@ -22,6 +22,10 @@ impl Journal for NoJournal {
 
     ghost settled = { λ _ _ left is. is };
 
+    fn keeps(&self) -> bool {
+        false
+    }
+
     fn commit(&mut self, _entries: &[Kept]) -> Result<(), JournalFault> {
         Ok(())
     }

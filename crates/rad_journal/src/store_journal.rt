@@ -75,6 +75,10 @@ impl<S: Store> Journal for StoreJournal<S> {
     ghost settled = { λ journal is_open left is. is.2
         ∙ ap (λ (t : Trees). entries_of (t table)) (S.settled journal.store is.0 is_open.0 is.1) };
 
+    fn keeps(&self) -> bool {
+        true
+    }
+
     fn commit(&mut self, entries: &[Kept]) -> Result<(), JournalFault> {
         let Some(count) = self.count else {
             return Err(JournalFault::Disk);

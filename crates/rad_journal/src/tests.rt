@@ -279,12 +279,26 @@ fn log_in(alloc: Global, server: &mut Server) -> Result<Option<Kept>, AllocError
     Kept::of(alloc, 1_700_000_000_000, 0, &entry)
 }
 
-// Asserts that a journal leads to a server with nemo's session.
+// Whether two servers answer nemo's login alike.
+fn answer_alike(
+    alloc: Global,
+    server: &mut Server,
+    other: &mut Server,
+) -> Result<bool, AllocError> {
+    let entry = ask(alloc, server, REQUEST, 8000)?;
+    let other = ask(alloc, other, REQUEST, 8000)?;
+    Ok(match (&entry, &other) {
+        (Some(entry), Some(other)) => entry.same(other),
+        _ => false,
+    })
+}
+
+// Asserts that a journal leads to an equal server, with nemo's session, which answers alike.
 fn assert_restored<J: Reopen>(
     rt: &impl Abort,
     alloc: Global,
     journal: &mut J,
-    server: &Server,
+    server: &mut Server,
 ) -> Result<(), Fail> {
     let mut restored = Server::open(alloc, server.config())?;
     restore(alloc, journal, &mut restored)?;
@@ -294,6 +308,7 @@ fn assert_restored<J: Reopen>(
         session.and_then(|session| session.address),
         Some(0x0A00_0001)
     );
+    assert!(rt; answer_alike(alloc, server, &mut restored)?);
     Ok(())
 }
 
@@ -307,7 +322,7 @@ fn a_login_is_restored(rt: HostRuntime) -> Result<(), Fail> {
     };
     let mut journal = StoreJournal::open(alloc, blank(alloc)?)?;
     crate::Journal::commit(&mut journal, &[kept])?;
-    assert_restored(&rt, alloc, &mut journal, &server)
+    assert_restored(&rt, alloc, &mut journal, &mut server)
 }
 
 // A turn: a login, its repeat, a Status-Server, and a login of another Identifier at an earlier moment.
@@ -329,42 +344,47 @@ fn turn(alloc: Global, server: &mut Server) -> Result<Vec<Entry>, AllocError> {
     Ok(history)
 }
 
+// What is kept of the turn, if all of it is admitted.
+fn kept_of_turn(alloc: Global, server: &mut Server) -> Result<Vec<Kept>, AllocError> {
+    let history = turn(alloc, server)?;
+    if history.len() != 4 {
+        return Ok(Vec::new(alloc));
+    }
+    keep(alloc, 8, 0, &history, &[true, false, false, true])
+}
+
+// Whether these are the logins of the turn, the second one at the moment of the Status-Server.
+fn are_logins(kept: &[Kept]) -> bool {
+    match kept {
+        [first, second] => {
+            first.moment == 5000
+                && second.moment == 7000
+                && first.octets.octets() == REQUEST.as_slice()
+                && second.octets.octets() != REQUEST.as_slice()
+        }
+        _ => false,
+    }
+}
+
+fn keep_and_restore<J: Reopen>(
+    rt: &impl Abort,
+    alloc: Global,
+    journal: &mut J,
+    server: &mut Server,
+) -> Result<(), Fail> {
+    let kept = kept_of_turn(alloc, server)?;
+    assert!(rt; are_logins(&kept));
+    journal.commit(&kept)?;
+    assert_restored(rt, alloc, journal, server)
+}
+
 #[test]
-fn what_is_fresh_of_a_turn_is_kept(rt: HostRuntime) -> Result<(), Fail> {
+fn what_is_fresh_of_a_turn_is_restored(rt: HostRuntime) -> Result<(), Fail> {
     let alloc = rt.alloc();
     let config = Config::read(alloc, TEXT)?;
     let mut server = Server::open(alloc, &config)?;
-    let history = turn(alloc, &mut server)?;
-    if history.len() != 4 {
-        panic!(rt; "a request is not admitted");
-    }
-    let kept = keep(alloc, 8, 0, &history, &[true, false, false, true])?;
-    let [login, other] = kept.as_slice() else {
-        panic!(rt; "not two entries are kept");
-    };
-    assert_eq!(rt; login.moment, 5000);
-    assert_eq!(rt; other.moment, 7000);
-    let none = keep(alloc, 8, 0, &history, &[false; 4])?;
-    assert!(rt; none.is_empty());
-
     let mut journal = StoreJournal::open(alloc, blank(alloc)?)?;
-    crate::Journal::commit(&mut journal, &kept)?;
-    let mut restored = Server::open(alloc, &config)?;
-    restore(alloc, &mut journal, &mut restored)?;
-    assert_eq!(rt; restored.clock(), 7000);
-    assert!(rt; restored.same(&server));
-    let answer = ask(alloc, &mut server, REQUEST, 8000)?;
-    let other = ask(alloc, &mut restored, REQUEST, 8000)?;
-    assert!(rt; is_same(&answer, &other));
-    Ok(())
-}
-
-// Whether both are the same entry.
-fn is_same(entry: &Option<Entry>, other: &Option<Entry>) -> bool {
-    match (entry, other) {
-        (Some(entry), Some(other)) => entry.same(other),
-        _ => false,
-    }
+    keep_and_restore(&rt, alloc, &mut journal, &mut server)
 }
 
 // What restoring a server from a journal with this entry reports.

@@ -1,6 +1,5 @@
-use Rattle.std.proofs.Common.{◌≡◌, Err, IfErr, List, ℕ, Some, slice_get, take, subst, sym, rules}
-use Rattle.rad_journal.specs.Restores.{CannotRestore, IsBegun, IsOfEntry, IsRestored, StopsAt}
-use Rattle.rad_journal.specs.declared.kept.Kept.{Kept}
+use Rattle.std.proofs.Common.{◌≡◌, Err, IfErr, ℕ, Some, slice_get, take, subst, sym, rules}
+use Rattle.rad_journal.specs.Restores.{CannotRestore, IsOfEntry, IsRestored, StopsAt}
 use Rattle.rad_journal.proofs.RefusalLemmas.{cannot_step, refused}
 use Rattle.rad_journal.proofs.restoring.restore.Goals as goal
 
