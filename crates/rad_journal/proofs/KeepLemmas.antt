@@ -1,4 +1,4 @@
--- What is kept of a turn, entry by entry.
+-- Turns with no fresh entry, and entries with replies.
 use Rattle.std.proofs.Common.{◌≡◌, ℕ, suc, Bool, false, List, [], ◌∷◌, Option, Some, refl, sym, ap, subst, arith}
 use Rattle.std.specs.List.{cons_option}
 use Rattle.std.specs.Prelude.{All, count_by}

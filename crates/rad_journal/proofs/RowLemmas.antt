@@ -53,16 +53,22 @@ none_at m n zero (first ∷ entries) is has = absurd (none-some _ (sym has))
 none_at m n (suc k) (first ∷ entries) is has = rw (below n m (omega (arith, is))) (none_at m (suc n) k entries (omega (arith, is)) has)
 
 -- the row that is found is that of the entry
-pub read_some : (m k : ℕ) (rows : List Row) (row : Row) → IsLog rows → m ≡ 1 + k → Finds rows (pos m) row true → Some (entry_of row) ≡ slice_get (entries_of rows) k
-read_some m k rows row log is finds = ⊎_elim
+pub read_row : (m k : ℕ) (rows : List Row) (row : Row) → IsLog rows → m ≡ 1 + k → Finds rows (pos m) row true
+    → (entry : Kept) × (slice_get (entries_of rows) k ≡ Some entry) × (row ≡ row_of m entry)
+read_row m k rows row log is finds = ⊎_elim
     (λ has.
     let found = subst (λ (l : List Row). filter (has_rowid (pos m)) l ≡ row_of m has.0 ∷ []) (sym log) (found_at m 1 k (entries_of rows) has.0 is has.2) in
     let same : row ≡ row_of m has.0 = cc (found, finds) in
-    ap (λ (r : Row). Some (entry_of r)) same ∙ ap (λ (e : Kept). Some e) (entry_back m has.0) ∙ sym has.2)
+    (has.0, has.2, same))
     (λ none.
     let found = subst (λ (l : List Row). filter (has_rowid (pos m)) l ≡ []) (sym log) (none_at m 1 k (entries_of rows) is none.1) in
     absurd (cc (found, finds)))
     (slice_get_cases (entries_of rows) k).1
+
+pub read_some : (m k : ℕ) (rows : List Row) (row : Row) → IsLog rows → m ≡ 1 + k → Finds rows (pos m) row true → Some (entry_of row) ≡ slice_get (entries_of rows) k
+read_some m k rows row log is finds =
+    let (entry, has, same) = read_row m k rows row log is finds in
+    ap (λ (r : Row). Some (entry_of r)) same ∙ ap (λ (e : Kept). Some e) (entry_back m entry) ∙ sym has
 
 pub read_none : (m k : ℕ) (rows : List Row) (row : Row) → IsLog rows → m ≡ 1 + k → Finds rows (pos m) row false → None ≡ slice_get (entries_of rows) k
 read_none m k rows row log is finds = ⊎_elim

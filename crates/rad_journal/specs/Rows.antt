@@ -1,6 +1,6 @@
 -- Entries as the rows of a table: the rowid, counted from 1, wall time and moment in milliseconds, source address, source port, door,
 -- draw, request and answer.
-use Rattle.std.specs.Prelude.{◌≡◌, ℕ, zero, suc, ℤ, pos, negsuc, List, [], ◌∷◌, map, length, refl}
+use Rattle.std.specs.Prelude.{◌≡◌, ◌<◌, ◌^◌, ℕ, zero, suc, ℤ, pos, negsuc, List, [], ◌∷◌, map, length, refl}
 use Rattle.std.proofs.Common.{ap}
 use Rattle.sqlite_value.specs.declared.value.Value.{Value}
 use Rattle.sqlite_value.specs.declared.value.Value.TheVariants.{Null, Int, Real, Text, Blob}
@@ -60,6 +60,18 @@ row_of number entry =
     ∷ Blob entry.octets
     ∷ Blob entry.answer
     ∷ []
+
+-- the numbers and the draw of an entry are such as an entry in memory has, with times below 2 ^ 63
+pub record IsWithin (entry : Kept) : Type 0 where
+  pub wall : entry.wall < 2 ^ 63
+  pub moment : entry.moment < 2 ^ 63
+  pub source : entry.source < 2 ^ 32
+  pub port : entry.port < 2 ^ 16
+  pub draw : length entry.draw ≡ 16
+
+-- the row is that of such an entry
+abbrev pub IsRow : Row → Type 0
+IsRow row = (number : ℕ) × (entry : Kept) × IsWithin entry × (row ≡ row_of number entry)
 
 -- the columns of a row, after its rowid
 abbrev pub at_wall : ℕ

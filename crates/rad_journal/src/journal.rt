@@ -1,8 +1,9 @@
 //! Journals: what outlives a crash.
-ghost use Rattle.std.specs.Prelude.{◌≡◌, ◌⊎◌, ◌++◌, List, Bool, slice_get, IfOk, IsTrue, OnErr, OnOk};
+ghost use Rattle.std.specs.Prelude.{◌≡◌, ◌⊎◌, ◌++◌, List, Bool, slice_get, IfErr, IfOk, IfSome, IsTrue, OnErr, OnOk};
 ghost use Rattle.rad_journal.specs.Journals.{added};
 ghost use Rattle.rad_journal.specs.Faults.{fault_of};
-ghost use Rattle.rad_journal.specs.declared.journal.JournalFault.TheVariants.{NoMemory};
+ghost use Rattle.rad_journal.specs.Rows.{IsWithin};
+ghost use Rattle.rad_journal.specs.declared.journal.JournalFault.TheVariants.{Damaged, NoMemory};
 ghost use Rattle.rad_journal.specs.declared.kept.Kept.{Kept};
 
 use crate::kept::Kept;
@@ -71,6 +72,9 @@ pub trait Journal {
     /// It may be asked for more, and a crash leaves what was kept.
     ghost is_open: { Self → Type 0 };
 
+    /// The disk failed or refused between two moments.
+    ghost has_failed: { Self → Self → Type 0 };
+
     /// Whether it keeps anything at all.
     fn keeps(&self) -> bool
         ensures { result ≡ keeps };
@@ -90,11 +94,14 @@ pub trait Journal {
 
     /// The entry at a place, counted from 0, if there is one.
     ///
-    /// `Damaged`: what was read is not what was written, or is no entry.
+    /// `Damaged`: what was read is not what was written. An entry whose numbers are in their ranges is no reason for it.
     fn entry(&mut self, alloc: Global, place: u32) -> Result<Option<Kept>, JournalFault>
         ensures clean { is_clean self.new → is_clean self.old }
         ensures found { IfOk result (λ entry. is_clean self.new
             → entry ≡ slice_get (kept self.old) place) }
+        ensures damaged { IfErr result (λ fault. fault ≡ Damaged → is_clean self.new
+            → is_open self.old → IfSome (slice_get (kept self.old) place) IsWithin
+            → has_failed self.old self.new) }
         ensures kept { OnOk result (is_clean self.new → kept self.new ≡ kept self.old) }
         ensures open { OnOk result (is_clean self.new → is_open self.old → is_open self.new) }
         ensures crash { is_clean self.new → (left : List Kept) → may_leave self.new left

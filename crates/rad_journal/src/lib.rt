@@ -6,8 +6,8 @@
 //!
 //! Other crates rest on this: a commit that answers Ok has kept all of its entries, each crash from then on leaves them, and a crash
 //! at any time leaves what was kept before a commit or that and all of its entries. What is kept of a history leads where it does
-//! (`kept_is_enough`). A server that is restored has run a history that is
-//! kept as the journal has it, and a fault of an entry says that there is none.
+//! (`kept_is_enough`). A server that is restored has run a history that is kept as the journal has it, and a fault of an entry says that
+//! there is none, and why.
 #![tactic(auto)]
 
 mod append;

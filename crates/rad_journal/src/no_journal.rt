@@ -20,6 +20,8 @@ impl Journal for NoJournal {
 
     ghost is_open = { λ _. Unit {0} };
 
+    ghost has_failed = { λ _ _. ⊥ };
+
     ghost settled = { λ _ _ left is. is };
 
     fn keeps(&self) -> bool {

@@ -1,11 +1,13 @@
 //! Reading entries back from a store's table.
-ghost use Rattle.std.specs.Prelude.{◌≡◌, ◌+◌, ◌≤◌, ◌<◌, ◌^◌, length, pos, IfOk, OnOk, slice_get};
+ghost use Rattle.std.specs.Prelude.{◌≡◌, ◌≢◌, ℕ, ◌+◌, ◌≤◌, ◌<◌, ◌^◌, List, length, pos, IfErr, IfOk, IfSome, OnErr, OnOk, slice_get};
+ghost use Rattle.rad_auth.specs.declared.arrival.Door.{Door};
+ghost use Rattle.sqlite_disk.specs.Disk.{MoreFaults};
 ghost use Rattle.sqlite_value.specs.Order.{column};
 ghost use Rattle.sqlite_value.specs.declared.value.Value.TheVariants.{Blob, Int};
 ghost use Rattle.sqlite_trees.specs.Tree.{Trees};
 ghost use Rattle.sqlite_trees.specs.View.{IsClean, KeepsSchema, doubt};
 ghost use Rattle.sqlite_trees.specs.declared.store.Shape.TheVariants.{Table};
-ghost use Rattle.rad_journal.specs.Rows.{IsLog, at_door, at_draw, at_port, at_source, door_number, entries_of, entry_of, table};
+ghost use Rattle.rad_journal.specs.Rows.{IsLog, IsRow, IsWithin, at_door, at_draw, at_port, at_source, door_number, entries_of, entry_of, table};
 
 use crate::append::{ACCT, AUTH, TABLE};
 use crate::journal::JournalFault;
@@ -69,6 +71,10 @@ pub(crate) fn read<S: Store>(
     requires log { IsClean (S.view store.old) → IsLog ((S.view store.old).trees table) }
     ensures found { IfOk result (λ entry. IsClean (S.view store.new)
         → entry ≡ slice_get (entries_of ((S.view store.old).trees table)) place) }
+    ensures damaged { IfErr result (λ fault.
+        fault ≡ JournalFault.Damaged → IsClean (S.view store.new)
+        → IfSome (slice_get (entries_of ((S.view store.old).trees table)) place) IsWithin
+        → MoreFaults (S.faults store.old) (S.faults store.new)) }
     ensures same { OnOk result (IsClean (S.view store.new)
         → S.view store.new ≡ S.view store.old) }
     ensures schema { KeepsSchema (S.view store.old) (S.view store.new) }
@@ -90,7 +96,9 @@ fn rowid(place: u32) -> i64
 
 /// The entry of a row, if its columns are numbers that fit and blobs.
 pub(crate) fn entry(alloc: Global, row: &Row) -> Result<Kept, JournalFault>
-    ensures { IfOk result (λ entry. entry ≡ entry_of row.now) }
+    ensures entry { IfOk result (λ entry. entry ≡ entry_of row.now) }
+    ensures damaged { IfErr result (λ fault.
+        fault ≡ JournalFault.Damaged → ¬ IsRow row.now) }
 {
     let wall = number(row, WALL)?;
     let moment = number(row, MOMENT)?;
@@ -114,7 +122,9 @@ pub(crate) fn entry(alloc: Global, row: &Row) -> Result<Kept, JournalFault>
 
 // The source address of a row.
 fn source(row: &Row) -> Result<u32, JournalFault>
-    ensures { IfOk result (λ n. column row.now at_source ≡ Int (pos n)) }
+    ensures value { IfOk result (λ n. column row.now at_source ≡ Int (pos n)) }
+    ensures other { OnErr result ((n : ℕ) → n < 2 ^ 32
+        → column row.now at_source ≢ Int (pos n)) }
 {
     match u32::try_from(number(row, SOURCE)?) {
         Ok(source) => Ok(source),
@@ -124,7 +134,9 @@ fn source(row: &Row) -> Result<u32, JournalFault>
 
 // The source port of a row.
 fn port(row: &Row) -> Result<u16, JournalFault>
-    ensures { IfOk result (λ n. column row.now at_port ≡ Int (pos n)) }
+    ensures value { IfOk result (λ n. column row.now at_port ≡ Int (pos n)) }
+    ensures other { OnErr result ((n : ℕ) → n < 2 ^ 16
+        → column row.now at_port ≢ Int (pos n)) }
 {
     match u16::try_from(number(row, PORT)?) {
         Ok(port) => Ok(port),
@@ -134,7 +146,10 @@ fn port(row: &Row) -> Result<u16, JournalFault>
 
 // The door of a row.
 fn door(row: &Row) -> Result<Door, JournalFault>
-    ensures { IfOk result (λ door. column row.now at_door ≡ Int (pos (door_number door))) }
+    ensures value { IfOk result (λ door.
+        column row.now at_door ≡ Int (pos (door_number door))) }
+    ensures other { OnErr result ((door : Door)
+        → column row.now at_door ≢ Int (pos (door_number door))) }
 {
     match number(row, DOOR)? {
         AUTH => Ok(Door::Auth),
@@ -145,7 +160,8 @@ fn door(row: &Row) -> Result<Door, JournalFault>
 
 // The number in a column, from 0 up.
 fn number(row: &Row, at: usize) -> Result<u64, JournalFault>
-    ensures { IfOk result (λ n. column row.now at ≡ Int (pos n)) }
+    ensures value { IfOk result (λ n. column row.now at ≡ Int (pos n)) }
+    ensures other { OnErr result ((n : ℕ) → column row.now at ≢ Int (pos n)) }
 {
     let ValueRef::Int(number) = row.get(at) else {
         return Err(JournalFault::Damaged);
@@ -158,7 +174,9 @@ fn number(row: &Row, at: usize) -> Result<u64, JournalFault>
 
 // The draw of a row.
 fn draw(row: &Row) -> Result<[u8; 16], JournalFault>
-    ensures { IfOk result (λ draw. column row.now at_draw ≡ Blob draw) }
+    ensures value { IfOk result (λ draw. column row.now at_draw ≡ Blob draw) }
+    ensures other { OnErr result ((draw : List ℕ) → length draw ≡ 16
+        → column row.now at_draw ≢ Blob draw) }
 {
     let ValueRef::Blob(octets) = row.get(DRAW) else {
         return Err(JournalFault::Damaged);
@@ -171,7 +189,9 @@ fn draw(row: &Row) -> Result<[u8; 16], JournalFault>
 
 // The octets in a column.
 fn blob(alloc: Global, row: &Row, at: usize) -> Result<Octets, JournalFault>
-    ensures { IfOk result (λ octets. column row.now at ≡ Blob octets) }
+    ensures value { IfOk result (λ octets. column row.now at ≡ Blob octets) }
+    ensures other { IfErr result (λ fault. fault ≡ JournalFault.Damaged
+        → (octets : List ℕ) → column row.now at ≢ Blob octets) }
 {
     match row.get(at) {
         ValueRef::Blob(octets) => Ok(Octets::of(alloc, octets)?),

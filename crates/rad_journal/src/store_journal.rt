@@ -1,6 +1,7 @@
 //! A journal in a table of a store.
 ghost use Rattle.std.specs.Prelude.{◌≡◌, true, IsTrue, IsSome};
 ghost use Rattle.std.proofs.Common.{◌∙◌, ap};
+ghost use Rattle.sqlite_disk.specs.Disk.{MoreFaults};
 ghost use Rattle.sqlite_trees.specs.Tree.{Trees};
 ghost use Rattle.sqlite_trees.specs.View.{IsClean};
 ghost use Rattle.rad_journal.specs.Rows.{entries_of, table};
@@ -71,6 +72,8 @@ impl<S: Store> Journal for StoreJournal<S> {
     ghost is_clean = { λ journal. IsClean (S.view journal.store) };
 
     ghost is_open = { λ journal. IsTrue (S.view journal.store).is_open × IsSome journal.count };
+
+    ghost has_failed = { λ old new. MoreFaults (S.faults old.store) (S.faults new.store) };
 
     ghost settled = { λ journal is_open left is. is.2
         ∙ ap (λ (t : Trees). entries_of (t table)) (S.settled journal.store is.0 is_open.0 is.1) };

@@ -1,5 +1,5 @@
 -- Fresh requests: they are answered by a reply, and all others leave the state as time would.
-use Rattle.std.proofs.Common.{◌≡◌, ◌≢◌, ◌⊎◌, ℕ, ◌+◌, ◌≤◌, ◌<◌, Bool, true, false, not, cond, ◌==◌, ◌||◌, ◌&&◌, max, List, [], ◌∷◌, ◌++◌, length, filter, All, Option, Some, None, is_some, arith, inl, inr, refl, sym, ap, subst, ◌∙◌}
+use Rattle.std.proofs.Common.{◌≡◌, ◌≢◌, ◌⊎◌, ℕ, ◌+◌, ◌≤◌, ◌<◌, Bool, true, false, not, cond, ◌==◌, ◌&&◌, max, List, [], ◌∷◌, length, filter, All, Option, Some, None, arith, inl, inr, refl, sym, ap, subst, ◌∙◌}
 use Rattle.std.specs.Prelude.{count_by, nat_le}
 use Rattle.std.proofs.lemmas.Bool.{both_ways, cond_both, eqb-true}
 use Rattle.std.proofs.lemmas.Bool.Decides.{eqb_tells, leb_tells}
@@ -12,16 +12,15 @@ use Rattle.rad_auth.specs.Admission.{AdmittedAreAnswerable, IsAnswerable}
 use Rattle.rad_auth.specs.Clients.{client_place}
 use Rattle.rad_auth.specs.declared.arrival.Request.{Request}
 use Rattle.rad_config.specs.Configurations.{Configuration, is_reached}
-use Rattle.rad_config.specs.Ranges.{IsConfiguration}
-use Rattle.rad_recent.specs.Recent.{is_client, is_of, kept_max, replies_for, same_door, same_key}
+use Rattle.rad_recent.specs.Recent.{is_client, is_of, kept_max, same_key}
 use Rattle.rad_recent.specs.declared.kept.Kept.{Kept}
 use Rattle.rad_server.specs.Lawful.{IsLawful, IsOwned, PassingKeepsTheLaw, StepKeepsTheLaw}
-use Rattle.rad_server.specs.Runs.{FreshAreEnough, IsExchange, IsLikeFromNow, IsMarked, LeadsAlike, LikeAfterTime, MarkedRun, Run, counted, fresh_of}
+use Rattle.rad_server.specs.Runs.{FreshAreEnough, IsExchange, IsLikeFromNow, IsMarked, LeadsAlike, LikeAfterTime, counted, fresh_of}
 use Rattle.rad_server.specs.Shares.{IsWithin, lacks_room, replies_share}
 use Rattle.rad_server.specs.States.{State, at_moment, without_expired}
-use Rattle.rad_server.specs.Steps.{answer, answer_with, is_fresh, key_of, new_answer, reply_by_port, reply_kept, sent_and_kept, step, without_reply}
+use Rattle.rad_server.specs.Steps.{answer, answer_with, is_fresh, key_of, reply_by_port, reply_kept, sent_and_kept, without_reply}
 use Rattle.rad_server.specs.declared.answer.Answer.{Answer}
-use Rattle.rad_server.specs.declared.answer.Answer.TheVariants.{Send, Busy}
+use Rattle.rad_server.specs.declared.answer.Answer.TheVariants.{Send}
 use Rattle.rad_server.specs.declared.entry.Entry.{Entry}
 use Rattle.rad_server.proofs.PassingLemmas.{at_both}
 use Rattle.rad_server.proofs.RepeatLemmas.{reply_leaves}

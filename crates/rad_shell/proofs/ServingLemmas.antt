@@ -1,8 +1,8 @@
 -- Serving: a round has an entry for each outcome of an exchange, and turns go on from one another.
-use Rattle.std.proofs.Common.{◌≡◌, ◌≢◌, ◌⊎◌, ◌<◌, ◌≤◌, ℕ, zero, suc, ◌+◌, max, Bool, true, false, cond, List, [], ◌∷◌, ◌++◌, length, map, take, filter, get_or, Option, IfSome, Some, None, Result, Ok, Err, is_err, slice_get, arith, refl, sym, ap, subst, ◌∙◌, inl, inr}
+use Rattle.std.proofs.Common.{◌≡◌, ◌≢◌, ◌⊎◌, ◌<◌, ◌≤◌, ℕ, zero, suc, ◌+◌, max, Bool, true, false, cond, List, [], ◌∷◌, ◌++◌, length, map, take, filter, get_or, Option, IfSome, Some, None, Result, Ok, Err, IsTrue, is_err, slice_get, arith, refl, sym, ap, subst, ◌∙◌, inl, inr}
 use lib.ListN.{length-append}
 use Rattle.std.proofs.lemmas.Option.{get_or_from_slice_get, none-some, slice_get-get_or, slice_get_within}
-use Rattle.std.proofs.lemmas.List.{append-nil, take_all}
+use Rattle.std.proofs.lemmas.List.{append-nil, append_assoc, take_all}
 use Rattle.std.proofs.lemmas.List.Filters.{length-filter_more}
 use Rattle.std.proofs.lemmas.List.Sums.{length-filter, sum_by-cons}
 use Rattle.rad_auth.specs.Clients.{Client}
@@ -10,18 +10,24 @@ use Rattle.rad_config.specs.Ranges.{IsConfiguration}
 use Rattle.rad_config.specs.Spans.{moment_max}
 use Rattle.rad_server.specs.Lawful.{IsLawful}
 use Rattle.rad_server.specs.Repeats.{RunsRepeat}
-use Rattle.rad_server.specs.Runs.{HistoriesAfterTime, IsHistory, LeadsTo, RunsAreLawful, not_before}
+use Rattle.rad_server.specs.Runs.{HistoriesAfterTime, IsHistory, IsMarkedHistory, LeadsTo, RunsAreLawful, fresh_of, not_before}
 use Rattle.rad_server.specs.Servers.{Server}
 use Rattle.rad_server.specs.States.{when_passed}
 use Rattle.rad_server.specs.declared.entry.Entry.{Entry}
 use Rattle.rad_round.specs.Rounds.{HasArrival, HasEntry, HaveOwnTags, IsEntryOf, IsOutcome, Round, arrivals_max}
+use Rattle.rad_journal.specs.Journals.{added}
+use Rattle.rad_journal.specs.Kept.{kept_of}
+use Rattle.rad_journal.specs.Leads.{FreshAreKept, KeptLastOverTime, KeptLeadOn}
+use Rattle.rad_journal.specs.declared.journal.JournalFault.{JournalFault}
+use Rattle.rad_journal.specs.declared.kept.Kept.{Kept}
 use Rattle.rad_shell.specs.Passages.{Came, Fault, HavePassed, In, Out, Passage, Went, clock_told}
-use Rattle.rad_shell.specs.Serving.{AddTurn, AddUp, AreSent, AreTurns, AreTurnsSoFar, HasDrawn, IsBetween, IsCounted, IsLost, IsMade, IsRoundMade, IsServed, IsWithoutRoom, Situation, between, came_of, emptied, exchange_count, is_exchanged, is_replied, is_reply, no_turn, one_more, received_all, replied_count, replies, reply_count, stopped}
+use Rattle.rad_shell.specs.Serving.{AddTurn, AddUp, AddsTurn, AreSent, AreTurns, AreTurnsSoFar, HasDrawn, IsAnswered, IsBetween, IsCounted, IsLost, IsMade, IsRoundMade, IsServed, IsWithoutRoom, Outlives, Situation, Tally, UnlessJournal, between, came_of, emptied, exchange_count, is_exchanged, is_replied, is_reply, no_sums, no_turn, nothing_done, one_more, received_all, replied_count, replies, reply_count, round_lost, stopped, with_turn}
 use Rattle.rad_round.specs.declared.outcome.Outcome.{Outcome}
 use Rattle.rad_round.specs.declared.outcome.Outcome.TheVariants.{Dropped, Busy, NoMemory, Reply}
 use Rattle.rad_shell.specs.declared.ports.PortFault.{PortFault}
 use Rattle.rad_shell.specs.declared.serve_fault.ServeFault.{ServeFault}
 use Rattle.rad_shell.specs.declared.serve_fault.ServeFault.TheVariants as faults
+use Rattle.rad_shell.proofs.KeepingLemmas.{adds_all, adds_none, adds_some, leads_by_none, leads_by_turn, leads_by_unkept, leads_in_time, leads_nowhere, leads_settled, outlives_all, outlives_until}
 use Rattle.rad_shell.proofs.PassageLemmas.{both_passed}
 use Rattle.rad_shell.specs.declared.served.Served.{Served}
 use Rattle.rad_round.specs.declared.timed.Timed.{Timed}
@@ -307,15 +313,17 @@ as_many_replies (Some moment) (entry ∷ rest) = by_answer (is_reply entry.answe
 
 -- a round was made
 pub round_made : (before : Server) (came : List Came) (drawn : List (List ℕ)) (arrivals : List Timed) (outcomes : List Outcome)
-    (history : List Entry) (after : Server) → length arrivals ≤ arrivals_max → map came_of arrivals ≡ came
+    (history : List Entry) (marks : List Bool) (after : Server) → length arrivals ≤ arrivals_max → map came_of arrivals ≡ came
     → map (λ timed. timed.draw) arrivals ≡ drawn → Round before arrivals outcomes history after
-    → IsRoundMade before came drawn outcomes after
-round_made before came drawn arrivals outcomes history after few arrived drawn_are round = record {
+    → IsMarkedHistory before history marks after → FreshAreKept → IsConfiguration before.configuration
+    → IsLawful before.configuration before.state → IsRoundMade before came drawn outcomes history marks after
+round_made before came drawn arrivals outcomes history marks after few arrived drawn_are round marked fresh valid lawful = record {
   arrivals = arrivals;
-  history = history;
   arrived = arrived;
   drawn_are = drawn_are;
   round = round;
+  marked = marked;
+  enough = λ wall. fresh before history marks after wall valid lawful marked;
   exchanged = sym (count_every history) ∙ counted_in_round is_exchanged every exchanges_counted before arrivals outcomes history after round;
   replied = counted_in_round is_replied (λ entry. is_reply entry.answer) replies_counted before arrivals outcomes history after round;
   few = subst (λ n. n ≤ arrivals_max) (sym round.count) few;
@@ -324,39 +332,52 @@ round_made before came drawn arrivals outcomes history after few arrived drawn_a
 -- ---- one turn
 
 -- a turn without a round
-nothing_done : (before after : Server) → after ≡ before → IsHistory before [] after
-nothing_done before after is = subst (IsHistory before []) (sym is) (no_exchange before)
+no_round : (before after : Server) → after ≡ before → IsHistory before [] after
+no_round before after is = subst (IsHistory before []) (sym is) (no_exchange before)
 
-lost : {A : Type 0} (before : Situation) (served : Served) (result : A) (after : Situation) (served_after : Served)
+-- a turn, and what it did to a journal of which these facts hold if it is clean
+abbrev pub IsTurnOf : {A : Type 0} → Bool → Situation → Served → Result A ServeFault → Situation → Served → Type 0 → List Kept → List Kept
+    → (List Kept → Type 0) → (List Kept → Type 0) → Type 0
+IsTurnOf keeps before served result after served_after clean kept kept_now left left_now =
+    (turn : IsCounted keeps before served result after served_after) × (clean → AddsTurn kept turn.tally result kept_now left left_now)
+
+lost : {A : Type 0} (keeps : Bool) (before : Situation) (served : Served) (result : A) (after : Situation) (served_after : Served)
+    (clean : Type 0) (kept : List Kept) (left : List Kept → Type 0)
     → IsLost before after ⊎ IsWithoutRoom before after → after.server ≡ before.server → AddTurn 0 0 1 served served_after
-    → IsCounted before served (Ok result) after served_after
-lost before served result after served_after is server sums = record {
-  history = [];
-  lost = 1;
-  turn = inr (is, refl, refl);
-  run = nothing_done before.server after.server server;
-  sums = sums;
-}
+    → IsTurnOf keeps before served (Ok result) after served_after clean kept kept left left
+lost keeps before served result after served_after clean kept left is server sums = (
+  record {
+    tally = round_lost;
+    turn = inr (is, refl);
+    run = no_round before.server after.server server;
+    enough = λ _. leads_by_none before.server round_lost after.server server refl refl;
+    settled = refl;
+    sums = sums;
+  },
+  λ _. adds_none kept round_lost (Ok result) left refl,
+)
 
 -- a turn without room for datagrams
-pub idle_turn : {A : Type 0} (before : Situation) (served : Served) (waited : Option (List Passage)) (result : A) (after : Situation)
-    (served_after : Served) → HavePassed [] before.passed waited → HavePassed [] waited after.passed
+pub idle_turn : {A : Type 0} (keeps : Bool) (before : Situation) (served : Served) (waited : Option (List Passage)) (result : A) (after : Situation)
+    (served_after : Served) (clean : Type 0) (kept : List Kept) (left : List Kept → Type 0)
+    → HavePassed [] before.passed waited → HavePassed [] waited after.passed
     → after.random ≡ before.random → after.server ≡ before.server → AddTurn 0 0 1 served served_after
-    → IsCounted before served (Ok result) after served_after
-idle_turn before served waited result after served_after first later random server sums =
-    lost before served result after served_after (inr (record {
+    → IsTurnOf keeps before served (Ok result) after served_after clean kept kept left left
+idle_turn keeps before served waited result after served_after clean kept left first later random server sums =
+    lost keeps before served result after served_after clean kept left (inr (record {
       passed = both_passed [] [] before.passed waited after.passed first later;
       random = random;
       server = server;
     })) server sums
 
 -- a turn whose round is lost
-pub lost_turn : {A : Type 0} (before : Situation) (served : Served) (came : List Came) (drawn : List (List ℕ)) (passed : Option (List Passage))
-    (result : A) (after : Situation) (served_after : Served) → HasDrawn before came drawn after.random passed
+pub lost_turn : {A : Type 0} (keeps : Bool) (before : Situation) (served : Served) (came : List Came) (drawn : List (List ℕ))
+    (passed : Option (List Passage)) (result : A) (after : Situation) (served_after : Served) (clean : Type 0) (kept : List Kept)
+    (left : List Kept → Type 0) → HasDrawn before came drawn after.random passed
     → HavePassed [] passed after.passed → after.server ≡ before.server
-    → AddTurn 0 0 1 served served_after → IsCounted before served (Ok result) after served_after
-lost_turn before served came drawn passed result after served_after has paused server sums =
-    lost before served result after served_after (inl (record {
+    → AddTurn 0 0 1 served served_after → IsTurnOf keeps before served (Ok result) after served_after clean kept kept left left
+lost_turn keeps before served came drawn passed result after served_after clean kept left has paused server sums =
+    lost keeps before served result after served_after clean kept left (inl (record {
       came = came;
       passed = both_passed (map In came ++ emptied came) [] before.passed passed after.passed has.passed_is paused;
       random = has.random_is;
@@ -364,87 +385,173 @@ lost_turn before served came drawn passed result after served_after has paused s
     })) server sums
 
 -- a turn whose round isn't made
-pub cut_short : {A : Type 0} (before : Situation) (served : Served) (came : List Came) (waited : Option (List Passage))
-    (receiving : Result (Unit {0}) PortFault) (after : Situation) (served_after : Served) → is_err receiving ≡ true
+pub cut_short : {A : Type 0} (keeps : Bool) (before : Situation) (served : Served) (came : List Came) (waited : Option (List Passage))
+    (receiving : Result (Unit {0}) PortFault) (after : Situation) (served_after : Served) (clean : Type 0) (kept : List Kept)
+    (left : List Kept → Type 0) → is_err receiving ≡ true
     → HavePassed [] before.passed waited → HavePassed (received_all receiving came) waited after.passed
-    → after.random ≡ before.random → after.server ≡ before.server → IsCounted {A = A} before served (Err faults.Receive) after served_after
-cut_short before served came waited (Ok done) after served_after failed first later random server = absurd cc
-cut_short before served came waited (Err fault) after served_after failed first later random server = record {
-  history = [];
-  lost = 0;
-  turn = (
-    record {
-      came = came;
-      passed = both_passed [] (map In came ++ Fault ∷ []) before.passed waited after.passed first later;
-      random = random;
-      server = server;
-    },
-    refl,
-    refl,
-  );
-  run = nothing_done before.server after.server server;
-  sums = tt;
-}
+    → after.random ≡ before.random → after.server ≡ before.server
+    → IsTurnOf {A = A} keeps before served (Err faults.Receive) after served_after clean kept kept left left
+cut_short keeps before served came waited (Ok done) after served_after clean kept left failed first later random server = absurd cc
+cut_short {A} keeps before served came waited (Err fault) after served_after clean kept left failed first later random server = (
+  record {
+    tally = nothing_done;
+    turn = (
+      record {
+        came = came;
+        passed = both_passed [] (map In came ++ Fault ∷ []) before.passed waited after.passed first later;
+        random = random;
+        server = server;
+      },
+      refl,
+    );
+    run = no_round before.server after.server server;
+    enough = λ _. leads_by_none before.server nothing_done after.server server refl refl;
+    settled = tt;
+    sums = tt;
+  },
+  λ _. adds_none {A = A} kept nothing_done (Err faults.Receive) left refl,
+)
 
--- a turn whose round is made
-made : (before : Situation) (came : List Came) (drawn : List (List ℕ)) (outcomes listed : List Outcome) (passed : Option (List Passage))
-    (result : Result (Unit {0}) PortFault) (after : Situation) → HasDrawn before came drawn after.random passed
-    → (round : IsRoundMade before.server came drawn outcomes after.server) → listed ≡ outcomes
-    → (sent : AreSent (replies came listed) result passed after.passed) → IsMade before round.history sent.left after
-made before came drawn outcomes listed passed result after has round is sent = record {
-  came = came;
-  went = sent.went;
+-- a round is made of what came, and this is to be kept of it
+answered : (keeps : Bool) (before : Situation) (came : List Came) (drawn : List (List ℕ)) (outcomes : List Outcome) (history : List Entry)
+    (marks : List Bool) (wall : ℕ) (passed : Option (List Passage)) (after : Situation) → HasDrawn before came drawn after.random passed
+    → IsRoundMade before.server came drawn outcomes history marks after.server
+    → IsAnswered keeps before came outcomes history (added keeps (kept_of wall (fresh_of before.server.state.clock history marks))) after
+answered keeps before came drawn outcomes history marks wall passed after has round = record {
   arrivals = round.arrivals;
-  outcomes = outcomes;
-  passed = both_passed (map In came ++ emptied came) (map Out sent.went ++ stopped sent.left) before.passed passed after.passed has.passed_is sent.passed;
+  marks = marks;
+  wall = wall;
   arrived = round.arrived;
   drawn = round.drawn_are ∙ has.drawn_are;
   random = has.random_is;
   round = round.round;
+  marked = round.marked;
+  fresh = refl;
+}
+
+-- a turn whose round is made and kept
+made : (keeps : Bool) (before : Situation) (came : List Came) (drawn : List (List ℕ)) (outcomes listed : List Outcome) (history : List Entry)
+    (marks : List Bool) (wall : ℕ) (passed : Option (List Passage)) (result : Result (Unit {0}) PortFault) (after : Situation)
+    → HasDrawn before came drawn after.random passed
+    → IsRoundMade before.server came drawn outcomes history marks after.server → listed ≡ outcomes
+    → (sent : AreSent (replies came listed) result passed after.passed)
+    → IsMade keeps before history (added keeps (kept_of wall (fresh_of before.server.state.clock history marks))) sent.left after
+made keeps before came drawn outcomes listed history marks wall passed result after has round is sent = record {
+  came = came;
+  went = sent.went;
+  outcomes = outcomes;
+  answered = answered keeps before came drawn outcomes history marks wall passed after has round;
+  passed = both_passed (map In came ++ emptied came) (map Out sent.went ++ stopped sent.left) before.passed passed after.passed has.passed_is sent.passed;
   replied = sent.replied ∙ ap (replies came) is;
 }
 
-pub made_turn : {A : Type 0} (before : Situation) (served : Served) (came : List Came) (drawn : List (List ℕ)) (outcomes listed : List Outcome)
+-- what a commit to a journal did, if it is clean: it added this, and a crash leaves what it left before or that
+pub record IsCommitted (added : List Kept) (kept kept_now : List Kept) (left left_now : List Kept → Type 0) : Type 0 where
+  pub now : kept_now ≡ kept ++ added
+  pub crash : (one : List Kept) → left_now one → left one ⊎ (one ≡ kept ++ added)
+
+-- what is kept of the same entries with the same marks since the same clock is the same
+pub same_fresh : (clock now : ℕ) (listed history : List Entry) (noted marks : List Bool) → clock ≡ now → listed ≡ history → noted ≡ marks
+    → fresh_of clock listed noted ≡ fresh_of now history marks
+same_fresh clock now listed history noted marks clocks entries both =
+    ap (λ n. fresh_of n listed noted) clocks ∙ ap (λ list. fresh_of now list noted) entries ∙ ap (λ list. fresh_of now history list) both
+
+pub made_turn : {A : Type 0} (keeps : Bool) (before : Situation) (served : Served) (came : List Came) (drawn : List (List ℕ))
+    (outcomes listed : List Outcome) (history : List Entry) (marks : List Bool) (wall : ℕ)
     (passed : Option (List Passage)) (sending : Result (Unit {0}) PortFault) (result : A) (after : Situation) (served_after : Served)
+    (clean : Type 0) (kept kept_now : List Kept) (left left_now : List Kept → Type 0)
     → is_err sending ≡ false → HasDrawn before came drawn after.random passed
-    → IsRoundMade before.server came drawn outcomes after.server → listed ≡ outcomes
+    → IsRoundMade before.server came drawn outcomes history marks after.server → listed ≡ outcomes
     → AreSent (replies came listed) sending passed after.passed
     → AddTurn (exchange_count outcomes) (replied_count outcomes) 0 served served_after
-    → IsCounted before served (Ok result) after served_after
-made_turn before served came drawn outcomes listed passed (Err fault) result after served_after ok has round is sent sums = absurd cc
-made_turn before served came drawn outcomes listed passed (Ok done) result after served_after ok has round is sent sums = record {
-  history = round.history;
-  lost = 0;
-  turn = inl (
-    subst (λ left. IsMade before round.history left after) sent.none_left
-        (made before came drawn outcomes listed passed (Ok done) after has round is sent),
-    refl,
-  );
-  run = round.round.run;
-  sums = subst (λ n. AddTurn n (reply_count round.history) 0 served served_after) (sym round.exchanged)
-      (subst (λ n. AddTurn (exchange_count outcomes) n 0 served served_after) (sym round.replied) sums);
-}
+    → (clean → IsCommitted (added keeps (kept_of wall (fresh_of before.server.state.clock history marks))) kept kept_now left left_now)
+    → IsTurnOf keeps before served (Ok result) after served_after clean kept kept_now left left_now
+made_turn keeps before served came drawn outcomes listed history marks wall passed (Err fault) result after served_after clean kept kept_now left left_now ok has round is sent sums committed = absurd cc
+made_turn keeps before served came drawn outcomes listed history marks wall passed (Ok done) result after served_after clean kept kept_now left left_now ok has round is sent sums committed =
+    let all = kept_of wall (fresh_of before.server.state.clock history marks) in
+    let tally : Tally = record { history = history; lost = 0; kept = added keeps all; unkept = [] } in (
+      record {
+        tally = tally;
+        turn = inl (
+          subst (λ left. IsMade keeps before history (added keeps all) left after) sent.none_left
+              (made keeps before came drawn outcomes listed history marks wall passed (Ok done) after has round is sent),
+          refl,
+          refl,
+        );
+        run = round.round.run;
+        enough = leads_by_turn keeps before.server all tally after.server (round.enough wall) refl refl;
+        settled = refl;
+        sums = subst (λ n. AddTurn n (reply_count history) 0 served served_after) (sym round.exchanged)
+            (subst (λ n. AddTurn (exchange_count outcomes) n 0 served served_after) (sym round.replied) sums);
+      },
+      λ is_clean. let done = committed is_clean in adds_all kept tally (Ok result) kept_now left left_now refl done.now done.crash,
+    )
 
--- a turn whose round is made, but whose replies aren't all sent
-some_left : (before : Situation) (history : List Entry) (lost : ℕ) (left : List Went) (after : Situation) → lost ≡ 0 → (left ≡ [] → ⊥)
-    → IsMade before history left after → (next : Went) × (rest : List Went) × IsMade before history (next ∷ rest) after × (lost ≡ 0)
-some_left before history lost [] after none some is = absurd (some refl)
-some_left before history lost (next ∷ rest) after none some is = (next, rest, is, none)
+-- a turn whose round is made and kept, but whose replies aren't all sent
+some_left : (keeps : Bool) (before : Situation) (tally : Tally) (left : List Went) (after : Situation) → tally.lost ≡ 0 → tally.unkept ≡ []
+    → (left ≡ [] → ⊥) → IsMade keeps before tally.history tally.kept left after
+    → (next : Went) × (rest : List Went) × IsMade keeps before tally.history tally.kept (next ∷ rest) after × (tally.lost ≡ 0) × (tally.unkept ≡ [])
+some_left keeps before tally [] after none settled some is = absurd (some refl)
+some_left keeps before tally (next ∷ rest) after none settled some is = (next, rest, is, none, settled)
 
-pub unsent_turn : {A : Type 0} (before : Situation) (served : Served) (came : List Came) (drawn : List (List ℕ)) (outcomes listed : List Outcome)
+pub unsent_turn : {A : Type 0} (keeps : Bool) (before : Situation) (served : Served) (came : List Came) (drawn : List (List ℕ))
+    (outcomes listed : List Outcome) (history : List Entry) (marks : List Bool) (wall : ℕ)
     (passed : Option (List Passage)) (sending : Result (Unit {0}) PortFault) (after : Situation) (served_after : Served)
+    (clean : Type 0) (kept kept_now : List Kept) (left left_now : List Kept → Type 0)
     → is_err sending ≡ true → HasDrawn before came drawn after.random passed
-    → IsRoundMade before.server came drawn outcomes after.server → listed ≡ outcomes
-    → AreSent (replies came listed) sending passed after.passed → IsCounted {A = A} before served (Err faults.Send) after served_after
-unsent_turn before served came drawn outcomes listed passed (Ok done) after served_after failed has round is sent = absurd cc
-unsent_turn before served came drawn outcomes listed passed (Err fault) after served_after failed has round is sent = record {
-  history = round.history;
-  lost = 0;
-  turn = some_left before round.history 0 sent.left after refl sent.some_left
-      (made before came drawn outcomes listed passed (Err fault) after has round is sent);
-  run = round.round.run;
-  sums = tt;
-}
+    → IsRoundMade before.server came drawn outcomes history marks after.server → listed ≡ outcomes
+    → AreSent (replies came listed) sending passed after.passed
+    → (clean → IsCommitted (added keeps (kept_of wall (fresh_of before.server.state.clock history marks))) kept kept_now left left_now)
+    → IsTurnOf {A = A} keeps before served (Err faults.Send) after served_after clean kept kept_now left left_now
+unsent_turn keeps before served came drawn outcomes listed history marks wall passed (Ok done) after served_after clean kept kept_now left left_now failed has round is sent committed = absurd cc
+unsent_turn {A} keeps before served came drawn outcomes listed history marks wall passed (Err fault) after served_after clean kept kept_now left left_now failed has round is sent committed =
+    let all = kept_of wall (fresh_of before.server.state.clock history marks) in
+    let tally : Tally = record { history = history; lost = 0; kept = added keeps all; unkept = [] } in (
+      record {
+        tally = tally;
+        turn = some_left keeps before tally sent.left after refl refl sent.some_left
+            (made keeps before came drawn outcomes listed history marks wall passed (Err fault) after has round is sent);
+        run = round.round.run;
+        enough = leads_by_turn keeps before.server all tally after.server (round.enough wall) refl refl;
+        settled = tt;
+        sums = tt;
+      },
+      λ is_clean. let done = committed is_clean in adds_all {A = A} kept tally (Err faults.Send) kept_now left left_now refl done.now done.crash,
+    )
+
+-- a turn whose round is made, but perhaps not kept
+pub unkept_turn : {A : Type 0} (keeps : Bool) (before : Situation) (served : Served) (came : List Came) (drawn : List (List ℕ))
+    (outcomes : List Outcome) (history : List Entry) (marks : List Bool) (wall : ℕ)
+    (fault : JournalFault) (after : Situation) (served_after : Served)
+    (clean : Type 0) (kept kept_now : List Kept) (left left_now : List Kept → Type 0)
+    → HasDrawn before came drawn after.random after.passed
+    → IsRoundMade before.server came drawn outcomes history marks after.server → IsTrue keeps
+    → (clean → (one : List Kept) → left_now one
+    → left one ⊎ (one ≡ kept ++ added keeps (kept_of wall (fresh_of before.server.state.clock history marks))))
+    → IsTurnOf {A = A} keeps before served (Err (faults.Journal fault)) after served_after clean kept kept_now left left_now
+unkept_turn {A} keeps before served came drawn outcomes history marks wall fault after served_after clean kept kept_now left left_now has round fails crash =
+    let all = kept_of wall (fresh_of before.server.state.clock history marks) in
+    let tally : Tally = record { history = history; lost = 0; kept = []; unkept = added keeps all } in (
+      record {
+        tally = tally;
+        turn = (
+          record {
+            came = came;
+            outcomes = outcomes;
+            answered = answered keeps before came drawn outcomes history marks wall after.passed after has round;
+            passed = subst (λ list. HavePassed list before.passed after.passed) (sym (append-nil (map In came ++ emptied came))) has.passed_is;
+            fails = fails;
+          },
+          refl,
+          refl,
+        );
+        run = round.round.run;
+        enough = leads_by_unkept keeps before.server all tally after.server (round.enough wall) refl refl;
+        settled = tt;
+        sums = tt;
+      },
+      λ is_clean. adds_some {A = A} kept tally fault kept_now left left_now refl (crash is_clean),
+    )
 
 -- ---- between turns
 
@@ -479,101 +586,140 @@ leads_between before after passed passed_after is = record {
 
 -- ---- turns
 
+-- turns so far, and what they kept of a journal of which this holds if it is clean
+abbrev pub AreKeptSoFar : Bool → Situation → Served → Situation → Type 0 → List Kept → List Kept → Type 0
+AreKeptSoFar keeps before served after clean kept kept_now =
+    (so_far : AreTurnsSoFar keeps before served after) × (clean → kept_now ≡ kept ++ so_far.tally.kept)
+
 -- no turn yet
-pub nothing_served : (situation : Situation) (served : Served) → served.replies + served.busy ≡ 0 → served.failed ≡ 0
-    → served.rounds ≡ 0 → AreTurnsSoFar situation served situation
-nothing_served situation served none no_lost no_rounds = record {
-  history = [];
-  lost = 0;
-  turned = subst (λ n. AreTurns situation n [] 0 (Ok tt) situation) (sym no_rounds) no_turn;
-  run = in_time situation.server [] situation.server (no_exchange situation.server);
-  failed = no_lost;
-  replied = omega (arith, none);
-  exchanged = none;
-}
+pub none_add_up : AddUp no_sums
+none_add_up = record { rounds = omega arith; most = omega arith; once = omega arith; lost = omega arith; each = λ _. refl }
 
--- one more turn
-pub one_more_turn : {A : Type 0} (before : Situation) (served : Served) (middle : Situation) (result : A) (after : Situation) (served_after : Served)
-    → HistoriesAfterTime → AreTurnsSoFar before served middle → IsCounted middle served (Ok result) after served_after
-    → AreTurnsSoFar before served_after after
-one_more_turn before served middle result after served_after joins so_far turn =
-    let more : List Entry = not_before so_far.run.passed turn.history in record {
-      history = so_far.history ++ more;
-      lost = so_far.lost + turn.lost;
-      turned = subst (λ n. AreTurns before n (so_far.history ++ more) (so_far.lost + turn.lost) (Ok tt) after) (sym turn.sums.rounds)
-          (one_more turn.history turn.lost so_far.run so_far.turned turn.turn);
-      run = joins before.server middle.server after.server so_far.history turn.history so_far.run
-          (in_time middle.server turn.history after.server turn.run);
-      failed = omega (arith, turn.sums.failed, so_far.failed);
-      replied = omega (
-        arith,
-        turn.sums.replied,
-        so_far.replied,
-        as_many_replies so_far.run.passed turn.history,
-        count_append (λ entry. is_reply entry.answer) so_far.history more,
-      );
-      exchanged = omega (
-        arith,
-        turn.sums.exchanged,
-        so_far.exchanged,
-        as_many so_far.run.passed turn.history,
-        length-append so_far.history more,
-      );
-    }
+pub nothing_served : (keeps : Bool) (situation : Situation) (served : Served) (clean : Type 0) (kept : List Kept)
+    → served.replies + served.busy ≡ 0 → served.failed ≡ 0 → served.rounds ≡ 0 → AreKeptSoFar keeps situation served situation clean kept kept
+nothing_served keeps situation served clean kept none no_lost no_rounds = (
+  record {
+    tally = nothing_done;
+    turned = subst (λ n. AreTurns keeps situation n nothing_done (Ok tt) situation) (sym no_rounds) no_turn;
+    run = in_time situation.server [] situation.server (no_exchange situation.server);
+    enough = λ _. leads_nowhere situation.server;
+    settled = refl;
+    failed = no_lost;
+    replied = omega (arith, none);
+    exchanged = none;
+  },
+  λ _. sym (append-nil kept),
+)
 
--- and what is done after it
-pub and_between : (before : Situation) (served : Served) (middle : Situation) (server : Server) (passed : Option (List Passage))
-    → HistoriesAfterTime → AreTurnsSoFar before served middle → IsBetween middle.server middle.passed server passed
-    → AreTurnsSoFar before served (record { server = server; random = middle.random; passed = passed })
-and_between before served middle server passed joins so_far is =
-    let run : LeadsTo before.server (so_far.history ++ not_before so_far.run.passed []) server =
-    joins before.server middle.server server so_far.history [] so_far.run (leads_between middle.server server middle.passed passed is) in
-    record {
-      history = so_far.history;
-      lost = so_far.lost;
-      turned = between server passed so_far.turned is;
-      run = subst (λ list. LeadsTo before.server list server)
-          (ap (λ list. so_far.history ++ list) (none_not_before so_far.run.passed) ∙ append-nil so_far.history) run;
-      failed = so_far.failed;
-      replied = so_far.replied;
-      exchanged = so_far.exchanged;
-    }
+-- one more turn, and what is done after it
+pub one_more_turn : {A : Type 0} (keeps : Bool) (before : Situation) (served : Served) (middle : Situation) (result : A) (after : Situation)
+    (served_after : Served) (server : Server) (passed : Option (List Passage)) (clean : Type 0) (kept kept_middle kept_now : List Kept)
+    (left left_now : List Kept → Type 0) → HistoriesAfterTime → KeptLeadOn → KeptLastOverTime
+    → (so_far : AreTurnsSoFar keeps before served middle) → (clean → kept_middle ≡ kept ++ so_far.tally.kept)
+    → IsTurnOf keeps middle served (Ok result) after served_after clean kept_middle kept_now left left_now
+    → IsBetween after.server after.passed server passed
+    → AreKeptSoFar keeps before served_after (record { server = server; random = after.random; passed = passed }) clean kept kept_now
+one_more_turn {A} keeps before served middle result after served_after server passed clean kept kept_middle kept_now left left_now joins leads_on lasts so_far was (turn, adds) is =
+    let more : List Entry = not_before so_far.run.passed turn.tally.history in
+    let tally : Tally = with_turn so_far.run.passed so_far.tally turn.tally in
+    let run : LeadsTo before.server tally.history after.server =
+    joins before.server middle.server after.server so_far.tally.history turn.tally.history so_far.run
+    (in_time middle.server turn.tally.history after.server turn.run) in
+    let later : LeadsTo before.server (tally.history ++ not_before run.passed []) server =
+    joins before.server after.server server tally.history [] run (leads_between after.server server after.passed passed is) in (
+      record {
+        tally = tally;
+        turned = between server passed
+            (subst (λ n. AreTurns keeps before n tally (Ok tt) after) (sym turn.sums.rounds) (one_more turn.tally so_far.run so_far.turned turn.turn)) is;
+        run = subst (λ list. LeadsTo before.server list server)
+            (ap (λ list. tally.history ++ list) (none_not_before run.passed) ∙ append-nil tally.history) later;
+        enough = λ keeping. leads_in_time before.server after.server server after.passed passed tally.kept lasts
+            (leads_on before.server middle.server after.server so_far.tally.kept turn.tally.kept (so_far.enough keeping)
+            (leads_settled leads_on middle.server turn.tally after.server turn.settled (turn.enough keeping))) is;
+        settled = turn.settled;
+        failed = omega (arith, turn.sums.failed, so_far.failed);
+        replied = omega (
+          arith,
+          turn.sums.replied,
+          so_far.replied,
+          as_many_replies so_far.run.passed turn.tally.history,
+          count_append (λ entry. is_reply entry.answer) so_far.tally.history more,
+        );
+        exchanged = omega (
+          arith,
+          turn.sums.exchanged,
+          so_far.exchanged,
+          as_many so_far.run.passed turn.tally.history,
+          length-append so_far.tally.history more,
+        );
+      },
+      λ is_clean.
+      let added : kept_now ≡ kept_middle ++ turn.tally.kept = (adds is_clean).now in
+      added ∙ ap (λ list. list ++ turn.tally.kept) (was is_clean) ∙ append_assoc kept so_far.tally.kept turn.tally.kept,
+    )
+
+-- all turns that were made, and what they did to a journal of which these facts hold if it is clean and was open
+abbrev pub IsServedOf : Bool → ℕ → Situation → Result Served ServeFault → Situation → Type 0 → Type 0 → List Kept → List Kept
+    → (List Kept → Type 0) → Type 0
+IsServedOf keeps turns before result after clean opened kept kept_now may_leave =
+    (served : IsServed keeps turns before result after) × (clean → opened → Outlives kept served.tally result kept_now may_leave)
 
 -- all turns
-pub served_all : (turns : ℕ) (before : Situation) (served : Served) (after : Situation) → RunsRepeat → RunsAreLawful
+pub served_all : (keeps : Bool) (turns : ℕ) (before : Situation) (served : Served) (after : Situation) (clean opened : Type 0)
+    (kept kept_now : List Kept) (may_leave : List Kept → Type 0) → RunsRepeat → RunsAreLawful
     → IsConfiguration before.server.configuration → IsLawful before.server.configuration before.server.state
-    → AreTurnsSoFar before served after → AddUp served → served.rounds ≡ turns → IsServed turns before (Ok served) after
-served_all turns before served after repeats laws valid lawful so_far sums rounds = record {
-  made = served.rounds;
-  history = so_far.history;
-  lost = so_far.lost;
-  turned = so_far.turned;
-  most = omega (arith, rounds);
-  all = rounds;
-  run = so_far.run;
-  repeat = repeats before.server.configuration before.server.state so_far.history valid lawful;
-  lawful = laws before.server.configuration before.server.state so_far.history valid lawful;
-  sums = record { rounds = rounds; failed = so_far.failed; replies = so_far.replied; exchanged = so_far.exchanged; datagrams = sums.each };
-}
+    → (so_far : AreTurnsSoFar keeps before served after) → (clean → kept_now ≡ kept ++ so_far.tally.kept)
+    → (clean → opened → (left : List Kept) → may_leave left → left ≡ kept_now) → AddUp served → served.rounds ≡ turns
+    → IsServedOf keeps turns before (Ok served) after clean opened kept kept_now may_leave
+served_all keeps turns before served after clean opened kept kept_now may_leave repeats laws valid lawful so_far was settled sums rounds = (
+  record {
+    made = served.rounds;
+    tally = so_far.tally;
+    turned = so_far.turned;
+    most = omega (arith, rounds);
+    all = rounds;
+    run = so_far.run;
+    repeat = repeats before.server.configuration before.server.state so_far.tally.history valid lawful;
+    lawful = laws before.server.configuration before.server.state so_far.tally.history valid lawful;
+    enough = λ is. leads_by_turn true before.server so_far.tally.kept so_far.tally after.server (so_far.enough is) refl so_far.settled refl;
+    settled = so_far.settled;
+    sums = record { rounds = rounds; failed = so_far.failed; replies = so_far.replied; exchanged = so_far.exchanged; datagrams = sums.each };
+  },
+  λ is_clean was_open. outlives_all kept so_far.tally served kept_now may_leave (was is_clean) (settled is_clean was_open),
+)
 
 -- turns until a fault
-pub served_until : {A : Type 0} (turns : ℕ) (before : Situation) (served : Served) (middle : Situation) (fault reported : ServeFault)
-    (after : Situation) (served_after : Served) → RunsRepeat → RunsAreLawful → HistoriesAfterTime
+pub served_until : {A : Type 0} (keeps : Bool) (turns : ℕ) (before : Situation) (served : Served) (middle : Situation) (fault reported : ServeFault)
+    (after : Situation) (served_after : Served) (clean opened : Type 0) (kept kept_middle kept_now : List Kept) (left left_now : List Kept → Type 0)
+    → RunsRepeat → RunsAreLawful → HistoriesAfterTime → KeptLeadOn
     → IsConfiguration before.server.configuration → IsLawful before.server.configuration before.server.state
-    → AreTurnsSoFar before served middle → served.rounds < turns → reported ≡ fault
-    → IsCounted {A = A} middle served (Err fault) after served_after → IsServed turns before (Err reported) after
-served_until turns before served middle fault reported after served_after repeats laws joins valid lawful so_far fewer is turn =
-    let history = so_far.history ++ not_before so_far.run.passed turn.history in record {
-      made = served.rounds + 1;
-      history = history;
-      lost = so_far.lost + turn.lost;
-      turned = subst (λ f. AreTurns before (served.rounds + 1) history (so_far.lost + turn.lost) (Err f) after) (sym is)
-          (one_more turn.history turn.lost so_far.run so_far.turned turn.turn);
-      most = omega (arith, fewer);
-      all = tt;
-      run = joins before.server middle.server after.server so_far.history turn.history so_far.run
-          (in_time middle.server turn.history after.server turn.run);
-      repeat = repeats before.server.configuration before.server.state history valid lawful;
-      lawful = laws before.server.configuration before.server.state history valid lawful;
-      sums = tt;
-    }
+    → (so_far : AreTurnsSoFar keeps before served middle) → (clean → kept_middle ≡ kept ++ so_far.tally.kept) → served.rounds < turns → reported ≡ fault
+    → IsTurnOf {A = A} keeps middle served (Err fault) after served_after clean kept_middle kept_now left left_now
+    → (clean → opened → (one : List Kept) → left one → one ≡ kept_middle)
+    → (clean → opened → UnlessJournal {A = A} (Err fault) ((one : List Kept) → left_now one → one ≡ kept_now))
+    → IsServedOf keeps turns before (Err reported) after clean opened kept kept_now left_now
+served_until {A} keeps turns before served middle fault reported after served_after clean opened kept kept_middle kept_now left left_now repeats laws joins leads_on valid lawful so_far was fewer is (turn, adds) settled still =
+    let total : Tally = with_turn so_far.run.passed so_far.tally turn.tally in
+    subst (λ f. IsServedOf keeps turns before (Err f) after clean opened kept kept_now left_now) (sym is) (
+      record {
+        made = served.rounds + 1;
+        tally = total;
+        turned = one_more turn.tally so_far.run so_far.turned turn.turn;
+        most = omega (arith, fewer);
+        all = tt;
+        run = joins before.server middle.server after.server so_far.tally.history turn.tally.history so_far.run
+            (in_time middle.server turn.tally.history after.server turn.run);
+        repeat = repeats before.server.configuration before.server.state total.history valid lawful;
+        lawful = laws before.server.configuration before.server.state total.history valid lawful;
+        enough = λ keeping.
+            let last = turn.enough keeping in record {
+              middle = last.middle;
+              kept = leads_on before.server middle.server last.middle so_far.tally.kept turn.tally.kept (so_far.enough keeping) last.kept;
+              unkept = last.unkept;
+            };
+        settled = tt;
+        sums = tt;
+      },
+      λ is_clean was_open. outlives_until {A = A} keeps middle after kept kept_middle kept_now so_far.tally.kept turn.tally fault total left left_now turn.turn
+      (adds is_clean) (was is_clean) refl refl (settled is_clean was_open) (still is_clean was_open),
+    )

@@ -2,20 +2,24 @@
 --
 -- A turn receives until no datagram waits or a round is full. A round may be lost: then the server is as it was, and the round is counted.
 -- Between turns time may pass for the server, up to a moment that the ports told.
-use Rattle.std.specs.Prelude.{◌≡◌, ◌⊎◌, ℕ, zero, suc, ◌+◌, ◌-◌, ◌*◌, ◌^◌, ◌==◌, ◌||◌, min, ◌≤◌, ◌<◌, Bool, true, false, List, [], ◌∷◌, ◌++◌, drop, length, map, take, filter, Option, Result, Ok, Err, IfOk, IfSome, OnErr, OnOk, nat_lt, if◌then◌else◌}
+use Rattle.std.specs.Prelude.{◌≡◌, ◌⊎◌, ℕ, zero, suc, ◌+◌, ◌-◌, ◌*◌, ◌^◌, ◌==◌, ◌||◌, min, ◌≤◌, ◌<◌, Bool, true, false, List, [], ◌∷◌, ◌++◌, drop, length, map, take, filter, Option, Result, Ok, Err, IfOk, IfSome, IsTrue, OnErr, OnOk, nat_lt, if◌then◌else◌}
 use Rattle.std.specs.List.{list_any, sum_by}
 use Rattle.rand_core.specs.Stream.{Stream, fill_bytes}
 use Rattle.rad_auth.specs.Datagrams.{datagram_of}
 use Rattle.rad_config.specs.Spans.{moment_max}
 use Rattle.rad_packet.specs.Packets.{length_max}
 use Rattle.rad_server.specs.Repeats.{Repeat}
-use Rattle.rad_server.specs.Runs.{IsHistory, IsLawfulThroughout, LeadsTo, not_before}
+use Rattle.rad_server.specs.Runs.{IsHistory, IsLawfulThroughout, IsMarkedHistory, LeadsTo, fresh_of, not_before}
 use Rattle.rad_server.specs.Servers.{Server}
 use Rattle.rad_server.specs.States.{when_passed}
 use Rattle.rad_server.specs.declared.answer.Answer.{Answer}
 use Rattle.rad_server.specs.declared.answer.Answer.TheVariants as answers
 use Rattle.rad_server.specs.declared.entry.Entry.{Entry}
 use Rattle.rad_round.specs.Rounds.{Round, arrivals_max}
+use Rattle.rad_journal.specs.Journals.{added}
+use Rattle.rad_journal.specs.Kept.{kept_of}
+use Rattle.rad_journal.specs.Leads.{LeadKept}
+use Rattle.rad_journal.specs.declared.kept.Kept.{Kept}
 use Rattle.rad_round.specs.declared.outcome.Outcome.{Outcome}
 use Rattle.rad_round.specs.declared.outcome.Outcome.TheVariants.{Dropped, Busy, NoMemory, Reply}
 use Rattle.rad_round.specs.declared.timed.Timed.{Timed}
@@ -37,12 +41,23 @@ abbrev pub serve_fault_number : ServeFault → ℕ
 serve_fault_number faults.Receive = 1
 serve_fault_number faults.Send = 2
 serve_fault_number faults.Mismatch = 3
+serve_fault_number (faults.Journal fault) = 4
 
--- the fault of a port is reported only if failures were counted: they were so many before, and so many after; no other fault is reported
-abbrev pub HasCause : ℕ → ℕ → ServeFault → Type 0
-HasCause before after faults.Receive = before < after
-HasCause before after faults.Send = before < after
-HasCause before after faults.Mismatch = ⊥
+-- the fault of a port is reported only if failures were counted: they were so many before, and so many after; that of a journal, only if
+-- anything is kept; no other fault is reported
+abbrev pub HasCause : Bool → ℕ → ℕ → ServeFault → Type 0
+HasCause keeps before after faults.Receive = before < after
+HasCause keeps before after faults.Send = before < after
+HasCause keeps before after faults.Mismatch = ⊥
+HasCause keeps before after (faults.Journal fault) = IsTrue keeps
+
+-- how many faults of ports a call reported
+abbrev pub port_faults : {A : Type 0} → Result A ServeFault → ℕ
+port_faults (Ok done) = 0
+port_faults (Err faults.Receive) = 1
+port_faults (Err faults.Send) = 1
+port_faults (Err faults.Mismatch) = 0
+port_faults (Err (faults.Journal fault)) = 0
 
 -- ---- draws
 
@@ -122,6 +137,30 @@ pub record AreSums (turns lost : ℕ) (history : List Entry) (served : Served) :
 
 -- ---- turns
 
+-- What turns came to: their exchanges; how many rounds were lost; what was kept of the exchanges; and what was to be kept of the last
+-- round and perhaps isn't, since the journal failed.
+pub record Tally : Type 0 where
+  pub history : List Entry
+  pub lost : ℕ
+  pub kept : List Kept
+  pub unkept : List Kept
+
+-- no turn, and a turn whose round is lost
+abbrev pub nothing_done : Tally
+nothing_done = record { history = []; lost = 0; kept = []; unkept = [] }
+
+abbrev pub round_lost : Tally
+round_lost = record nothing_done { lost = 1 }
+
+-- turns, and one more before whose round time may have passed
+abbrev pub with_turn : Option ℕ → Tally → Tally → Tally
+with_turn passed tally more = record {
+  history = tally.history ++ not_before passed more.history;
+  lost = tally.lost + more.lost;
+  kept = tally.kept ++ more.kept;
+  unkept = more.unkept;
+}
+
 -- how things stand: the server, the random octets to come, and what the ports tell of what has passed
 pub record Situation : Type 0 where
   pub server : Server
@@ -141,19 +180,36 @@ stopped (next ∷ rest) = Fault ∷ []
 abbrev pub passages : List Came → List Went → List Went → List Passage
 passages came went left = (map In came ++ emptied came) ++ (map Out went ++ stopped left)
 
--- A turn whose round is made. Its round is one of just the datagrams that came, with their moments, and with the next draws; just the
--- replies to them went, in their order, but for the last ones that are left.
-pub record IsMade (before : Situation) (history : List Entry) (left : List Went) (after : Situation) : Type 0 where
-  pub came : List Came
-  pub went : List Went
+-- A round of just the datagrams that came, with their moments, and with the next draws. What is to be kept of it, if anything is kept at
+-- all, is its fresh entries, each at the moment at which it counted, at one wall time.
+pub record IsAnswered (keeps : Bool) (before : Situation) (came : List Came) (outcomes : List Outcome) (history : List Entry) (kept : List Kept)
+    (after : Situation) : Type 0 where
   pub arrivals : List Timed
-  pub outcomes : List Outcome
-  pub passed : HavePassed (passages came went left) before.passed after.passed
+  pub marks : List Bool
+  pub wall : ℕ
   pub arrived : map came_of arrivals ≡ came
   pub drawn : map (λ timed. timed.draw) arrivals ≡ draws (length came) before.random
   pub random : after.random ≡ after_draws (length came) before.random
   pub round : Round before.server arrivals outcomes history after.server
+  pub marked : IsMarkedHistory before.server history marks after.server
+  pub fresh : kept ≡ added keeps (kept_of wall (fresh_of before.server.state.clock history marks))
+
+-- a turn whose round is made and kept: just the replies to what came went, in their order, but for the last ones that are left
+pub record IsMade (keeps : Bool) (before : Situation) (history : List Entry) (kept : List Kept) (left : List Went) (after : Situation) : Type 0 where
+  pub came : List Came
+  pub went : List Went
+  pub outcomes : List Outcome
+  pub answered : IsAnswered keeps before came outcomes history kept after
+  pub passed : HavePassed (passages came went left) before.passed after.passed
   pub replied : went ++ left ≡ replies came outcomes
+
+-- a turn whose round is made, but perhaps not kept, since the journal failed: nothing went
+pub record IsUnkept (keeps : Bool) (before : Situation) (history : List Entry) (unkept : List Kept) (after : Situation) : Type 0 where
+  pub came : List Came
+  pub outcomes : List Outcome
+  pub answered : IsAnswered keeps before came outcomes history unkept after
+  pub passed : HavePassed (passages came [] []) before.passed after.passed
+  pub fails : IsTrue keeps
 
 -- a turn whose round is lost: what came is lost with its draws, nothing went, and the server is as it was
 pub record IsLost (before : Situation) (after : Situation) : Type 0 where
@@ -176,15 +232,17 @@ pub record IsCutShort (before : Situation) (after : Situation) : Type 0 where
   pub server : after.server ≡ before.server
 
 -- A turn, by how it ends: all replies of its round went, or it is lost; or a port failed before the round, or while replies were sent, so
--- that some are left. So many rounds of it are lost.
-abbrev pub IsTurn : Situation → List Entry → ℕ → Result (Unit {0}) ServeFault → Situation → Type 0
-IsTurn before history lost (Ok done) after =
-    (IsMade before history [] after × (lost ≡ 0))
-    ⊎ ((IsLost before after ⊎ IsWithoutRoom before after) × (history ≡ []) × (lost ≡ 1))
-IsTurn before history lost (Err faults.Receive) after = IsCutShort before after × (history ≡ []) × (lost ≡ 0)
-IsTurn before history lost (Err faults.Send) after =
-    (next : Went) × (rest : List Went) × IsMade before history (next ∷ rest) after × (lost ≡ 0)
-IsTurn before history lost (Err faults.Mismatch) after = ⊥
+-- that some are left; or the journal failed before any was sent.
+abbrev pub IsTurn : Bool → Situation → Tally → Result (Unit {0}) ServeFault → Situation → Type 0
+IsTurn keeps before tally (Ok done) after =
+    (IsMade keeps before tally.history tally.kept [] after × (tally.lost ≡ 0) × (tally.unkept ≡ []))
+    ⊎ ((IsLost before after ⊎ IsWithoutRoom before after) × (tally ≡ round_lost))
+IsTurn keeps before tally (Err faults.Receive) after = IsCutShort before after × (tally ≡ nothing_done)
+IsTurn keeps before tally (Err faults.Send) after =
+    (next : Went) × (rest : List Went) × IsMade keeps before tally.history tally.kept (next ∷ rest) after × (tally.lost ≡ 0) × (tally.unkept ≡ [])
+IsTurn keeps before tally (Err faults.Mismatch) after = ⊥
+IsTurn keeps before tally (Err (faults.Journal fault)) after =
+    IsUnkept keeps before tally.history tally.unkept after × (tally.lost ≡ 0) × (tally.kept ≡ [])
 
 -- between turns: perhaps the ports told a moment, and time passed for the server up to it
 pub record IsBetween (before : Server) (passed : Option (List Passage)) (after : Server) (passed_after : Option (List Passage))
@@ -195,37 +253,61 @@ pub record IsBetween (before : Server) (passed : Option (List Passage)) (after :
   pub configuration : after.configuration ≡ before.configuration
   pub state : after.state ≡ when_passed moment before.state
 
--- So many turns one after another, up to the first fault, with all their exchanges and the number of lost ones. Where time has passed since
--- the last exchange, the next one doesn't come before then.
-pub data AreTurns (before : Situation) : ℕ → List Entry → ℕ → Result (Unit {0}) ServeFault → Situation → Type 0 where
-  no_turn : AreTurns before 0 [] 0 (Ok tt) before
-  one_more : {turns : ℕ} {history : List Entry} {lost : ℕ} {middle : Situation} (more : List Entry) (lost_more : ℕ)
-      {result : Result (Unit {0}) ServeFault} {after : Situation} (leads : LeadsTo before.server history middle.server)
-      → AreTurns before turns history lost (Ok tt) middle → IsTurn middle more lost_more result after
-      → AreTurns before (turns + 1) (history ++ not_before leads.passed more) (lost + lost_more) result after
-  between : {turns : ℕ} {history : List Entry} {lost : ℕ} {middle : Situation} (server : Server) (passed : Option (List Passage))
-      → AreTurns before turns history lost (Ok tt) middle → IsBetween middle.server middle.passed server passed
-      → AreTurns before turns history lost (Ok tt) (record { server = server; random = middle.random; passed = passed })
+-- So many turns one after another, up to the first fault, and what they came to. Where time has passed since the last exchange, the next one
+-- doesn't come before then.
+pub data AreTurns (keeps : Bool) (before : Situation) : ℕ → Tally → Result (Unit {0}) ServeFault → Situation → Type 0 where
+  no_turn : AreTurns keeps before 0 nothing_done (Ok tt) before
+  one_more : {turns : ℕ} {tally : Tally} {middle : Situation} (more : Tally)
+      {result : Result (Unit {0}) ServeFault} {after : Situation} (leads : LeadsTo before.server tally.history middle.server)
+      → AreTurns keeps before turns tally (Ok tt) middle → IsTurn keeps middle more result after
+      → AreTurns keeps before (turns + 1) (with_turn leads.passed tally more) result after
+  between : {turns : ℕ} {tally : Tally} {middle : Situation} (server : Server) (passed : Option (List Passage))
+      → AreTurns keeps before turns tally (Ok tt) middle → IsBetween middle.server middle.passed server passed
+      → AreTurns keeps before turns tally (Ok tt) (record { server = server; random = middle.random; passed = passed })
 
 -- how turns ended
 abbrev pub ended : {A : Type 0} → Result A ServeFault → Result (Unit {0}) ServeFault
 ended (Ok served) = Ok tt
 ended (Err fault) = Err fault
 
+-- what is kept leads from one server to one that is like another from now on, by way of the one before the last round, if that is unkept
+pub record LeadsByKept (before : Server) (tally : Tally) (after : Server) : Type 0 where
+  pub middle : Server
+  pub kept : LeadKept before tally.kept middle
+  pub unkept : LeadKept middle tally.unkept after
+
 -- What so many turns make, or fewer up to a fault: their exchanges lead from the server before to the one after, but for time that may
--- have passed since; each repeat is answered again, and every state on the way is lawful. If no fault ended them, their sums count these
--- exchanges and the lost turns.
-pub record IsServed (turns : ℕ) (before : Situation) (result : Result Served ServeFault) (after : Situation) : Type 0 where
+-- have passed since; each repeat is answered again, and every state on the way is lawful. If anything is kept, that is enough to come to a
+-- server that no later step can tell from the one after. If no fault ended the turns, their sums count these exchanges and the lost turns.
+pub record IsServed (keeps : Bool) (turns : ℕ) (before : Situation) (result : Result Served ServeFault) (after : Situation) : Type 0 where
   pub made : ℕ
-  pub history : List Entry
-  pub lost : ℕ
-  pub turned : AreTurns before made history lost (ended result) after
+  pub tally : Tally
+  pub turned : AreTurns keeps before made tally (ended result) after
   pub most : made ≤ turns
   pub all : OnOk result (made ≡ turns)
-  pub run : LeadsTo before.server history after.server
-  pub repeat : Repeat before.server.configuration before.server.state history
-  pub lawful : IsLawfulThroughout before.server.configuration before.server.state history
-  pub sums : IfOk result (AreSums turns lost history)
+  pub run : LeadsTo before.server tally.history after.server
+  pub repeat : Repeat before.server.configuration before.server.state tally.history
+  pub lawful : IsLawfulThroughout before.server.configuration before.server.state tally.history
+  pub enough : IsTrue keeps → LeadsByKept before.server tally after.server
+  pub settled : OnOk result (tally.unkept ≡ [])
+  pub sums : IfOk result (AreSums turns tally.lost tally.history)
+
+-- ---- what a crash leaves
+
+-- this holds unless the journal failed
+abbrev pub UnlessJournal : {A : Type 0} → Result A ServeFault → Type 0 → Type 0
+UnlessJournal (Ok done) P = P
+UnlessJournal (Err faults.Receive) P = P
+UnlessJournal (Err faults.Send) P = P
+UnlessJournal (Err faults.Mismatch) P = P
+UnlessJournal (Err (faults.Journal fault)) P = Unit {0}
+
+-- Turns came to this: each crash from now on leaves what was kept before and what they kept, and perhaps what the last one didn't keep,
+-- since the journal failed. If it didn't, the journal has just the first.
+pub record Outlives {A : Type 0} (kept : List Kept) (tally : Tally) (result : Result A ServeFault) (kept_now : List Kept)
+    (may_leave : List Kept → Type 0) : Type 0 where
+  pub now : UnlessJournal result (kept_now ≡ kept ++ tally.kept)
+  pub left : (left : List Kept) → may_leave left → (left ≡ kept ++ tally.kept) ⊎ (left ≡ kept ++ (tally.kept ++ tally.unkept))
 
 -- ---- one turn (private)
 
@@ -320,32 +402,42 @@ pub record AreSentBefore (all : List Went) (got : List Got) (outcomes : List Out
   pub replied : went ++ replies (came_in got octets) outcomes ≡ all
 
 -- a round of these datagrams with these draws was made: there is one exchange for each outcome of an exchange, and as many are answered
--- by a reply as there are replies
-pub record IsRoundMade (before : Server) (came : List Came) (drawn : List (List ℕ)) (outcomes : List Outcome) (after : Server) : Type 0 where
+-- by a reply as there are replies; what is kept of it is enough
+pub record IsRoundMade (before : Server) (came : List Came) (drawn : List (List ℕ)) (outcomes : List Outcome) (history : List Entry)
+    (marks : List Bool) (after : Server) : Type 0 where
   pub arrivals : List Timed
-  pub history : List Entry
   pub arrived : map came_of arrivals ≡ came
   pub drawn_are : map (λ timed. timed.draw) arrivals ≡ drawn
   pub round : Round before arrivals outcomes history after
+  pub marked : IsMarkedHistory before history marks after
+  pub enough : (wall : ℕ) → LeadKept before (kept_of wall (fresh_of before.state.clock history marks)) after
   pub exchanged : length history ≡ exchange_count outcomes
   pub replied : reply_count history ≡ replied_count outcomes
   pub few : length outcomes ≤ arrivals_max
 
 -- a turn, whose exchanges are counted if there is no fault
-pub record IsCounted {A : Type 0} (before : Situation) (served : Served) (result : Result A ServeFault) (after : Situation) (served_after : Served)
-    : Type 0 where
-  pub history : List Entry
-  pub lost : ℕ
-  pub turn : IsTurn before history lost (ended result) after
-  pub run : IsHistory before.server history after.server
-  pub sums : OnOk result (AddTurn (length history) (reply_count history) lost served served_after)
+pub record IsCounted {A : Type 0} (keeps : Bool) (before : Situation) (served : Served) (result : Result A ServeFault) (after : Situation)
+    (served_after : Served) : Type 0 where
+  pub tally : Tally
+  pub turn : IsTurn keeps before tally (ended result) after
+  pub run : IsHistory before.server tally.history after.server
+  pub enough : IsTrue keeps → LeadsByKept before.server tally after.server
+  pub settled : OnOk result (tally.unkept ≡ [])
+  pub sums : OnOk result (AddTurn (length tally.history) (reply_count tally.history) tally.lost served served_after)
+
+-- what a turn did to a journal: it added what it kept, or failed and may have added what is unkept
+pub record AddsTurn {A : Type 0} (kept : List Kept) (tally : Tally) (result : Result A ServeFault) (kept_now : List Kept)
+    (left_before left_now : List Kept → Type 0) : Type 0 where
+  pub now : UnlessJournal result (kept_now ≡ kept ++ tally.kept)
+  pub left : (left : List Kept) → left_now left → left_before left ⊎ (left ≡ kept ++ (tally.kept ++ tally.unkept))
 
 -- turns without a fault, which the sums count
-pub record AreTurnsSoFar (before : Situation) (served : Served) (after : Situation) : Type 0 where
-  pub history : List Entry
-  pub lost : ℕ
-  pub turned : AreTurns before served.rounds history lost (Ok tt) after
-  pub run : LeadsTo before.server history after.server
-  pub failed : served.failed ≡ lost
-  pub replied : served.replies ≡ reply_count history
-  pub exchanged : served.replies + served.busy ≡ length history
+pub record AreTurnsSoFar (keeps : Bool) (before : Situation) (served : Served) (after : Situation) : Type 0 where
+  pub tally : Tally
+  pub turned : AreTurns keeps before served.rounds tally (Ok tt) after
+  pub run : LeadsTo before.server tally.history after.server
+  pub enough : IsTrue keeps → LeadKept before.server tally.kept after.server
+  pub settled : tally.unkept ≡ []
+  pub failed : served.failed ≡ tally.lost
+  pub replied : served.replies ≡ reply_count tally.history
+  pub exchanged : served.replies + served.busy ≡ length tally.history

@@ -88,6 +88,11 @@ pub trait Ports {
     fn faults(&self) -> u64
         ensures { result ≡ failures self.now };
 
+    /// The wall time now, in milliseconds since 1970; 0 where the ports have none.
+    fn wall(&self) -> u64 {
+        0
+    }
+
     /// The moment now, in milliseconds, at most `MOMENT_MAX`, by the clock that tells when datagrams come. Ports needn't have one.
     fn moment(&mut self) -> Option<u64>
         ensures moment { IfSome result (λ moment. moment ≤ moment_max) }

@@ -2,6 +2,7 @@
 ghost use Rattle.std.specs.Prelude.{◌≡◌};
 ghost use Rattle.rad_shell.specs.Serving.{serve_fault_number};
 
+use rad_journal::JournalFault;
 use thiserror::Error;
 
 /// Why turns ended before the last one. The server is as it was after the last round.
@@ -16,6 +17,9 @@ pub enum ServeFault {
     /// The history of a round doesn't agree with what its workers were answered. This never comes.
     #[error("mismatch")]
     Mismatch,
+    /// The journal failed to keep a round. None of its replies is sent.
+    #[error(transparent)]
+    Journal(JournalFault),
 }
 
 impl ServeFault {
@@ -27,6 +31,7 @@ impl ServeFault {
             ServeFault::Receive => 1,
             ServeFault::Send => 2,
             ServeFault::Mismatch => 3,
+            ServeFault::Journal(_) => 4,
         }
     }
 }

@@ -1,9 +1,8 @@
 //! The loop over ports.
-ghost use Rattle.std.specs.Prelude.{◌≡◌, ◌≤◌, ◌+◌, IfErr};
+ghost use Rattle.std.specs.Prelude.{◌≡◌, ◌≤◌, ◌+◌, false, IfErr};
 ghost use Rattle.rand_core.specs.Stream.{Stream};
 ghost use Rattle.rad_round.specs.Rounds.{workers_max};
-ghost use Rattle.rad_shell.specs.Passages.{reported_by};
-ghost use Rattle.rad_shell.specs.Serving.{HasCause, IsServed};
+ghost use Rattle.rad_shell.specs.Serving.{HasCause, IsServed, port_faults};
 
 use crate::ports::Ports;
 use crate::serve_fault::ServeFault;
@@ -28,12 +27,13 @@ pub fn run_rounds<R: Threads + Wait + Sync, P: Ports, D: Rng, G: Gate + Sync>(
     workers: u64,
 ) -> Result<Served, ServeFault>
     requires workers { (1 ≤ workers) × (workers ≤ workers_max) }
-    ensures served { (rest : Stream) × IsServed rounds
+    ensures served { (rest : Stream) × IsServed false rounds
         (record { server = service.old; random = D.stream random.old; passed = P.passed ports.old })
         result
         (record { server = service.new; random = rest; passed = P.passed ports.new }) }
-    ensures reported { P.reported ports.new ≡ P.reported ports.old + reported_by result }
-    ensures fault { IfErr result (HasCause (P.failures ports.old) (P.failures ports.new)) }
+    ensures reported { P.reported ports.new ≡ P.reported ports.old + port_faults result }
+    ensures fault { IfErr result
+        (HasCause false (P.failures ports.old) (P.failures ports.new)) }
     ensures counted { P.failures ports.old ≤ P.failures ports.new }
 {
     Turns::without_room(random, gate, Unwatched).run(rt, service, ports, rounds, workers)

@@ -1,17 +1,21 @@
-//! Turns: in each, datagrams are received, answered in a round, and their replies sent.
-ghost use Rattle.std.specs.Prelude.{◌≡◌, ◌≤◌, ◌<◌, ◌+◌, cond, length, IfErr, IfNone, IfOk, IfSome, IsSome, vec_len};
+//! Turns: in each, datagrams are received and answered in a round, which is kept, and then their replies are sent.
+ghost use Rattle.std.specs.Prelude.{◌≡◌, ◌⊎◌, ◌≤◌, ◌<◌, ◌+◌, ◌++◌, cond, false, length, List, IfErr, IfNone, IfOk, IfSome, IsSome, IsTrue, OnErr, OnOk, vec_len};
 ghost use Rattle.std.specs.List.{list_any};
 ghost use Rattle.rad_round.specs.Rounds.{workers_max};
-ghost use Rattle.rad_shell.specs.Passages.{reported_by};
-ghost use Rattle.rad_shell.specs.Serving.{AddUp, HasCause, IsBetween, IsCounted, IsRoundMade, IsServed, came_in, is_refused, turns_max, wants_time};
+ghost use Rattle.rad_server.specs.Runs.{fresh_of};
+ghost use Rattle.rad_journal.specs.Journals.{added};
+ghost use Rattle.rad_journal.specs.Kept.{kept_of};
+ghost use Rattle.rad_journal.specs.declared.kept.Kept.{Kept};
+ghost use Rattle.rad_shell.specs.Serving.{AddUp, AddsTurn, HasCause, IsBetween, IsCounted, IsRoundMade, IsServed, Outlives, UnlessJournal, came_in, is_refused, port_faults, turns_max, wants_time};
 
 use crate::ports::Ports;
 use crate::received::Received;
 use crate::serve_fault::ServeFault;
 use crate::served::Served;
 use crate::watch::{Turn, Watch};
-use rad_round::{Done, Gate, Outcome, Service, Timed};
-use rad_server::{runs_are_lawful, runs_repeat, time_passes_unseen};
+use rad_journal::{Journal, JournalFault, NoJournal, keep, kept_is_enough};
+use rad_round::{Gate, Marked, Outcome, Service, Timed};
+use rad_server::{Entry, runs_are_lawful, runs_repeat, time_passes_unseen};
 use rand_core::Rng;
 use std::alloc::{AllocError, Global};
 use std::sync::Wait;
@@ -80,12 +84,7 @@ impl<'a, D: Rng, G: Gate + Sync, W: Watch + Drop> Turns<'a, D, G, W> {
 
     /// Answers the datagrams that come to ports, in so many turns, by at most so many workers, from 1 to `WORKERS_MAX`.
     ///
-    /// A turn waits, receives until no datagram waits or there are `ARRIVALS_MAX`, takes 16 octets of the source for each datagram, in
-    /// order of arrival, makes a round of them, and sends the replies in that order. If memory is refused for a round, its datagrams
-    /// are lost, and after a pause the next turn goes on with the server as it was. After a turn without datagrams, or one that was
-    /// refused memory, time passes for the server, so that what has expired gives its memory back. A fault ends the turns:
-    /// `ServeFault::Receive` or `ServeFault::Send`, if a port failed. `ServeFault::Mismatch` never comes. The call may wait.
-    #[tactic(auto, using(crate::proofs::ServingLemmas::nothing_served, crate::proofs::ServingLemmas::served_all))]
+    /// It is `run_keeping` with a journal that keeps nothing: `ServeFault::Journal` never comes.
     pub fn run<R: Threads + Wait + Sync, P: Ports>(
         &mut self,
         rt: &R,
@@ -95,7 +94,7 @@ impl<'a, D: Rng, G: Gate + Sync, W: Watch + Drop> Turns<'a, D, G, W> {
         workers: u64,
     ) -> Result<Served, ServeFault>
         requires workers { (1 ≤ workers) × (workers ≤ workers_max) }
-        ensures served { IsServed rounds
+        ensures served { IsServed false rounds
             (record {
               server = service.old;
               random = D.stream self.old.random.now;
@@ -108,17 +107,63 @@ impl<'a, D: Rng, G: Gate + Sync, W: Watch + Drop> Turns<'a, D, G, W> {
               passed = P.passed ports.new;
             }) }
         ensures random { self.new.random.ghost_name ≡ self.old.random.ghost_name }
-        ensures reported { P.reported ports.new ≡ P.reported ports.old + reported_by result }
-        ensures fault { IfErr result (HasCause (P.failures ports.old) (P.failures ports.new)) }
+        ensures reported { P.reported ports.new ≡ P.reported ports.old + port_faults result }
+        ensures fault { IfErr result
+            (HasCause false (P.failures ports.old) (P.failures ports.new)) }
         ensures counted { P.failures ports.old ≤ P.failures ports.new }
+    {
+        self.run_keeping(rt, service, ports, &mut NoJournal, rounds, workers)
+    }
+
+    /// The same, and what a journal has to keep of each turn is kept before a reply of it is sent.
+    ///
+    /// A turn waits, receives until no datagram waits or there are `ARRIVALS_MAX`, takes 16 octets of the source for each datagram, in
+    /// order of arrival, makes a round of them, commits its fresh entries to the journal, and sends the replies in order of arrival. If
+    /// memory is refused for a round, its datagrams are lost, and after a pause the next turn goes on with the server as it was. After a
+    /// turn without datagrams, or one that was refused memory, time passes for the server, so that what has expired gives its memory
+    /// back. A fault ends the turns: `ServeFault::Receive` or `ServeFault::Send`, if a port failed; `ServeFault::Journal`, if the
+    /// journal failed: then the server is ahead of the journal, and nobody was told. `ServeFault::Mismatch` never comes. The call may
+    /// wait.
+    pub fn run_keeping<R: Threads + Wait + Sync, P: Ports, J: Journal>(
+        &mut self,
+        rt: &R,
+        service: &mut Service,
+        ports: &mut P,
+        journal: &mut J,
+        rounds: u32,
+        workers: u64,
+    ) -> Result<Served, ServeFault>
+        requires workers { (1 ≤ workers) × (workers ≤ workers_max) }
+        ensures served { (served : IsServed J.keeps rounds
+            (record {
+              server = service.old;
+              random = D.stream self.old.random.now;
+              passed = P.passed ports.old;
+            })
+            result
+            (record {
+              server = service.new;
+              random = D.stream self.new.random.now;
+              passed = P.passed ports.new;
+            })) × (J.is_clean journal.new → J.is_open journal.old → Outlives
+            (J.kept journal.old) served.tally result (J.kept journal.new) (J.may_leave journal.new)) }
+        ensures random { self.new.random.ghost_name ≡ self.old.random.ghost_name }
+        ensures reported { P.reported ports.new ≡ P.reported ports.old + port_faults result }
+        ensures fault { IfErr result
+            (HasCause J.keeps (P.failures ports.old) (P.failures ports.new)) }
+        ensures counted { P.failures ports.old ≤ P.failures ports.new }
+        ensures clean { J.is_clean journal.new → J.is_clean journal.old }
+        ensures open { UnlessJournal result
+            (J.is_clean journal.new → J.is_open journal.old → J.is_open journal.new) }
     {
         service.server().state_is_lawful();
         runs_repeat();
         runs_are_lawful();
         time_passes_unseen();
+        kept_is_enough();
         let mut served = Served::nothing();
         for _ in 0..rounds {
-            let left = self.make_turn(rt, service, ports, workers, &mut served)?;
+            let left = self.make_turn(rt, service, ports, journal, workers, &mut served)?;
             do_left(left, service, ports);
         }
         Ok(served)
@@ -134,18 +179,19 @@ impl<'a, D: Rng, G: Gate + Sync, W: Watch + Drop> Turns<'a, D, G, W> {
     }
 
     // Makes a turn, and adds it to the sums.
-    fn make_turn<R: Threads + Wait + Sync, P: Ports>(
+    fn make_turn<R: Threads + Wait + Sync, P: Ports, J: Journal>(
         &mut self,
         rt: &R,
         service: &mut Service,
         ports: &mut P,
+        journal: &mut J,
         workers: u64,
         served: &mut Served,
     ) -> Result<Left, ServeFault>
         requires workers { (1 ≤ workers) × (workers ≤ workers_max) }
         requires sums { AddUp served.old }
         requires turns { served.old.rounds < turns_max }
-        ensures turn { IsCounted
+        ensures turn { (turn : IsCounted J.keeps
             (record {
               server = service.old;
               random = D.stream self.old.random.now;
@@ -157,11 +203,16 @@ impl<'a, D: Rng, G: Gate + Sync, W: Watch + Drop> Turns<'a, D, G, W> {
               random = D.stream self.new.random.now;
               passed = P.passed ports.new;
             })
-            served.new }
+            served.new) × (J.is_clean journal.new → AddsTurn (J.kept journal.old) turn.tally result
+            (J.kept journal.new) (J.may_leave journal.old) (J.may_leave journal.new)) }
         ensures random { self.new.random.ghost_name ≡ self.old.random.ghost_name }
-        ensures reported { P.reported ports.new ≡ P.reported ports.old + reported_by result }
+        ensures reported { P.reported ports.new ≡ P.reported ports.old + port_faults result }
         ensures counted { P.failures ports.old ≤ P.failures ports.new }
-        ensures fault { IfErr result (HasCause (P.failures ports.old) (P.failures ports.new)) }
+        ensures fault { IfErr result
+            (HasCause J.keeps (P.failures ports.old) (P.failures ports.new)) }
+        ensures clean { J.is_clean journal.new → J.is_clean journal.old }
+        ensures open { UnlessJournal result
+            (J.is_clean journal.new → J.is_open journal.old → J.is_open journal.new) }
     {
         ports.wait(rt);
         self.take_room(service.alloc());
@@ -182,13 +233,19 @@ impl<'a, D: Rng, G: Gate + Sync, W: Watch + Drop> Turns<'a, D, G, W> {
         }
         watch.received();
         received.draw(*random);
-        let Some((arrivals, done)) = answer(service, rt, received, *gate, workers) else {
+        let clock = service.server().clock();
+        let Some((arrivals, made)) = answer(service, rt, received, *gate, workers) else {
             served.add_lost(received.len());
             watch.lost(service, received.len());
             ports.pause();
             return Ok(Left::Time);
         };
+        let Marked { done, marks } = made;
         served.add_outcomes(&done.outcomes);
+        let wall = ports.wall();
+        if let Err(fault) = commit(service.alloc(), journal, wall, clock, &done.history, &marks) {
+            return Err(ServeFault::Journal(fault));
+        }
         let sent = received.reply(ports, &done.outcomes);
         watch.made(&Turn {
             service,
@@ -244,28 +301,62 @@ fn do_left<P: Ports>(left: Left, service: &mut Service, ports: &mut P)
     }
 }
 
+// Adds what is to be kept of a history to a journal that keeps anything at all.
+fn commit<J: Journal>(
+    alloc: Global,
+    journal: &mut J,
+    wall: u64,
+    clock: u64,
+    history: &[Entry],
+    marks: &[bool],
+) -> Result<(), JournalFault>
+    requires count { length marks.now ≡ length history.now }
+    ensures clean { J.is_clean journal.new → J.is_clean journal.old }
+    ensures kept { OnOk result (J.is_clean journal.new → J.kept journal.new ≡ J.kept journal.old
+        ++ added J.keeps (kept_of wall (fresh_of clock history.now marks.now))) }
+    ensures open { OnOk result (J.is_clean journal.new
+        → J.is_open journal.old → J.is_open journal.new) }
+    ensures crash { J.is_clean journal.new → (left : List Kept) → J.may_leave journal.new left
+        → J.may_leave journal.old left ⊎ (left ≡ J.kept journal.old
+        ++ added J.keeps (kept_of wall (fresh_of clock history.now marks.now))) }
+    ensures keeps { OnErr result (IsTrue J.keeps) }
+{
+    if !journal.keeps() {
+        return Ok(());
+    }
+    let kept = keep(alloc, wall, clock, history, marks)?;
+    journal.commit(&kept)
+}
+
 // The received datagrams, and what a round of them made; none if the round is lost.
-#[tactic(auto, using(crate::proofs::ServingLemmas::round_made))]
 fn answer<'t, R: Threads + Wait + Sync, G: Gate + Sync>(
     service: &mut Service,
     rt: &R,
     received: &'t Received,
     gate: &G,
     workers: u64,
-) -> Option<(Vec<Timed<'t>>, Done)>
+) -> Option<(Vec<Timed<'t>>, Marked)>
     requires workers { (1 ≤ workers) × (workers ≤ workers_max) }
     requires drawn { vec_len received.now.draws ≡ vec_len received.now.got }
     ensures made { IfSome result (λ made. IsRoundMade service.old
         (came_in received.now.got.items received.now.octets.items) received.now.draws.items
-        made.1.outcomes.items service.new) }
+        made.1.done.outcomes.items made.1.done.history.items made.1.marks.items service.new) }
     ensures count { IfSome result (λ made.
-        length made.1.outcomes.items ≡ vec_len received.now.got) }
+        length made.1.done.outcomes.items ≡ vec_len received.now.got) }
+    ensures marks { IfSome result (λ made.
+        length made.1.marks.items ≡ length made.1.done.history.items) }
     ensures lost { IfNone result (service.new ≡ service.old) }
 {
-    let arrivals = received.arrivals(service.alloc()).ok()?;
+    service.server().state_is_lawful();
+    kept_is_enough();
+    let Ok(arrivals) = received.arrivals(service.alloc()) else {
+        return None;
+    };
     let workers = workers.min(workers_that_pay(arrivals.len()));
-    let done = service.round(rt, &arrivals, workers, gate).ok()?;
-    Some((arrivals, done))
+    let Ok(made) = service.round_marked(rt, &arrivals, workers, gate) else {
+        return None;
+    };
+    Some((arrivals, made))
 }
 
 // How many workers take the least time for a round of so many datagrams.

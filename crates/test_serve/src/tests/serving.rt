@@ -3,7 +3,7 @@ use super::client::CONFIGURATION;
 use crate::tests::holds;
 use rad_config::ConfigFault;
 use rad_serve::{Options, Reports, ServeError, UdpPorts, Workers, serve};
-use rad_shell::ServeFault;
+use rad_shell::{JournalFault, ServeFault};
 use std::alloc::{AllocGlobal, Global};
 use std::net::Net;
 use std::process::Abort;
@@ -143,6 +143,10 @@ const TEXTS: &[(ServeError, &str)] = &[
     (ServeError::Rounds(ServeFault::Receive), "receive failed"),
     (ServeError::Rounds(ServeFault::Send), "send failed"),
     (ServeError::Rounds(ServeFault::Mismatch), "mismatch"),
+    (
+        ServeError::Rounds(ServeFault::Journal(JournalFault::Disk)),
+        "the disk failed",
+    ),
 ];
 
 #[test]

@@ -1,5 +1,5 @@
 use crate::tests::holds;
-use rad_shell::{Mismatch, RoundFault, ServeFault, Served};
+use rad_shell::{JournalFault, Mismatch, RoundFault, ServeFault, Served};
 use std::alloc::Global;
 use std::test::Fail;
 
@@ -25,6 +25,7 @@ fn serve_faults_are_printed(rt: HostRuntime) {
         (ServeFault::Receive, "receive failed"),
         (ServeFault::Send, "send failed"),
         (ServeFault::Mismatch, "mismatch"),
+        (ServeFault::Journal(JournalFault::Full), "the journal is full"),
     ];
     for row in ROWS.iter() {
         holds(&rt, is_serve_fault(rt.alloc(), row.0, row.1), row.1);

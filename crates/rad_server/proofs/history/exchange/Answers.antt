@@ -1,6 +1,6 @@
 use Rattle.std.proofs.Common.{◌≡◌, ◌∷◌, ◌++◌, [], rules, sym, subst}
 use Rattle.rad_auth.specs.Admission.{IsAdmitted, own_datagram}
-use Rattle.rad_server.specs.Runs.{IsExchange, IsMarked, MarkedRun, Run, datagram_of_entry}
+use Rattle.rad_server.specs.Runs.{IsExchange, IsMarked, Run, datagram_of_entry}
 use Rattle.rad_server.specs.Servers.{Server}
 use Rattle.rad_server.specs.declared.entry.Entry.{Entry}
 use Rattle.rad_server.proofs.RunLemmas.{marks_go_on, run_goes_on}
