@@ -1,8 +1,7 @@
 //! The command `serve`.
-ghost use Rattle.std.specs.Prelude.{◌≡◌, ◌+◌, Result};
+ghost use Rattle.std.specs.Prelude.{◌≡◌, ◌+◌};
 ghost use Rattle.rad_serve.specs.Calls.{MadeCalls};
-ghost use Rattle.rad_shell.specs.Passages.{reported_by};
-ghost use Rattle.rad_shell.specs.declared.serve_fault.ServeFault.{ServeFault};
+ghost use Rattle.rad_shell.specs.Serving.{Outlives, ended, port_faults};
 
 use crate::input::{open_seed, open_text};
 use crate::options::Options;
@@ -16,8 +15,9 @@ use crossbeam_channel::bounded;
 use rad_auth::Door;
 use rad_check::{push_warning, warn, warn_of_file};
 use rad_config::{Config, read_configuration};
+use rad_journal::{Journal, NoJournal, kept_is_enough};
 use rad_server::{HashKey, time_passes_unseen};
-use rad_shell::{Gate, OpenGate, Ports, Served, Service, Turns, Unwatched, Watch};
+use rad_shell::{Gate, OpenGate, Ports, ServeFault, Served, Service, Turns, Unwatched, Watch};
 use rad_text::lines::divide;
 use rad_watch::Watcher;
 use rand_chacha::ChaCha20Rng;
@@ -111,7 +111,14 @@ fn serve_unwatched<R: Net + Clock + Print + Threads + Wait + Sync + AllocGlobal>
 ) -> Result<(), ServeError> {
     let mut turns = Turns::open(rt.alloc(), random, &OpenGate, Unwatched)?;
     let mut ports = listen(rt, options)?;
-    serve_turns(rt, options, service, &mut turns, &mut ports)
+    serve_turns(
+        rt,
+        options,
+        service,
+        &mut turns,
+        &mut ports,
+        &mut NoJournal,
+    )
 }
 
 fn serve_reporting<R: Files + Net + Clock + Print + Eprint + Threads + Wait + Sync + AllocGlobal>(
@@ -186,7 +193,14 @@ impl<'s, 'c, R: Clock + Print + Threads + Wait + Sync + AllocGlobal> Serving<'s,
             mut turns,
             mut ports,
         } = self;
-        let served = serve_turns(rt, options, service, &mut turns, &mut ports);
+        let served = serve_turns(
+            rt,
+            options,
+            service,
+            &mut turns,
+            &mut ports,
+            &mut NoJournal,
+        );
         turns.watch().finish(service.server());
         served
     }
@@ -251,41 +265,73 @@ fn listen<'r, R: Net + Clock + Print + AllocGlobal>(
     Ok(ports)
 }
 
-// Calls of `Turns::run` follow one another, on the same service; if the number of turns is given, the first call makes them all. A call
-// counts turns in 32 bits, which last 50 days at 1,000 a second.
-fn serve_turns<R: Print + Threads + Wait + Sync, P: Ports, D: Rng, G: Gate + Sync, W: Watch + Drop>(
+// Makes the calls, and prints what they came to.
+fn serve_turns<
+    R: Print + Threads + Wait + Sync,
+    P: Ports,
+    J: Journal,
+    D: Rng,
+    G: Gate + Sync,
+    W: Watch + Drop,
+>(
     rt: &R,
     options: &Options,
     service: &mut Service,
     turns: &mut Turns<D, G, W>,
     ports: &mut P,
-) -> Result<(), ServeError>
-    ensures called { (ending : Result (Unit {0}) ServeFault) × MadeCalls
+    journal: &mut J,
+) -> Result<(), ServeError> {
+    let served = make_calls(rt, options, service, turns, ports, journal)?;
+    let _ = println!(rt; "{served}");
+    Ok(())
+}
+
+// Calls of `Turns::run_keeping` follow one another, on the same service; if the number of turns is given, the first call makes them all. A
+// call counts turns in 32 bits, which last 50 days at 1,000 a second.
+fn make_calls<
+    R: Threads + Wait + Sync,
+    P: Ports,
+    J: Journal,
+    D: Rng,
+    G: Gate + Sync,
+    W: Watch + Drop,
+>(
+    rt: &R,
+    options: &Options,
+    service: &mut Service,
+    turns: &mut Turns<D, G, W>,
+    ports: &mut P,
+    journal: &mut J,
+) -> Result<Served, ServeFault>
+    ensures called { (made : MadeCalls J.keeps
         (record {
           server = service.old;
           random = D.stream turns.old.random.now;
           passed = P.passed ports.old;
         })
-        ending
+        (ended result)
         (record {
           server = service.new;
           random = D.stream turns.new.random.now;
           passed = P.passed ports.new;
-        }) }
-    ensures reported { P.reported ports.new ≡ P.reported ports.old + reported_by result }
+        })) × (J.is_clean journal.new → J.is_open journal.old → Outlives (J.kept journal.old)
+        made.tally (ended result) (J.kept journal.new) (J.may_leave journal.new)) }
+    ensures reported { P.reported ports.new ≡ P.reported ports.old + port_faults result }
+    ensures clean { J.is_clean journal.new → J.is_clean journal.old }
 {
     time_passes_unseen();
+    kept_is_enough();
     let rounds = options.rounds.unwrap_or(u32::MAX);
     let workers = options.workers.count();
     let mut served = Served::nothing();
     for _ in rt.forever() {
-        served.add(&turns.run(rt, service, ports, rounds, workers)?);
+        let made = turns.run_keeping(rt, service, ports, journal, rounds, workers)?;
+        served.add(&made);
         if options.rounds.is_some() {
-            break;
+            return Ok(served);
         }
     }
-    let _ = println!(rt; "{served}");
-    Ok(())
+    Ok(served)
 }
 
 fn print_listening<R: Print, C: Clock>(rt: &R, options: &Options, ports: &UdpPorts<C>) {

@@ -3,6 +3,7 @@ mod coming;
 mod datagrams;
 mod exchanges;
 mod gates;
+mod journals;
 mod rounds;
 mod serving;
 mod texts;

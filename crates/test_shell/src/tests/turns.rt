@@ -3,6 +3,7 @@ use super::datagrams::Sent::Access;
 use super::datagrams::{Sent, starts};
 use super::exchanges::answers_each;
 use super::gates::InTurn;
+use super::journals::{keeps_what_is_fresh, sends_nothing_unkept};
 use super::watching::{Seen, UNSEEN};
 use crate::tests::holds;
 use rad_config::Config;
@@ -42,6 +43,10 @@ enum Trial<'a> {
     Fault(&'a Failing),
     /// A turn without datagrams.
     Idle(&'a Idle),
+    /// Turns whose journal has room.
+    Kept,
+    /// A turn whose journal has none.
+    Unkept,
 }
 
 #[test]
@@ -133,6 +138,17 @@ fn time_passes_in_an_idle_turn(rt: HostRuntime) {
     }
 }
 
+#[test]
+fn journals_come_before_replies(rt: HostRuntime) {
+    const ROWS: &[(Trial, &str)] = &[
+        (Trial::Kept, "a repeat isn't kept"),
+        (Trial::Unkept, "nothing is sent that isn't kept"),
+    ];
+    for row in ROWS.iter() {
+        holds(&rt, is_right(&rt, rt.alloc(), row.0), row.1);
+    }
+}
+
 // Whether a service that remembers nothing yet does what a trial wants.
 fn is_right<R: Threads + Wait + Sync>(rt: &R, alloc: Global, trial: Trial) -> bool {
     match Config::read(alloc, CAMPUS) {
@@ -168,6 +184,8 @@ fn is_right_by<R: Threads + Wait + Sync>(
         Trial::Doors => answers_each(rt, alloc, service),
         Trial::Fault(row) => fails(rt, alloc, service, row),
         Trial::Idle(row) => is_left_idle(rt, alloc, service, row),
+        Trial::Kept => keeps_what_is_fresh(rt, alloc, service),
+        Trial::Unkept => sends_nothing_unkept(rt, alloc, service),
     }
 }
 

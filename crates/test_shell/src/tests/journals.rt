@@ -1,0 +1,102 @@
+//! Turns over journals.
+ghost use Rattle.std.specs.Prelude.{◌≡◌, [], true};
+
+use super::coming::{arrive, is_sum, random, sent_count};
+use super::watching::UNSEEN;
+use rad_journal::Kept;
+use rad_shell::{Journal, JournalFault, MemoryPorts, OpenGate, ServeFault, Service, Turns};
+use std::alloc::Global;
+use std::sync::Wait;
+use std::thread::Threads;
+use test_common::{CLIENT, RFC_REQUEST};
+
+/// A journal with room for so many entries, which forgets them. Nothing is claimed of what it keeps.
+struct Counting {
+    room: usize,
+}
+
+impl Journal for Counting {
+    ghost keeps = { true };
+
+    ghost kept = { λ _. [] };
+
+    ghost may_leave = { λ _ left. left ≡ [] };
+
+    ghost is_clean = { λ _. ⊥ };
+
+    ghost is_open = { λ _. ⊥ };
+
+    ghost has_failed = { λ _ _. Unit {0} };
+
+    ghost settled = { λ _ _ left is. is };
+
+    fn keeps(&self) -> bool {
+        true
+    }
+
+    fn commit(&mut self, entries: &[Kept]) -> Result<(), JournalFault> {
+        match self.room.checked_sub(entries.len()) {
+            Some(room) => {
+                self.room = room;
+                Ok(())
+            }
+            None => Err(JournalFault::Full),
+        }
+    }
+
+    fn entry(&mut self, _alloc: Global, _place: u32) -> Result<Option<Kept>, JournalFault> {
+        Ok(None)
+    }
+}
+
+/// Whether of a login, its repeat in the same turn and one in the next, one entry is kept.
+pub(crate) fn keeps_what_is_fresh<R: Threads + Wait + Sync>(
+    rt: &R,
+    alloc: Global,
+    service: &mut Service,
+) -> bool {
+    let mut ports = MemoryPorts::new(alloc);
+    let mut journal = Counting { room: 9 };
+    let mut random = random();
+    let Ok(mut turns) = Turns::open(alloc, &mut random, &OpenGate, UNSEEN) else {
+        return false;
+    };
+    arrive(alloc, &mut ports, CLIENT, 0, RFC_REQUEST).is_ok()
+        && arrive(alloc, &mut ports, CLIENT, 0, RFC_REQUEST).is_ok()
+        && is_sum(
+            turns.run_keeping(rt, service, &mut ports, &mut journal, 1, 1),
+            1,
+            2,
+            2,
+            0,
+        )
+        && journal.room == 8
+        && arrive(alloc, &mut ports, CLIENT, 0, RFC_REQUEST).is_ok()
+        && is_sum(
+            turns.run_keeping(rt, service, &mut ports, &mut journal, 1, 1),
+            1,
+            1,
+            1,
+            0,
+        )
+        && journal.room == 8
+        && sent_count(&ports) == 3
+}
+
+/// Whether nothing is sent of a turn that a journal has no room for.
+pub(crate) fn sends_nothing_unkept<R: Threads + Wait + Sync>(
+    rt: &R,
+    alloc: Global,
+    service: &mut Service,
+) -> bool {
+    let mut ports = MemoryPorts::new(alloc);
+    let mut journal = Counting { room: 0 };
+    let mut random = random();
+    let Ok(mut turns) = Turns::open(alloc, &mut random, &OpenGate, UNSEEN) else {
+        return false;
+    };
+    arrive(alloc, &mut ports, CLIENT, 0, RFC_REQUEST).is_ok()
+        && turns.run_keeping(rt, service, &mut ports, &mut journal, 1, 1)
+            == Err(ServeFault::Journal(JournalFault::Full))
+        && sent_count(&ports) == 0
+}
