@@ -1,0 +1,3 @@
+mod StoreLemmas
+mod LastLemmas
+mod ReadyLemmas

@@ -1,0 +1,5 @@
+pub mod Faults
+pub mod Fits
+pub mod Metas
+pub mod Moments
+pub mod Stores

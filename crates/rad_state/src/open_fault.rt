@@ -1,0 +1,79 @@
+//! Why a state isn't opened.
+ghost use Rattle.std.specs.Prelude.{◌≡◌};
+ghost use Rattle.rad_state.specs.Faults.{fault_of, fault_of_journal};
+ghost use Rattle.rad_state.specs.declared.open_fault.OpenFault.TheVariants.{NoMemory};
+
+use rad_journal::JournalFault;
+use sqlite_trees::error::StoreError;
+use std::alloc::AllocError;
+use thiserror::Error;
+
+/// Why a state isn't opened.
+#[derive(Clone, Copy, Debug, PartialEq, Eq, Error)]
+pub enum OpenFault {
+    /// Another process has the file open. Only who opens host files tells it.
+    #[error("another process uses the state")]
+    InUse,
+    /// The file can't be made, opened or locked. Only who opens host files tells it.
+    #[error("the state can't be opened")]
+    NotOpened,
+    /// The files hold no database with these two tables alone and page sums, or what was read is not what was written, or is no
+    /// meta or entry.
+    #[error("it is no state, or it is damaged")]
+    Damaged,
+    /// The meta's format is another.
+    #[error("the state has another format")]
+    OtherFormat,
+    /// The format fits, and the rules are others.
+    #[error("the state was kept under other rules")]
+    OtherRules,
+    /// Format and rules fit, and the configuration is another.
+    #[error("the state was kept under another configuration")]
+    OtherConfiguration,
+    /// An allocation failed.
+    #[error("out of memory")]
+    NoMemory,
+    /// The disk failed.
+    #[error("the disk failed")]
+    Disk,
+    /// The disk or the database has no room, or the configuration is too long for a row.
+    #[error("no room is left for the state")]
+    NoRoom,
+    /// No more entries can be counted.
+    #[error("the journal is full")]
+    JournalFull,
+}
+
+impl From<AllocError> for OpenFault {
+    ghost from_gives = { λ _ fault. fault ≡ NoMemory };
+
+    fn from(_: AllocError) -> OpenFault {
+        OpenFault::NoMemory
+    }
+}
+
+impl From<StoreError> for OpenFault {
+    ghost from_gives = { λ error fault. fault ≡ fault_of error };
+
+    fn from(error: StoreError) -> OpenFault {
+        match error {
+            StoreError::OutOfMemory => OpenFault::NoMemory,
+            StoreError::Corrupt => OpenFault::Damaged,
+            StoreError::Full | StoreError::Unstorable => OpenFault::NoRoom,
+            StoreError::Io | StoreError::Broken => OpenFault::Disk,
+        }
+    }
+}
+
+impl From<JournalFault> for OpenFault {
+    ghost from_gives = { λ reported fault. fault ≡ fault_of_journal reported };
+
+    fn from(fault: JournalFault) -> OpenFault {
+        match fault {
+            JournalFault::NoMemory => OpenFault::NoMemory,
+            JournalFault::Disk => OpenFault::Disk,
+            JournalFault::Damaged => OpenFault::Damaged,
+            JournalFault::Full => OpenFault::JournalFull,
+        }
+    }
+}
