@@ -1,9 +1,9 @@
 //! Opening a state's files.
-ghost use Rattle.std.specs.Prelude.{◌≡◌, IsTrue, IfOk, OnOk};
+ghost use Rattle.std.specs.Prelude.{◌≡◌, ◌-◌, IsTrue, IfOk, OnOk};
 ghost use Rattle.sqlite_trees.specs.View.{IsClean};
 ghost use Rattle.sqlite_trees.specs.declared.store.Shape.TheVariants.{Table};
-ghost use Rattle.sqlite_store.specs.FileStore.{IsReady, view};
-ghost use Rattle.sqlite_store.specs.Unopened.{AreUsable};
+ghost use Rattle.sqlite_store.specs.FileStore.{IsReady, state, view};
+ghost use Rattle.sqlite_store.specs.Unopened.{AreUsable, state_of};
 ghost use Rattle.rad_journal.specs.Rows.{table};
 ghost use Rattle.rad_state.specs.Metas.{meta_table};
 ghost use Rattle.rad_state.specs.Stores.{IsOpened};
@@ -39,7 +39,8 @@ pub fn open_files<D: Disk + Drop>(
 ) -> Result<FileStore<D>, OpenFault>
     requires log { IsTrue (D.Disk.is_usable files.log) }
     requires db { IsTrue (D.Disk.is_usable files.db) }
-    ensures { IfOk result (λ store. IsClean (view store) → IsOpened (view store)) }
+    ensures opened { IfOk result (λ store. IsClean (view store) → IsOpened (view store)) }
+    ensures sums { IfOk result (λ store. IsClean (view store) → IsTrue (view store).has_sums) }
 {
     let store = with_tables(ready(alloc, files, seed)?)?;
     Ok(store)
@@ -53,7 +54,9 @@ fn ready<D: Disk + Drop>(
 ) -> Result<FileStore<D>, OpenFault>
     requires log { IsTrue (D.Disk.is_usable files.log) }
     requires db { IsTrue (D.Disk.is_usable files.db) }
-    ensures { IfOk result IsReady }
+    ensures ready { IfOk result IsReady }
+    ensures size { IfOk result (λ store. IsTrue (state store).is_clean
+        → (state store).page_size ≡ PAGE - 8) }
 {
     let before = files.tally();
     match unopened(alloc, files, seed)?.open() {
@@ -69,7 +72,9 @@ fn make<D: Disk + Drop>(
     files: Files<D>,
     seed: u64,
 ) -> Result<FileStore<D>, OpenFault>
-    ensures { IfOk result IsReady }
+    ensures ready { IfOk result IsReady }
+    ensures size { IfOk result (λ store. IsTrue (state store).is_clean
+        → (state store).page_size ≡ PAGE - 8) }
 {
     if !files.may_be_used() {
         return Err(OpenFault::Disk);
@@ -89,7 +94,8 @@ fn unopened<D: Disk + Drop>(
 ) -> Result<Unopened<D>, OpenFault>
     requires log { IsTrue (D.Disk.is_usable files.log) }
     requires db { IsTrue (D.Disk.is_usable files.db) }
-    ensures { IfOk result AreUsable }
+    ensures usable { IfOk result AreUsable }
+    ensures size { IfOk result (λ it. (state_of it).page_size ≡ PAGE - 8) }
 {
     let size = PageSize::new(PAGE).unwrap();
     let Ok(pager) = Pager::new(alloc, files, size, Options::new(seed)) else {

@@ -1,5 +1,5 @@
 //! A state that was just opened.
-ghost use Rattle.std.specs.Prelude.{◌≡◌, ◌≤◌, ◌^◌, ◌-ℤ◌, ℕ, pos, IfOk, IfSome, IsSome, IsTrue, MatchOption, OnOk, Some, option_copied};
+ghost use Rattle.std.specs.Prelude.{◌≡◌, ◌≤◌, ◌^◌, ◌-ℤ◌, ℕ, pos, IfOk, IfSome, IsSome, IsTrue, MatchOption, None, OnOk, Some, option_copied};
 ghost use Rattle.sqlite_trees.specs.View.{IsClean, doubt};
 ghost use Rattle.rad_journal.specs.Rows.{entries_of, table};
 ghost use Rattle.rad_state.specs.Fits.{Fits};
@@ -42,6 +42,7 @@ impl<S: Store + Drop> State<S> {
         requires { IsClean (S.view store) → IsOpened (S.view store) }
         ensures fits { IfOk result (λ state.
             IfSome state.found (λ meta. Fits meta configuration.now)) }
+        ensures begun { IfOk result (λ state. state.found ≡ None → state.last ≡ None) }
         ensures kept { IfOk result (λ state. IsClean (S.view state.store)
             → (S.view state.store).committed ≡ (S.view store).committed) }
         ensures clean { IfOk result (λ state.
