@@ -1,5 +1,5 @@
 -- What calls do to a store with both tables.
-use Rattle.std.proofs.Common.{◌≡◌, ◌⊎◌, inl, inr, ⊎_elim, ℕ, true, false, Bool, IsTrue, pos, Equal, List, [], ◌∷◌, reverse, Option, Some, None, refl, sym, ap, subst, ◌∙◌}
+use Rattle.std.proofs.Common.{◌≡◌, ◌⊎◌, inl, inr, ⊎_elim, ℕ, true, false, IsTrue, pos, Equal, List, [], ◌∷◌, reverse, Option, Some, None, refl, sym, ap, subst, ◌∙◌}
 use Rattle.sqlite_trees.specs.Tree.{Trees, from_key, order_of, put_row, sought, up_to_key}
 use Rattle.sqlite_trees.specs.declared.store.Direction.TheVariants.{Backward, Forward}
 use Rattle.sqlite_trees.specs.View.{Advances, Commits, OnlyWrites, SetsTree, View, with_cursor}

@@ -1,5 +1,5 @@
 -- The moment at which a server goes on. Moments, wall times and readings of the boot clock are in milliseconds.
-use Rattle.std.specs.Prelude.{◌≡◌, ◌≢◌, ℕ, ◌+◌, ◌-◌, ◌^◌, ℤ, pos, negsuc, ◌-ℤ◌, max, min, List, [], ◌∷◌, reverse, Option, None, Some}
+use Rattle.std.specs.Prelude.{◌≡◌, ◌≢◌, ℕ, ◌+◌, ◌-◌, ◌^◌, ℤ, pos, ◌-ℤ◌, max, min, List, [], ◌∷◌, reverse, Option, None, Some}
 use Rattle.rad_journal.specs.Rows.{magnitude}
 use Rattle.rad_journal.specs.declared.kept.Kept.{Kept}
 use Rattle.rad_state.specs.declared.meta.Meta.{Meta}

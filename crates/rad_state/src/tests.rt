@@ -153,6 +153,7 @@ fn a_changed_octet_is_refused(rt: HostRuntime) -> Result<(), Fail> {
     let alloc = rt.alloc();
     for at in [30, 5000, 9000] {
         let mut files = kept(&rt, alloc)?;
+        assert!(rt; files.db.may_be_used());
         files.db.write_at(at, &[0x5a])?;
         assert_eq!(rt;
             reopen(alloc, files).err(),
