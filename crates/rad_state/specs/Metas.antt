@@ -1,6 +1,6 @@
 -- Metas as the rows of a table: the rowid 1, format, rules, the text of the configuration, the boot's id, and what the boot clock showed
 -- at moment 0 in milliseconds.
-use Rattle.std.specs.Prelude.{◌≡◌, ℕ, ℤ, pos, List, [], ◌∷◌, Option, None, Some, refl}
+use Rattle.std.specs.Prelude.{◌≡◌, ◌≢◌, ◌<◌, ◌^◌, ℕ, ℤ, pos, length, List, [], ◌∷◌, Option, None, Some, refl}
 use Rattle.sqlite_value.specs.declared.value.Value.{Value}
 use Rattle.sqlite_value.specs.declared.value.Value.TheVariants.{Null, Int, Real, Text, Blob}
 use Rattle.sqlite_value.specs.Order.{Row, column}
@@ -61,6 +61,21 @@ meta_held (row ∷ rows) = Some (meta_of row)
 -- the rows are those of a meta, or none
 abbrev pub IsMetas : List Row → Type 0
 IsMetas rows = rows ≡ meta_rows (meta_held rows)
+
+-- the numbers have 32 bits, and the boot's id has 16 octets
+pub record CanBeKept (meta : Meta) : Type 0 where
+  pub format : meta.format < 2 ^ 32
+  pub rules : meta.rules < 2 ^ 32
+  pub boot : length meta.boot ≡ 16
+
+-- the row of no meta
+abbrev pub IsNoMeta : Row → Type 0
+IsNoMeta row = (meta : Meta) → CanBeKept meta → row ≢ meta_row meta
+
+-- the rows of no table with a meta, or none
+pub record AreNoMetas (rows : List Row) : Type 0 where
+  pub none : rows ≢ []
+  pub one : (meta : Meta) → CanBeKept meta → rows ≢ meta_row meta ∷ []
 
 -- ---- a row is read back as its meta
 

@@ -1,9 +1,10 @@
 //! What a start needs to go on, and its row.
-ghost use Rattle.std.specs.Prelude.{◌≡◌, pos, IfOk, MatchResult, OnOk, IsTrue};
+ghost use Rattle.std.specs.Prelude.{◌≡◌, ◌≢◌, ◌<◌, ◌^◌, ℕ, ℤ, pos, List, length, Err, IfErr, IfOk, MatchResult, OnErr, OnOk};
 ghost use Rattle.sqlite_value.specs.Order.{column};
 ghost use Rattle.sqlite_value.specs.declared.value.Value.TheVariants.{Blob, Int, Text};
 ghost use Rattle.rad_state.specs.Fits.{Fits, IsMisfit};
-ghost use Rattle.rad_state.specs.Metas.{meta_of, meta_row};
+ghost use Rattle.rad_state.specs.declared.open_fault.OpenFault.TheVariants.{Damaged, NoMemory};
+ghost use Rattle.rad_state.specs.Metas.{IsNoMeta, meta_of, meta_row};
 
 use crate::open_fault::OpenFault;
 use rad_packet::Octets;
@@ -64,7 +65,8 @@ impl Meta {
 
 /// Makes the row of a meta.
 pub(crate) fn fill(row: &mut Row, meta: &Meta) -> Result<(), OpenFault>
-    ensures { OnOk result (row.new ≡ meta_row meta.now) }
+    ensures filled { OnOk result (row.new ≡ meta_row meta.now) }
+    ensures memory { IfErr result (λ fault. fault ≡ NoMemory) }
 {
     row.clear();
     row.push(ValueRef::Int(1))?;
@@ -78,7 +80,8 @@ pub(crate) fn fill(row: &mut Row, meta: &Meta) -> Result<(), OpenFault>
 
 /// The meta of a row, if it is one's.
 pub(crate) fn meta_in(alloc: Global, row: &Row) -> Result<Meta, OpenFault>
-    ensures { IfOk result (λ meta. row.now ≡ meta_row meta) }
+    ensures found { IfOk result (λ meta. row.now ≡ meta_row meta) }
+    ensures other { result ≡ Err Damaged → IsNoMeta row.now }
 {
     let meta = read(alloc, row)?;
     let mut wanted = Row::new(alloc);
@@ -91,7 +94,8 @@ pub(crate) fn meta_in(alloc: Global, row: &Row) -> Result<Meta, OpenFault>
 
 // The meta in the columns of a row, if they have its kinds and sizes.
 fn read(alloc: Global, row: &Row) -> Result<Meta, OpenFault>
-    ensures { IfOk result (λ meta. meta ≡ meta_of row.now) }
+    ensures found { IfOk result (λ meta. meta ≡ meta_of row.now) }
+    ensures other { result ≡ Err Damaged → IsNoMeta row.now }
 {
     Ok(Meta {
         format: number(row, AT_FORMAT)?,
@@ -104,7 +108,8 @@ fn read(alloc: Global, row: &Row) -> Result<Meta, OpenFault>
 
 // The integer in a column.
 fn integer(row: &Row, at: usize) -> Result<i64, OpenFault>
-    ensures { IfOk result (λ n. column row.now at ≡ Int n) }
+    ensures found { IfOk result (λ n. column row.now at ≡ Int n) }
+    ensures other { OnErr result ((n : ℤ) → column row.now at ≢ Int n) }
 {
     match row.get(at) {
         ValueRef::Int(n) => Ok(n),
@@ -114,7 +119,8 @@ fn integer(row: &Row, at: usize) -> Result<i64, OpenFault>
 
 // The number in a column, of 32 bits.
 fn number(row: &Row, at: usize) -> Result<u32, OpenFault>
-    ensures { IfOk result (λ n. column row.now at ≡ Int (pos n)) }
+    ensures found { IfOk result (λ n. column row.now at ≡ Int (pos n)) }
+    ensures other { OnErr result ((n : ℕ) → n < 2 ^ 32 → column row.now at ≢ Int (pos n)) }
 {
     match u32::try_from(integer(row, at)?) {
         Ok(n) => Ok(n),
@@ -124,7 +130,8 @@ fn number(row: &Row, at: usize) -> Result<u32, OpenFault>
 
 // The text in a column.
 fn text(alloc: Global, row: &Row, at: usize) -> Result<Octets, OpenFault>
-    ensures { IfOk result (λ octets. column row.now at ≡ Text octets) }
+    ensures found { IfOk result (λ octets. column row.now at ≡ Text octets) }
+    ensures other { result ≡ Err Damaged → (t : List ℕ) → column row.now at ≢ Text t }
 {
     match row.get(at) {
         ValueRef::Text(octets) => Ok(Octets::of(alloc, octets)?),
@@ -134,7 +141,8 @@ fn text(alloc: Global, row: &Row, at: usize) -> Result<Octets, OpenFault>
 
 // The 16 octets in a column.
 fn id(row: &Row, at: usize) -> Result<[u8; 16], OpenFault>
-    ensures { IfOk result (λ id. column row.now at ≡ Blob id) }
+    ensures found { IfOk result (λ id. column row.now at ≡ Blob id) }
+    ensures other { OnErr result ((b : List ℕ) → length b ≡ 16 → column row.now at ≢ Blob b) }
 {
     let ValueRef::Blob(octets) = row.get(at) else {
         return Err(OpenFault::Damaged);

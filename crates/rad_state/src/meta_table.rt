@@ -1,10 +1,12 @@
 //! Reading and writing the meta in a store's table.
-ghost use Rattle.std.specs.Prelude.{◌≡◌, ◌⊎◌, ◌≤◌, IfOk, OnOk};
+ghost use Rattle.std.specs.Prelude.{◌≡◌, ◌⊎◌, ◌≤◌, Err, IfOk, OnOk};
+ghost use Rattle.sqlite_disk.specs.Disk.{MoreFaults};
 ghost use Rattle.sqlite_trees.specs.Tree.{Trees, put_row};
 ghost use Rattle.sqlite_trees.specs.View.{IsClean, IsQuiet, KeepsSchema, OnlyWrites, SetsTree, doubt};
 ghost use Rattle.sqlite_trees.specs.declared.store.Shape.TheVariants.{Table};
 ghost use Rattle.rad_journal.specs.Stores.{IsFresh, OnlyReads};
-ghost use Rattle.rad_state.specs.Metas.{IsMetas, meta_held, meta_row, meta_rows, meta_table};
+ghost use Rattle.rad_state.specs.Metas.{AreNoMetas, IsMetas, meta_held, meta_row, meta_rows, meta_table};
+ghost use Rattle.rad_state.specs.declared.open_fault.OpenFault.TheVariants.{Damaged};
 ghost use Rattle.rad_state.specs.Stores.{WritesMeta, LeavesMeta};
 
 use crate::meta::{Meta, fill, meta_in};
@@ -18,12 +20,15 @@ const META: u32 = 1;
 
 /// The meta of a store's second table, if it has one.
 ///
-/// `Damaged`: the table has another row, or more than one.
+/// `Damaged`: the table has another row or more than one, or what was read is not what was written.
 pub fn read_meta<S: Store>(alloc: Global, store: &mut S) -> Result<Option<Meta>, OpenFault>
     requires shape { IsClean (S.view store.old)
         → (S.view store.old).shape meta_table ≡ Table }
     ensures found { IfOk result (λ meta. IsClean (S.view store.new)
         → (S.view store.old).trees meta_table ≡ meta_rows meta) }
+    ensures damaged { result ≡ Err Damaged → IsClean (S.view store.new)
+        → MoreFaults (S.faults store.old) (S.faults store.new)
+        ⊎ AreNoMetas ((S.view store.old).trees meta_table) }
     ensures same { OnOk result (IsClean (S.view store.new)
         → OnlyReads (S.view store.old) (S.view store.new)) }
     ensures clean { doubt (S.view store.old).is_clean ≤ doubt (S.view store.new).is_clean }

@@ -26,4 +26,4 @@ returns-clause-found g c clean =
     let first = gives (S.view c.seek.new.self) (S.view c.next.new.self) ((S.view c.args.store.now).trees meta_table) c.next.new.row advances sought.0 in
     let stays = subst (λ b. Advances (S.view c.next.new.self) (S.view c.next-2.new.self) 0 c.next-2.new.row b) none (c.in_ok-next-2.ensures.ok clean) in
     let last = ends (S.view c.next.new.self) (S.view c.next-2.new.self) first.0 c.next-2.new.row stays first.2 in
-    first.1 ∙ ap (λ (rows : List Row). c.next.new.row ∷ rows) last.0 ∙ ap (λ (row : Row). row ∷ []) c.in_ok-meta.ensures
+    first.1 ∙ ap (λ (rows : List Row). c.next.new.row ∷ rows) last.0 ∙ ap (λ (row : Row). row ∷ []) c.in_ok-meta.ensures.found
