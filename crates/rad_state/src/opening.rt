@@ -22,11 +22,13 @@ const PAGE: usize = 4096;
 
 // The table of the journal.
 const EXCHANGE: &str =
-    "CREATE TABLE exchange (wall INTEGER NOT NULL, moment INTEGER NOT NULL, address INTEGER NOT NULL, port INTEGER NOT NULL, door INTEGER NOT NULL, draw BLOB NOT NULL, request BLOB NOT NULL, answer BLOB NOT NULL) STRICT";
+    "CREATE TABLE exchange (wall INTEGER NOT NULL, moment INTEGER NOT NULL, address INTEGER NOT NULL, \
+    port INTEGER NOT NULL, door INTEGER NOT NULL, draw BLOB NOT NULL, request BLOB NOT NULL, answer BLOB NOT NULL) STRICT";
 
 // The table of the meta.
 const META: &str =
-    "CREATE TABLE meta (format INTEGER NOT NULL, rules INTEGER NOT NULL, configuration TEXT NOT NULL, boot BLOB NOT NULL, zero INTEGER NOT NULL) STRICT";
+    "CREATE TABLE meta (format INTEGER NOT NULL, rules INTEGER NOT NULL, configuration TEXT NOT NULL, \
+    boot BLOB NOT NULL, zero INTEGER NOT NULL) STRICT";
 
 /// Opens the database in the files, or makes it if they hold none.
 ///
