@@ -1,9 +1,9 @@
 //! A journal in a table of a store.
-ghost use Rattle.std.specs.Prelude.{◌≡◌, true, IsTrue, IsSome};
+ghost use Rattle.std.specs.Prelude.{◌≡◌, ◌≤◌, true, IsTrue, IsSome};
 ghost use Rattle.std.proofs.Common.{◌∙◌, ap};
 ghost use Rattle.sqlite_disk.specs.Disk.{MoreFaults};
 ghost use Rattle.sqlite_trees.specs.Tree.{Trees};
-ghost use Rattle.sqlite_trees.specs.View.{IsClean};
+ghost use Rattle.sqlite_trees.specs.View.{IsClean, doubt};
 ghost use Rattle.rad_journal.specs.Rows.{entries_of, table};
 ghost use Rattle.rad_journal.specs.Stores.{IsSound, MayLeave, kept_in};
 
@@ -33,9 +33,8 @@ pub struct StoreJournal<S: Store> {
 }
 
 impl<S: Store + Drop> StoreJournal<S> {
-    ghost use Rattle.std.specs.Prelude.{IfOk, List};
+    ghost use Rattle.std.specs.Prelude.{IfOk};
     ghost use Rattle.rad_journal.specs.Stores.{IsFresh};
-    ghost use Rattle.rad_journal.specs.declared.kept.Kept.{Kept};
 
     /// The journal of a store that was just opened, if its rows are those of entries.
     ///
@@ -47,9 +46,9 @@ impl<S: Store + Drop> StoreJournal<S> {
         ensures kept { IfOk result (λ journal. IsClean (S.view journal.store)
             → kept_in (S.view journal.store) ≡ kept_in (S.view store)) }
         ensures clean { IfOk result (λ journal.
-            IsClean (S.view journal.store) → IsClean (S.view store)) }
-        ensures crash { IfOk result (λ journal. (left : List Kept)
-            → MayLeave (S.recovers journal.store) left → MayLeave (S.recovers store) left) }
+            doubt (S.view store).is_clean ≤ doubt (S.view journal.store).is_clean) }
+        ensures crash { IfOk result (λ journal. (db : Trees)
+            → S.recovers journal.store db → S.recovers store db) }
     {
         let mut store = store;
         let count = check(alloc, &mut store)?;
