@@ -11,6 +11,7 @@ use std::thread::Threads;
 use test_common::{CLIENT, RFC_REQUEST};
 
 /// A journal with room for so many entries, which forgets them. Nothing is claimed of what it keeps.
+#[derive(Drop)]
 struct Counting {
     room: usize,
 }
