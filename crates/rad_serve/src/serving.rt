@@ -111,14 +111,7 @@ fn serve_unwatched<R: Net + Clock + Print + Threads + Wait + Sync + AllocGlobal>
 ) -> Result<(), ServeError> {
     let mut turns = Turns::open(rt.alloc(), random, &OpenGate, Unwatched)?;
     let mut ports = listen(rt, options)?;
-    serve_turns(
-        rt,
-        options,
-        service,
-        &mut turns,
-        &mut ports,
-        &mut NoJournal,
-    )
+    serve_turns(rt, options, service, &mut turns, &mut ports, &mut NoJournal)
 }
 
 fn serve_reporting<R: Files + Net + Clock + Print + Eprint + Threads + Wait + Sync + AllocGlobal>(
@@ -193,14 +186,7 @@ impl<'s, 'c, R: Clock + Print + Threads + Wait + Sync + AllocGlobal> Serving<'s,
             mut turns,
             mut ports,
         } = self;
-        let served = serve_turns(
-            rt,
-            options,
-            service,
-            &mut turns,
-            &mut ports,
-            &mut NoJournal,
-        );
+        let served = serve_turns(rt, options, service, &mut turns, &mut ports, &mut NoJournal);
         turns.watch().finish(service.server());
         served
     }

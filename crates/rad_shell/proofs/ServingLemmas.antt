@@ -654,8 +654,8 @@ one_more_turn {A} keeps before served middle result after served_after server pa
         );
       },
       λ is_clean.
-      let added : kept_now ≡ kept_middle ++ turn.tally.kept = (adds is_clean).now in
-      added ∙ ap (λ list. list ++ turn.tally.kept) (was is_clean) ∙ append_assoc kept so_far.tally.kept turn.tally.kept,
+          let added : kept_now ≡ kept_middle ++ turn.tally.kept = (adds is_clean).now in
+          added ∙ ap (λ list. list ++ turn.tally.kept) (was is_clean) ∙ append_assoc kept so_far.tally.kept turn.tally.kept,
     )
 
 -- all turns that were made, and what they did to a journal of which these facts hold if it is clean and was open
@@ -721,5 +721,5 @@ served_until {A} keeps turns before served middle fault reported after served_af
         sums = tt;
       },
       λ is_clean was_open. outlives_until {A = A} keeps middle after kept kept_middle kept_now so_far.tally.kept turn.tally fault total left left_now turn.turn
-      (adds is_clean) (was is_clean) refl refl (settled is_clean was_open) (still is_clean was_open),
+          (adds is_clean) (was is_clean) refl refl (settled is_clean was_open) (still is_clean was_open),
     )

@@ -25,7 +25,10 @@ fn serve_faults_are_printed(rt: HostRuntime) {
         (ServeFault::Receive, "receive failed"),
         (ServeFault::Send, "send failed"),
         (ServeFault::Mismatch, "mismatch"),
-        (ServeFault::Journal(JournalFault::Full), "the journal is full"),
+        (
+            ServeFault::Journal(JournalFault::Full),
+            "the journal is full",
+        ),
     ];
     for row in ROWS.iter() {
         holds(&rt, is_serve_fault(rt.alloc(), row.0, row.1), row.1);

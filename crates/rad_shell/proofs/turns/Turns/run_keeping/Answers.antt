@@ -23,7 +23,7 @@ returns-in_err-left-clause-served g c =
     i.so_far (λ clean. i.kept (c.in_err-left.ensures.clean clean)) (omega (arith, i.turns, c.loop-test.true)) reported.2 c.in_err-left.ensures.turn
     (λ clean was. g.met.J.Journal.settled c.loop.journal (i.opened (c.in_err-left.ensures.clean clean) was))
     (λ clean was. unless_so Left c.in_err-left.field-0.0 _ _
-      (λ stays. g.met.J.Journal.settled c.make_turn.new.journal (stays clean (i.opened (c.in_err-left.ensures.clean clean) was))) c.in_err-left.ensures.open) in
+    (λ stays. g.met.J.Journal.settled c.make_turn.new.journal (stays clean (i.opened (c.in_err-left.ensures.clean clean) was))) c.in_err-left.ensures.open) in
     subst (λ result. IsServedOf g.J.Journal.keeps c.args.rounds
     (record { server = c.args.service.now; random = g.D.Rng.stream c.args.self.now.random.now; passed = g.P.Ports.passed c.args.ports.now })
     result
