@@ -38,14 +38,30 @@ meta_row meta =
     ∷ Int meta.zero
     ∷ []
 
+-- the columns of a row, after its rowid
+abbrev pub at_format : ℕ
+at_format = 1
+
+abbrev pub at_rules : ℕ
+at_rules = 2
+
+abbrev pub at_configuration : ℕ
+at_configuration = 3
+
+abbrev pub at_boot : ℕ
+at_boot = 4
+
+abbrev pub at_zero : ℕ
+at_zero = 5
+
 -- the meta of a row that is one's
 abbrev pub meta_of : Row → Meta
 meta_of row = record {
-  format = number_of (column row 1);
-  rules = number_of (column row 2);
-  configuration = text_of (column row 3);
-  boot = octets_of (column row 4);
-  zero = integer_of (column row 5);
+  format = number_of (column row at_format);
+  rules = number_of (column row at_rules);
+  configuration = text_of (column row at_configuration);
+  boot = octets_of (column row at_boot);
+  zero = integer_of (column row at_zero);
 }
 
 -- the rows of a table with this meta, or none

@@ -33,7 +33,7 @@ const META: &str =
 /// Opens the database in the files, or makes it if they hold none.
 ///
 /// It has the tables of the journal and of the meta, in this order, and each page has a sum. `seed` is a random number, for the log's
-/// salts. `Damaged`: the files hold something else, or a sum is wrong. What they hold is then as it was.
+/// salts. `Damaged`: the files hold something else, or a sum is wrong.
 pub fn open_files<D: Disk + Drop>(
     alloc: Global,
     files: Files<D>,
