@@ -11,10 +11,10 @@ use Rattle.rad_auth.specs.declared.discard.Discard.{Discard}
 use Rattle.rad_auth.specs.declared.discard.Discard.TheVariants.{UnknownClient, WrongCode}
 
 -- the request is of the datagram's source, port and door
-record IsOf (datagram : Datagram) (request : Request) : Type 0 where
-  source : request.source ≡ datagram.source
-  port : request.port ≡ datagram.port
-  door : request.door ≡ datagram.door
+pub record IsOf (datagram : Datagram) (request : Request) : Type 0 where
+  pub source : request.source ≡ datagram.source
+  pub port : request.port ≡ datagram.port
+  pub door : request.door ≡ datagram.door
 
 read_of : (o : Option ℕ) (read : Result Packet Discard) (datagram : Datagram) (request : Request)
     → (ok_or o UnknownClient >>= λ place. (read >>= λ p. (refuse_if (not (is_code_accepted datagram.door p.code)) WrongCode >>= λ taken. Ok (request_of datagram place p)))) ≡ Ok request
@@ -46,7 +46,7 @@ first clients (Ok r) request e = at (content_checks (client_at clients r.client)
     at (Err discard) e = absurd (cc)
     at (Ok checked) e = e
 
-admitted_of : (clients : List Client) (datagram : Datagram) (request : Request) → admission clients datagram ≡ Ok request → IsOf datagram request
+pub admitted_of : (clients : List Client) (datagram : Datagram) (request : Request) → admission clients datagram ≡ Ok request → IsOf datagram request
 unfolding admission
 admitted_of clients datagram request e = held_of clients datagram request (first clients (request_in clients datagram) request e)
 

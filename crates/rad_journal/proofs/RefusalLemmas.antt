@@ -106,7 +106,8 @@ cannot_step (OtherAnswer entry) before kept after is =
 
 -- ---- no history
 
-one_next : (configuration : Configuration) (state : State) (kept : Kept) (a b : Entry) (one two : State)
+-- what is kept of one entry leads to one state
+pub one_next : (configuration : Configuration) (state : State) (kept : Kept) (a b : Entry) (one two : State)
     → IsExchange configuration state a one → kept_by kept.wall a ≡ Some kept
     → IsExchange configuration state b two → kept_by kept.wall b ≡ Some kept → one ≡ two
 one_next configuration state kept a b one two here a_is there b_is =

@@ -11,6 +11,9 @@ use sqlite_trees::error::StoreError;
 use std::alloc::{AllocError, Global};
 use thiserror::Error;
 
+/// The most entries that a journal has room for.
+pub const ENTRIES_MAX: u32 = u32::MAX - 1;
+
 /// Why a journal gave up.
 #[derive(Clone, Copy, Debug, PartialEq, Eq, Error)]
 pub enum JournalFault {
@@ -23,7 +26,10 @@ pub enum JournalFault {
     /// What was read is not what was written, or is no entry.
     #[error("the journal is damaged")]
     Damaged,
-    /// The disk has no room, no more entries can be counted, or a time is 2 ^ 63 or more.
+    /// The disk or the database has no room.
+    #[error("no room is left for the journal")]
+    NoRoom,
+    /// There would be more than `ENTRIES_MAX` entries, or a time is 2 ^ 63 or more.
     #[error("the journal is full")]
     Full,
 }
@@ -43,8 +49,8 @@ impl From<StoreError> for JournalFault {
         match error {
             StoreError::OutOfMemory => JournalFault::NoMemory,
             StoreError::Corrupt => JournalFault::Damaged,
-            StoreError::Full => JournalFault::Full,
-            StoreError::Io | StoreError::Broken | StoreError::Unstorable => JournalFault::Disk,
+            StoreError::Full | StoreError::Unstorable => JournalFault::NoRoom,
+            StoreError::Io | StoreError::Broken => JournalFault::Disk,
         }
     }
 }
@@ -81,8 +87,9 @@ pub trait Journal {
 
     /// Adds the entries in their order, all or none. A journal that keeps nothing does so.
     ///
-    /// At `Ok` each crash from then on leaves them. At `Err` a crash may leave them or not. `Full`: the disk has no room, there would
-    /// be 2 ^ 32 - 1 entries or more, or a time is 2 ^ 63 or more. `Disk`: the disk failed, or an earlier call has failed.
+    /// At `Ok` each crash from then on leaves them. At `Err` a crash may leave them or not. `NoRoom`: the disk or the database has
+    /// none. `Full`: there would be more than `ENTRIES_MAX` entries, or a time is 2 ^ 63 or more. `Disk`: the disk failed, or an
+    /// earlier call has failed.
     fn commit(&mut self, entries: &[Kept]) -> Result<(), JournalFault>
         ensures clean { is_clean self.new → is_clean self.old }
         ensures kept { OnOk result (is_clean self.new

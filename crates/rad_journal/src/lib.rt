@@ -22,7 +22,7 @@ mod restore_fault;
 mod restoring;
 mod store_journal;
 
-pub use journal::{Journal, JournalFault, Reopen};
+pub use journal::{ENTRIES_MAX, Journal, JournalFault, Reopen};
 pub use keeping::{keep, kept_are_restored};
 pub use kept::Kept;
 pub use leading::kept_is_enough;
@@ -30,6 +30,3 @@ pub use no_journal::NoJournal;
 pub use restore_fault::RestoreFault;
 pub use restoring::restore;
 pub use store_journal::StoreJournal;
-
-#[cfg(test)]
-mod tests;

@@ -1,10 +1,10 @@
 //! A journal in a table of a store.
-ghost use Rattle.std.specs.Prelude.{◌≡◌, ◌≤◌, true, IsTrue, IsSome};
+ghost use Rattle.std.specs.Prelude.{◌≡◌, ◌≤◌, true, length, IfSome, IsTrue, IsSome, None, Some};
 ghost use Rattle.std.proofs.Common.{◌∙◌, ap};
 ghost use Rattle.sqlite_disk.specs.Disk.{MoreFaults};
 ghost use Rattle.sqlite_trees.specs.Tree.{Trees};
 ghost use Rattle.sqlite_trees.specs.View.{IsClean, doubt};
-ghost use Rattle.rad_journal.specs.Rows.{entries_of, table};
+ghost use Rattle.rad_journal.specs.Rows.{IsCounted, entries_of, table};
 ghost use Rattle.rad_journal.specs.Stores.{IsSound, MayLeave, kept_in};
 
 use crate::append::add;
@@ -38,7 +38,7 @@ impl<S: Store + Drop> StoreJournal<S> {
 
     /// The journal of a store that was just opened, if its rows are those of entries.
     ///
-    /// `Damaged`: a row is none of an entry, or not the next one's. `Full`: there are 2 ^ 32 - 1 or more.
+    /// `Damaged`: a row is none of an entry, or not the next one's. `Full`: there are more than `ENTRIES_MAX`.
     pub fn open(alloc: Global, store: S) -> Result<StoreJournal<S>, JournalFault>
         requires { IsClean (S.view store) → IsFresh (S.view store) }
         ensures opened { IfOk result (λ journal. IsClean (S.view journal.store)
@@ -52,12 +52,51 @@ impl<S: Store + Drop> StoreJournal<S> {
     {
         let mut store = store;
         let count = check(alloc, &mut store)?;
-        Ok(StoreJournal {
+        Ok(StoreJournal::counted(alloc, store, count))
+    }
+
+    /// The journal of a store that was just opened, whose rows are known to be those of so many entries.
+    pub fn counted(alloc: Global, store: S, count: u32) -> StoreJournal<S>
+        requires fresh { IsClean (S.view store) → IsFresh (S.view store) }
+        requires counted { IsClean (S.view store)
+            → IsCounted ((S.view store).committed table) count }
+        ensures store { result.store ≡ store }
+        ensures count { result.count ≡ Some count }
+    {
+        StoreJournal {
             store,
             row: Row::new(alloc),
             count: Some(count),
             usable: true,
-        })
+        }
+    }
+
+    /// How many entries it has, unless a call has failed since the store was opened.
+    pub fn count(&self) -> Option<u32>
+        ensures count { result ≡ self.now.count }
+        ensures entries { IfSome result (λ count. IsClean (S.view self.now.store)
+            → length (kept_in (S.view self.now.store)) ≡ count) }
+    {
+        self.count
+    }
+
+    /// The store, and how many entries it has, unless a call has failed since the store was opened.
+    pub fn into_store(self) -> Option<(S, u32)>
+        ensures parts { IfSome result (λ parts.
+            (parts.0 ≡ self.store) × (self.count ≡ Some parts.1)) }
+        ensures fresh { IfSome result (λ parts. IsClean (S.view parts.0)
+            → IsTrue (S.view parts.0).is_open → IsFresh (S.view parts.0)) }
+        ensures counted { IfSome result (λ parts. IsClean (S.view parts.0)
+            → IsCounted ((S.view parts.0).committed table) parts.1) }
+        ensures none { result ≡ None → self.count ≡ None }
+    {
+        let StoreJournal {
+            store,
+            row: _,
+            count,
+            usable: _,
+        } = self;
+        Some((store, count?))
     }
 }
 

@@ -70,11 +70,18 @@ impl<'c> Service<'c> {
         ensures state { IfOk result (λ service. service.state ≡ opening config.now) }
     {
         let server = Server::open_keyed(alloc, config, key)?;
-        Ok(Service {
+        Ok(Service::of(alloc, server))
+    }
+
+    /// A service whose server is this one.
+    pub fn of(alloc: Global, server: Server<'c>) -> Service<'c>
+        ensures { result ≡ server.entry }
+    {
+        Service {
             alloc,
             server: Some(server),
             leftovers: Leftovers::new(alloc),
-        })
+        }
     }
 
     /// The server as it was opened, or as the last round that returned Ok left it; or later, if time has passed since.

@@ -3,7 +3,7 @@ use Rattle.sqlite_trees.specs.Memory.{memory_is_unaltered}
 use Rattle.sqlite_trees.specs.Objects.{catalog_tree}
 use Rattle.sqlite_trees.specs.Tree.{Trees}
 use Rattle.rad_journal.specs.Rows.{table}
-use Rattle.rad_journal.proofs.tests.blank.Goals as goal
+use Rattle.test_journal.proofs.tests.stores.blank.Goals as goal
 
 pub returns : goal.returns
 returns c = record {

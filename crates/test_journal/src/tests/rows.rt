@@ -1,0 +1,60 @@
+use super::holds;
+use super::stores::{blank, with_row};
+use rad_journal::{JournalFault, StoreJournal};
+use sqlite_value::row::Row;
+use sqlite_value::value::ValueRef;
+use std::alloc::{AllocError, Global};
+
+/// A column, its value, and what opening a journal with one row reports, whose other columns are those of the first entry.
+type Case = (
+    usize,
+    ValueRef<'static>,
+    Result<(), JournalFault>,
+    &'static str,
+);
+
+// The row of the first entry with another value in a column.
+fn row_with(alloc: Global, other: usize, value: ValueRef<'_>) -> Result<Row, AllocError> {
+    let mut row = Row::new(alloc);
+    for at in 0..9 {
+        let usual = match at {
+            0..=5 => ValueRef::Int(1),
+            6 => ValueRef::Blob(&[7; 16]),
+            _ => ValueRef::Blob(&[1, 2, 3]),
+        };
+        row.push(if at == other { value } else { usual })?;
+    }
+    Ok(row)
+}
+
+fn opening(alloc: Global, column: usize, value: ValueRef<'_>) -> Result<(), JournalFault> {
+    let row = row_with(alloc, column, value)?;
+    let store = with_row(blank(alloc)?, &row)?;
+    let _journal = StoreJournal::open(alloc, store)?;
+    Ok(())
+}
+
+#[test]
+fn a_row_of_no_entry_is_refused(rt: HostRuntime) {
+    const DAMAGED: Result<(), JournalFault> = Err(JournalFault::Damaged);
+    const ROWS: &[Case] = &[
+        (0, ValueRef::Int(1), Ok(()), "the first entry"),
+        (0, ValueRef::Int(2), DAMAGED, "the second entry alone"),
+        (1, ValueRef::Int(-1), DAMAGED, "a wall time below 0"),
+        (2, ValueRef::Null, DAMAGED, "no moment"),
+        (3, ValueRef::Int(1 << 32), DAMAGED, "a source of 33 bits"),
+        (4, ValueRef::Int(65_536), DAMAGED, "a port of 17 bits"),
+        (5, ValueRef::Int(2), DAMAGED, "a third door"),
+        (6, ValueRef::Blob(&[7; 15]), DAMAGED, "a draw of 15 octets"),
+        (
+            7,
+            ValueRef::Text(&[1, 2, 3]),
+            DAMAGED,
+            "a request in a text",
+        ),
+        (8, ValueRef::Null, DAMAGED, "no answer"),
+    ];
+    for row in ROWS.iter() {
+        holds(&rt, opening(rt.alloc(), row.0, row.1) == row.2, row.3);
+    }
+}

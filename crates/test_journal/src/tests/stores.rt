@@ -1,0 +1,61 @@
+//! Stores in memory, with the table of a journal.
+ghost use Rattle.std.specs.Prelude.{IfOk};
+ghost use Rattle.sqlite_trees.specs.Memory.{memory_view};
+ghost use Rattle.sqlite_trees.specs.View.{IsClean};
+ghost use Rattle.rad_journal.specs.Stores.{IsFresh};
+
+use rad_journal::{JournalFault, StoreJournal};
+use sqlite_trees::error::StoreError;
+use sqlite_trees::memory::MemStore;
+use sqlite_trees::schema::Object;
+use sqlite_trees::store::{Shape, Store};
+use sqlite_value::row::Row;
+use sqlite_value::value::ValueRef;
+use std::alloc::{AllocError, Global};
+
+/// The table of a journal.
+pub(crate) const TABLE: Object<'static> = Object {
+    shape: Shape::Table,
+    kind: "table",
+    name: "exchange",
+    table: "exchange",
+    reals: 0,
+    sql: Some("CREATE TABLE exchange(a, b, c, d, e, f, g, h)"),
+};
+
+/// A store that was just made.
+pub(crate) fn blank(alloc: Global) -> Result<MemStore, AllocError>
+    ensures { IfOk result (λ store. IsFresh (memory_view store)) }
+{
+    let store = MemStore::new(alloc, &[TABLE])?;
+    Ok(store)
+}
+
+/// The journal of a store that was just opened.
+pub(crate) fn journal_of<S: Store + Drop>(
+    alloc: Global,
+    store: S,
+) -> Result<StoreJournal<S>, JournalFault>
+    requires { IsClean (S.view store) → IsFresh (S.view store) }
+{
+    StoreJournal::open(alloc, store)
+}
+
+/// The journal of a store that was just made.
+pub(crate) fn opened(alloc: Global) -> Result<StoreJournal<MemStore>, JournalFault> {
+    journal_of(alloc, blank(alloc)?)
+}
+
+/// A store with one more row, which is committed.
+pub(crate) fn with_row<S: Store + Drop>(store: S, row: &Row) -> Result<S, StoreError>
+    requires { IsClean (S.view store) → IsFresh (S.view store) }
+    ensures { IfOk result (λ it. IsClean (S.view it) → IsFresh (S.view it)) }
+{
+    let mut store = store;
+    if !matches!(row.get(0), ValueRef::Int(_)) {
+        return Err(StoreError::Unstorable);
+    }
+    store.put(0, row)?;
+    store.commit()?;
+    Ok(store)
+}
