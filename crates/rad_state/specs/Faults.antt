@@ -18,4 +18,5 @@ abbrev pub fault_of_journal : JournalFault → OpenFault
 fault_of_journal journal.NoMemory = NoMemory
 fault_of_journal journal.Disk = Disk
 fault_of_journal journal.Damaged = Damaged
+fault_of_journal journal.NoRoom = NoRoom
 fault_of_journal journal.Full = JournalFull

@@ -1,12 +1,13 @@
 //! A state's file: the journal's table, and what a start needs to go on from it, in a database of the toolchain's SQLite.
 //!
-//! `open_files` opens the database, or makes it. `State` has the meta that was kept and the times of the last entry, and `State::begin`
-//! writes the new meta and opens the journal. Nothing here opens a host's file or reads a clock.
+//! `open_files` opens the database, or makes it. `State` has the meta that was kept and the times of the last entry, and then the
+//! journal. Once a server is restored from that, `begin` writes the new meta. Nothing here opens a host's file or reads a clock.
 //!
 //! Other crates rest on this: writing the meta leaves the journal's entries as they were, also in a crash, and the next moment is no
 //! earlier than that of the last entry.
 #![tactic(auto)]
 
+mod beginning;
 mod meta;
 mod meta_table;
 mod moments;
@@ -14,6 +15,7 @@ mod open_fault;
 mod opening;
 mod state;
 
+pub use beginning::begin;
 pub use meta::{FORMAT, Meta, RULES};
 pub use meta_table::{read_meta, write_meta};
 pub use moments::{Clocks, Last, next_moment, next_zero, read_last};

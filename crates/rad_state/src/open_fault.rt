@@ -14,9 +14,6 @@ pub enum OpenFault {
     /// Another process has the file open. Only who opens host files tells it.
     #[error("another process uses the state")]
     InUse,
-    /// The file can't be made, opened or locked. Only who opens host files tells it.
-    #[error("the state can't be opened")]
-    NotOpened,
     /// The files hold no database with these two tables alone and page sums, or what was read is not what was written, or is no
     /// meta or entry.
     #[error("it is no state, or it is damaged")]
@@ -39,7 +36,7 @@ pub enum OpenFault {
     /// The disk or the database has no room, or the configuration is too long for a row.
     #[error("no room is left for the state")]
     NoRoom,
-    /// No more entries can be counted.
+    /// There are more entries than a journal has room for.
     #[error("the journal is full")]
     JournalFull,
 }
@@ -73,6 +70,7 @@ impl From<JournalFault> for OpenFault {
             JournalFault::NoMemory => OpenFault::NoMemory,
             JournalFault::Disk => OpenFault::Disk,
             JournalFault::Damaged => OpenFault::Damaged,
+            JournalFault::NoRoom => OpenFault::NoRoom,
             JournalFault::Full => OpenFault::JournalFull,
         }
     }

@@ -122,8 +122,8 @@ fn object<'a>(name: &'a str, sql: &'a str) -> Object<'a> {
     }
 }
 
-// The store, if both of its trees are tables.
-fn with_tables<S: Store + Drop>(store: S) -> Result<S, OpenFault>
+/// The store, if both of its trees are tables.
+pub(crate) fn with_tables<S: Store + Drop>(store: S) -> Result<S, OpenFault>
     ensures same { IfOk result (λ it. it ≡ store) }
     ensures journal { OnOk result ((S.view store).shape table ≡ Table) }
     ensures meta { OnOk result ((S.view store).shape meta_table ≡ Table) }

@@ -8,8 +8,8 @@ ghost use Rattle.rad_state.specs.Moments.{IsMoment, last_of, moment_of};
 ghost use Rattle.rad_state.specs.Stores.{IsOpened};
 
 use crate::meta::Meta;
-use crate::meta_table::{read_meta, write_meta};
-use crate::moments::{Clocks, Last, next_zero, read_last};
+use crate::meta_table::read_meta;
+use crate::moments::{Clocks, Last, next_moment, next_zero, read_last};
 use crate::open_fault::OpenFault;
 use rad_config::MOMENT_MAX;
 use rad_journal::StoreJournal;
@@ -28,11 +28,11 @@ pub struct State<S: Store> {
     ghost times: { IsClean (S.view store)
         → last ≡ last_of (entries_of ((S.view store).committed table)) },
     ghost bounded: { moment_of last ≤ 2 ^ 62 },
+    ghost begun: { found ≡ None → last ≡ None },
 }
 
 impl<S: Store + Drop> State<S> {
     ghost use Rattle.sqlite_trees.specs.Tree.{Trees};
-    ghost use Rattle.rad_state.specs.Metas.{meta_held};
 
     /// The state of a store that was just opened, if what it has kept can be gone on from under a configuration.
     ///
@@ -75,6 +75,20 @@ impl<S: Store + Drop> State<S> {
         self.last
     }
 
+    /// The moment at which a life that begins now goes on, in milliseconds: 0 where the database is new, and else that of `next_moment`.
+    pub fn next_moment(&self, now: &Clocks) -> u64
+        requires { now.now.running ≤ MOMENT_MAX }
+        ensures moment { MatchOption self.now.found (result ≡ 0)
+            (λ meta. IsMoment meta self.now.last now.now result) }
+        ensures later { moment_of self.now.last ≤ result }
+        ensures bounded { result ≤ MOMENT_MAX }
+    {
+        match &self.found {
+            Some(meta) => next_moment(meta, self.last, now),
+            None => 0,
+        }
+    }
+
     /// What the boot clock shows at moment 0, in milliseconds, for a life that begins now: at moment 0 where the database is new, and else
     /// at that of `next_moment`.
     pub fn next_zero(&self, now: &Clocks) -> i64
@@ -89,27 +103,26 @@ impl<S: Store + Drop> State<S> {
         }
     }
 
-    /// Writes the meta of a new life, and opens the journal.
+    /// The journal of the state, for `begin`.
     ///
-    /// `Damaged`: a row is none of an entry, or not the next one's. `JournalFull`: there are 2 ^ 32 - 1 or more.
-    pub fn begin(self, alloc: Global, meta: &Meta) -> Result<StoreJournal<S>, OpenFault>
+    /// `Damaged`: a row is none of an entry, or not the next one's. `JournalFull`: there are more than
+    /// `rad_journal::ENTRIES_MAX`.
+    pub fn into_journal(self, alloc: Global) -> Result<StoreJournal<S>, OpenFault>
         ensures opened { IfOk result (λ journal. IsClean (S.view journal.store)
             → IsTrue (S.view journal.store).is_open × IsSome journal.count) }
         ensures kept { IfOk result (λ journal. IsClean (S.view journal.store)
             → entries_of ((S.view journal.store).committed table)
             ≡ entries_of ((S.view self.store).committed table)) }
-        ensures meta { IfOk result (λ journal. IsClean (S.view journal.store)
-            → meta_held ((S.view journal.store).committed meta_table) ≡ Some meta.now) }
         ensures clean { IfOk result (λ journal.
             doubt (S.view self.store).is_clean ≤ doubt (S.view journal.store).is_clean) }
+        ensures crash { IfOk result (λ journal. (db : Trees)
+            → S.recovers journal.store db → S.recovers self.store db) }
     {
         let State {
             store,
             found: _,
             last: _,
         } = self;
-        let mut store = store;
-        write_meta(alloc, &mut store, meta)?;
         Ok(StoreJournal::open(alloc, store)?)
     }
 }

@@ -6,6 +6,7 @@ ghost use Rattle.sqlite_store.specs.Unopened.{AreUsable};
 ghost use Rattle.sqlite_trees.specs.View.{IsClean};
 ghost use Rattle.rad_state.specs.Stores.{IsOpened};
 
+use crate::beginning::begin;
 use crate::meta::{FORMAT, Meta, RULES};
 use crate::meta_table::{read_meta, write_meta};
 use crate::moments::{Clocks, Last, next_moment, next_zero};
@@ -112,7 +113,8 @@ fn goes_on<S: Store + Drop>(rt: &impl Abort, alloc: Global, store: S) -> Result<
     };
     assert_eq!(rt; last.wall, 1_700_000_000_000);
     assert_eq!(rt; last.moment, 5000);
-    let mut journal = state.begin(alloc, &meta(alloc)?)?;
+    let journal = state.into_journal(alloc)?;
+    let mut journal = begin(alloc, journal, &meta(alloc)?)?;
     assert!(rt; journal.entry(alloc, 0)?.is_some());
     assert!(rt; journal.entry(alloc, 1)?.is_none());
     Ok(())
@@ -259,7 +261,6 @@ fn moments_go_on(rt: HostRuntime) -> Result<(), Fail> {
 fn faults_have_texts(rt: HostRuntime) -> Result<(), Fail> {
     for (fault, want) in [
         (OpenFault::InUse, "another process uses the state"),
-        (OpenFault::NotOpened, "the state can't be opened"),
         (OpenFault::Damaged, "it is no state, or it is damaged"),
         (OpenFault::OtherFormat, "the state has another format"),
         (
