@@ -1,2 +1,5 @@
 pub mod AskingLemmas
 pub mod CallLemmas
+pub mod ServesLemmas
+pub mod RepliedLemmas
+pub mod LifeLemmas

@@ -1,3 +1,4 @@
 pub mod Failures
 pub mod Asking
 pub mod Calls
+pub mod Lives

@@ -10,7 +10,11 @@
 
 mod asking;
 mod failure;
+mod given;
 mod input;
+mod life;
+mod lives;
+mod moments;
 mod options;
 mod progress;
 mod receive_buffer;
@@ -23,9 +27,12 @@ mod warner;
 mod writer;
 
 pub use failure::{Failure, receive_failure, send_failure};
+pub use given::Given;
 pub use input::open_text;
+pub use lives::{live, nothing_is_one_run};
+pub use moments::Moments;
 pub use options::{Options, Reports, Workers};
 pub use rad_watch::Level;
 pub use serve_error::ServeError;
-pub use serving::serve;
+pub use serving::{serve, serve_with_state};
 pub use udp_ports::{BindFault, UdpPorts};

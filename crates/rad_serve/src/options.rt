@@ -13,6 +13,8 @@ pub struct Options {
     pub config: String,
     /// The path of the seed of the draws.
     pub seed: String,
+    /// The folder of the state, if anything is to outlive the process.
+    pub state: Option<String>,
     /// The address to listen on, most significant octet first.
     pub address: u32,
     /// The authentication port.

@@ -1,5 +1,6 @@
 //! The watcher of a server's turns, which hands texts over to the threads that write.
 
+use crate::moments::{Moments, wall};
 use crate::options::Reports;
 use crate::progress::Progress;
 use crate::writer::Text;
@@ -10,7 +11,7 @@ use rad_watch::{Now, Roster, Watcher, record};
 use std::alloc::AllocGlobal;
 use std::mem;
 use std::sync::Wait;
-use std::time::{Clock, Duration};
+use std::time::Clock;
 
 /// How long it is from one writing of the files to the next, in milliseconds.
 const FILES_EVERY: u64 = 10_000;
@@ -37,6 +38,7 @@ enum Record {
 #[derive(Drop)]
 pub(crate) struct Reporter<'r, R> {
     rt: &'r R,
+    moments: Moments,
     watcher: Watcher,
     lines: Sender<Vec<u8>>,
     files: Sender<Text>,
@@ -56,40 +58,42 @@ pub(crate) struct Reporter<'r, R> {
 }
 
 impl<'r, R: Clock + Wait + AllocGlobal> Reporter<'r, R> {
-    /// A reporter of these reports, whose recording begins with the head, if there is one.
+    /// A reporter of these reports, but for a recording.
     pub fn new(
         rt: &'r R,
+        moments: Moments,
         watcher: Watcher,
         (lines, files): (Sender<Vec<u8>>, Sender<Text>),
         progress: &'r Progress,
         reports: &Reports,
-        head: Option<Vec<u8>>,
     ) -> Reporter<'r, R> {
-        let record = if head.is_some() {
-            Record::Open
-        } else {
-            Record::Closed
-        };
         Reporter {
             rt,
+            moments,
             watcher,
             lines,
             files,
             progress,
             has_metrics: reports.metrics.is_some(),
             has_sessions: reports.sessions.is_some(),
-            record,
+            record: Record::Closed,
             waiting: None,
-            recorded: head.unwrap_or(Vec::new(rt.alloc())),
+            recorded: Vec::new(rt.alloc()),
             begun: 0,
             files_due: 0,
             look_due: 0,
         }
     }
 
+    /// Records from now on, after this head.
+    pub fn record_after(&mut self, head: Vec<u8>) {
+        self.record = Record::Open;
+        self.recorded = head;
+    }
+
     /// Hands over all that is left, and the files once more. It may wait for the threads that write.
     pub fn finish(&mut self, server: &Server) {
-        let now = now(self.rt);
+        let now = now(self.rt, self.moments);
         self.watcher.finish(now);
         if self.record == Record::Open {
             let text = mem::replace(&mut self.recorded, Vec::new(self.rt.alloc()));
@@ -197,29 +201,25 @@ impl<'r, R: Clock + Wait + AllocGlobal> Watch for Reporter<'r, R> {
 
     fn made(&mut self, turn: &Turn) {
         let took = micros(self.rt).saturating_sub(self.begun);
-        let now = now(self.rt);
+        let now = now(self.rt, self.moments);
         self.watcher.made(turn, took, now);
         self.record_turn(turn);
         self.hand_over(turn.service.server(), now);
     }
 
     fn lost(&mut self, service: &Service, datagrams: usize) {
-        let now = now(self.rt);
+        let now = now(self.rt, self.moments);
         self.watcher.lost(datagrams, now);
         self.hand_over(service.server(), now);
     }
 }
 
-/// The time by both clocks of the system; a clock that fails gives 0.
-pub(crate) fn now<C: Clock>(clock: &C) -> Now {
+/// The time by both clocks; a clock that fails gives 0.
+pub(crate) fn now<C: Clock>(clock: &C, moments: Moments) -> Now {
     Now {
-        since_1970: clock.since_1970().map_or(0, millis),
-        moment: clock.monotonic().map_or(0, millis),
+        since_1970: wall(clock),
+        moment: moments.now(clock),
     }
-}
-
-fn millis(time: Duration) -> u64 {
-    u64::try_from(time.as_millis()).unwrap_or(u64::MAX)
 }
 
 fn micros<C: Clock>(clock: &C) -> u64 {

@@ -2,11 +2,13 @@
 
 use crate::udp_ports::BindFault;
 use rad_config::ConfigFault;
+use rad_journal::RestoreFault;
 use rad_shell::ServeFault;
+use rad_state::OpenFault;
 use std::alloc::AllocError;
 use thiserror::Error;
 
-/// Why `serve` ended before its last round. The first five are reported before anything is served, and in this order, but that refused
+/// Why `serve` ended before its last round. Those before `Rounds` are reported before anything is served, and in this order, but that refused
 /// memory is reported where it happens.
 #[derive(Clone, Copy, Debug, PartialEq, Eq, Error)]
 pub enum ServeError {
@@ -22,6 +24,15 @@ pub enum ServeError {
     /// Memory was refused before the first turn.
     #[error("out of memory")]
     NoMemory,
+    /// The state can't be opened, gone on from or begun.
+    #[error(transparent)]
+    State(OpenFault),
+    /// The journal of the state doesn't lead to a server.
+    #[error(transparent)]
+    Restore(RestoreFault),
+    /// The boot's id or its clock can't be read.
+    #[error("the boot's id or its clock can't be read")]
+    Clocks,
     /// A port can't be bound.
     #[error("bind failed")]
     Bind,
@@ -39,6 +50,18 @@ impl From<ConfigFault> for ServeError {
 impl From<AllocError> for ServeError {
     fn from(_error: AllocError) -> ServeError {
         ServeError::NoMemory
+    }
+}
+
+impl From<OpenFault> for ServeError {
+    fn from(fault: OpenFault) -> ServeError {
+        ServeError::State(fault)
+    }
+}
+
+impl From<RestoreFault> for ServeError {
+    fn from(fault: RestoreFault) -> ServeError {
+        ServeError::Restore(fault)
     }
 }
 

@@ -1,135 +1,210 @@
 //! The command `serve`.
-ghost use Rattle.std.specs.Prelude.{◌≡◌, ◌+◌};
+ghost use Rattle.std.specs.Prelude.{◌≡◌, ◌+◌, IsTrue};
+ghost use Rattle.sqlite_trees.specs.View.{IsClean};
 ghost use Rattle.rad_serve.specs.Calls.{MadeCalls};
+ghost use Rattle.rad_serve.specs.Lives.{StaysOneRun};
 ghost use Rattle.rad_shell.specs.Serving.{Outlives, ended, port_faults};
+ghost use Rattle.rad_state.specs.Stores.{IsOpened};
 
-use crate::input::{open_seed, open_text};
+use crate::given::Given;
+use crate::life::{Life, in_memory, over};
+use crate::moments::Moments;
 use crate::options::Options;
 use crate::progress::Progress;
 use crate::reporter::{Reporter, now};
 use crate::serve_error::ServeError;
 use crate::udp_ports::UdpPorts;
 use crate::warner::Warner;
-use crate::writer::{Writing, write_files, write_lines};
-use crossbeam_channel::bounded;
+use crate::writer::{Text, Writing, write_files, write_lines};
+use crossbeam_channel::{Receiver, bounded};
 use rad_auth::Door;
-use rad_check::{push_warning, warn, warn_of_file};
-use rad_config::{Config, read_configuration};
-use rad_journal::{Journal, NoJournal, kept_is_enough};
-use rad_server::{HashKey, time_passes_unseen};
+use rad_check::push_warning;
+use rad_journal::{Journal, kept_are_restored, kept_is_enough};
+use rad_server::{fresh_are_enough, lawful_steps, runs_are_lawful, time_passes_unseen};
 use rad_shell::{Gate, OpenGate, Ports, ServeFault, Served, Service, Turns, Unwatched, Watch};
+use rad_state::open_files;
 use rad_text::lines::divide;
 use rad_watch::Watcher;
 use rand_chacha::ChaCha20Rng;
-use rand_core::{Rng, SeedableRng};
-use std::alloc::AllocGlobal;
+use rand_core::Rng;
+use sqlite_disk::Disk;
+use sqlite_trees::store::Store;
+use std::alloc::{AllocGlobal, Global};
 use std::net::{Ipv4Addr, Net};
 use std::rt::Files;
 use std::sync::Wait;
-use std::thread::Threads;
+use std::thread::{JoinHandle, Scope, Threads};
 use std::time::Clock;
 use std::{mem, thread};
 
 /// How many texts may wait for a thread that writes them.
 const TEXTS_MAX: usize = 4;
 
-/// Answers what comes to two UDP ports, in so many turns or on and on, and prints what they came to.
+/// Answers what comes to two UDP ports, in so many turns or on and on, and prints what they came to. Nothing outlives the process.
 ///
 /// It prints a line when it listens, and another at the end. Nobody has to read them: a line that can't be written is left out. All
 /// memory that turns can't do without is taken before the ports are bound.
 pub fn serve<R: Files + Net + Clock + Print + Eprint + Threads + Wait + Sync + AllocGlobal>(
     rt: &R,
     options: &Options,
+    given: Given,
 ) -> Result<(), ServeError> {
-    let text = open_text(rt, &options.config)?;
-    let config = read_configuration(rt.alloc(), &text)?;
-    let mut warnings = String::new(rt.alloc());
-    if options.reports.log.is_some() {
-        warn(&mut warnings, rt, &options.config, &text, &config);
-        warn_of_file(&mut warnings, rt, &options.seed);
-    }
-    let served = serve_users(rt, options, &config, text, &mut warnings);
-    // They are still here if a fault came before it listens.
-    let _ = eprint!(rt; "{warnings}");
+    let mut given = given;
+    let served = serve_in_memory(rt, options, &mut given);
+    print_warnings(rt, &given.warnings);
     served
+}
+
+/// The same, and what a later reply may rest on is kept in the files of a state before a reply leaves.
+///
+/// The server goes on as the last one left it: with its sessions, kept replies and challenges, at no earlier moment. `salt` is a random
+/// number. `State`: the files hold nothing that this program can go on from under this configuration, or a call of the disk failed.
+/// `Restore`: an entry isn't answered as it was. `Clocks`: a clock can't be read. At each of these what was kept is as it was.
+pub fn serve_with_state<
+    R: Files + Net + Clock + Print + Eprint + Threads + Wait + Sync + AllocGlobal,
+    D: Disk + Drop + Send,
+>(
+    rt: &R,
+    options: &Options,
+    given: Given,
+    files: sqlite_disk::Files<D>,
+    salt: u64,
+) -> Result<(), ServeError>
+    requires log { IsTrue (D.Disk.is_usable files.log) }
+    requires db { IsTrue (D.Disk.is_usable files.db) }
+{
+    let mut given = given;
+    let store = open_files(rt.alloc(), files, salt)?;
+    let served = serve_over(rt, options, &mut given, store);
+    print_warnings(rt, &given.warnings);
+    served
+}
+
+// They are still here if a fault came before it listens.
+fn print_warnings<R: Eprint>(rt: &R, warnings: &str) {
+    let _ = eprint!(rt; "{warnings}");
 }
 
 // What is alive at a `?` is dropped there, and each such drop is proved. So here, and below, a function makes one big value and
 // lends it to the next.
-fn serve_users<R: Files + Net + Clock + Print + Eprint + Threads + Wait + Sync + AllocGlobal>(
+fn serve_in_memory<R: Files + Net + Clock + Print + Eprint + Threads + Wait + Sync + AllocGlobal>(
     rt: &R,
     options: &Options,
-    config: &Config,
-    text: Vec<u8>,
-    warnings: &mut String,
+    given: &mut Given,
 ) -> Result<(), ServeError> {
-    let head = head_of(options, text, warnings)?;
-    let mut random = ChaCha20Rng::from_seed(open_seed(rt, &options.seed)?);
-    let key = hash_key(&mut random);
-    let mut service = Service::open_keyed(rt.alloc(), config, key)?;
-    if options.reports.are_none() {
-        return serve_unwatched(rt, options, &mut service, &mut random);
-    }
-    serve_reporting(rt, options, &mut service, &mut random, head, warnings)
+    let Given {
+        text,
+        config,
+        seed,
+        warnings,
+    } = given;
+    let life = in_memory(rt.alloc(), config, *seed)?;
+    serve_life(rt, options, life, text, warnings)
 }
 
-// The key of the tables' hashes: the first 16 octets of the random source.
-fn hash_key(random: &mut ChaCha20Rng) -> HashKey {
-    HashKey {
-        low: random.next_u64(),
-        high: random.next_u64(),
+fn serve_over<
+    R: Files + Net + Clock + Print + Eprint + Threads + Wait + Sync + AllocGlobal,
+    S: Store + Drop + Send,
+>(rt: &R, options: &Options, given: &mut Given, store: S) -> Result<(), ServeError>
+    requires { IsClean (S.view store) → IsOpened (S.view store) }
+{
+    let Given {
+        text,
+        config,
+        seed,
+        warnings,
+    } = given;
+    let life = over(rt, store, text, config, *seed, warnings)?;
+    serve_life(rt, options, life, text, warnings)
+}
+
+fn serve_life<
+    R: Files + Net + Clock + Print + Eprint + Threads + Wait + Sync + AllocGlobal,
+    J: Journal + Drop + Send,
+>(
+    rt: &R,
+    options: &Options,
+    life: Life<J>,
+    text: &[u8],
+    warnings: &mut String,
+) -> Result<(), ServeError> {
+    if options.reports.are_none() {
+        print_warnings(rt, warnings);
+        warnings.clear();
+        return serve_unwatched(rt, options, life);
     }
+    let head = head_of(rt.alloc(), options, text, warnings)?;
+    serve_reporting(rt, options, life, head, warnings)
 }
 
 // With what a recording begins, if there is to be one: the text of the configuration, and the line that ends it. A text that has such
 // a line can't be told from what follows it.
 fn head_of(
+    alloc: Global,
     options: &Options,
-    text: Vec<u8>,
+    text: &[u8],
     warnings: &mut String,
 ) -> Result<Option<Vec<u8>>, ServeError> {
     let Some(path) = &options.reports.record else {
         return Ok(None);
     };
-    if divide(&text).is_some() {
+    if divide(text).is_some() {
         push_warning(
             warnings,
             format_args!("cannot record to {path}: the configuration has a line ---"),
         );
         return Ok(None);
     }
-    let mut head = text;
+    let mut head = Vec::from_slice(alloc, text)?;
     head.extend_from_slice(b"\n---\n")?;
     Ok(Some(head))
 }
 
-fn serve_unwatched<R: Net + Clock + Print + Threads + Wait + Sync + AllocGlobal>(
+fn serve_unwatched<R: Net + Clock + Print + Threads + Wait + Sync + AllocGlobal, J: Journal + Drop>(
     rt: &R,
     options: &Options,
-    service: &mut Service,
-    random: &mut ChaCha20Rng,
+    life: Life<J>,
 ) -> Result<(), ServeError> {
-    let mut turns = Turns::open(rt.alloc(), random, &OpenGate, Unwatched)?;
-    let mut ports = listen(rt, options)?;
-    serve_turns(rt, options, service, &mut turns, &mut ports, &mut NoJournal)
+    let Life {
+        mut service,
+        mut random,
+        moments,
+        mut journal,
+    } = life;
+    let mut turns = Turns::open(rt.alloc(), &mut random, &OpenGate, Unwatched)?;
+    let mut ports = listen(rt, options, moments)?;
+    serve_turns(
+        rt,
+        options,
+        &mut service,
+        &mut turns,
+        &mut ports,
+        &mut journal,
+    )
 }
 
-fn serve_reporting<R: Files + Net + Clock + Print + Eprint + Threads + Wait + Sync + AllocGlobal>(
+fn serve_reporting<
+    R: Files + Net + Clock + Print + Eprint + Threads + Wait + Sync + AllocGlobal,
+    J: Journal + Drop + Send,
+>(
     rt: &R,
     options: &Options,
-    service: &mut Service,
-    random: &mut ChaCha20Rng,
+    life: Life<J>,
     head: Option<Vec<u8>>,
     warnings: &mut String,
 ) -> Result<(), ServeError> {
     let reports = &options.reports;
-    let config = service.server().config();
-    let watcher = Watcher::open(rt.alloc(), config, reports.log, now(rt))?;
+    let moments = life.moments;
+    let config = life.service.server().config();
+    let watcher = Watcher::open(rt.alloc(), config, reports.log, now(rt, moments))?;
     let (lines, lines_end) = bounded(rt.alloc(), TEXTS_MAX)?;
     let (files, files_end) = bounded(rt.alloc(), TEXTS_MAX)?;
     let progress = Progress::new();
     let warned = lines.clone()?;
-    let reporter = Reporter::new(rt, watcher, (lines, files), &progress, reports, head);
+    let mut reporter = Reporter::new(rt, moments, watcher, (lines, files), &progress, reports);
+    if let Some(head) = head {
+        reporter.record_after(head);
+    }
     let writing = Writing {
         lines: lines_end,
         files: files_end,
@@ -138,20 +213,28 @@ fn serve_reporting<R: Files + Net + Clock + Print + Eprint + Threads + Wait + Sy
         config,
         progress: &progress,
     };
-    serve_reported(rt, service, random, reporter, writing, warnings)
+    serve_reported(rt, life, reporter, writing, warnings)
 }
 
-fn serve_reported<R: Files + Net + Clock + Print + Eprint + Threads + Wait + Sync + AllocGlobal>(
+fn serve_reported<
+    R: Files + Net + Clock + Print + Eprint + Threads + Wait + Sync + AllocGlobal,
+    J: Journal + Drop + Send,
+>(
     rt: &R,
-    service: &mut Service,
-    random: &mut ChaCha20Rng,
+    life: Life<J>,
     reporter: Reporter<R>,
     writing: Writing,
     warnings: &mut String,
 ) -> Result<(), ServeError> {
+    let Life {
+        mut service,
+        mut random,
+        moments,
+        journal,
+    } = life;
     let options = writing.options;
-    let turns = Turns::open(rt.alloc(), random, &OpenGate, reporter)?;
-    let ports = listen(rt, options)?;
+    let turns = Turns::open(rt.alloc(), &mut random, &OpenGate, reporter)?;
+    let ports = listen(rt, options, moments)?;
     if !warnings.is_empty() {
         let warnings = mem::replace(warnings, String::new(rt.alloc()));
         let warner = Warner {
@@ -162,11 +245,11 @@ fn serve_reported<R: Files + Net + Clock + Print + Eprint + Threads + Wait + Syn
     }
     let serving = Serving {
         options,
-        service,
+        service: &mut service,
         turns,
         ports,
     };
-    serve_beside(rt, rt, serving, writing)
+    serve_beside(rt, rt, serving, journal, writing)
 }
 
 // What serves, on a thread of its own. At its end the reporter is dropped, which ends those who write.
@@ -179,14 +262,15 @@ struct Serving<'s, 'c, R> {
 }
 
 impl<'s, 'c, R: Clock + Print + Threads + Wait + Sync + AllocGlobal> Serving<'s, 'c, R> {
-    fn run(self, rt: &R) -> Result<(), ServeError> {
+    fn run<J: Journal + Drop>(self, rt: &R, journal: J) -> Result<(), ServeError> {
         let Serving {
             options,
             service,
             mut turns,
             mut ports,
         } = self;
-        let served = serve_turns(rt, options, service, &mut turns, &mut ports, &mut NoJournal);
+        let mut journal = journal;
+        let served = serve_turns(rt, options, service, &mut turns, &mut ports, &mut journal);
         turns.watch().finish(service.server());
         served
     }
@@ -197,7 +281,8 @@ impl<'s, 'c, R: Clock + Print + Threads + Wait + Sync + AllocGlobal> Serving<'s,
 fn serve_beside<
     R: Clock + Print + Eprint + Threads + Wait + Sync + AllocGlobal,
     F: Files + Wait + AllocGlobal,
->(rt: &R, system: &F, serving: Serving<R>, writing: Writing) -> Result<(), ServeError> {
+    J: Journal + Drop + Send,
+>(rt: &R, system: &F, serving: Serving<R>, journal: J, writing: Writing) -> Result<(), ServeError> {
     let Writing {
         lines,
         files,
@@ -214,39 +299,70 @@ fn serve_beside<
         {
             progress.count_unwritten();
         }
-        match scope.spawn(move || serving.run(rt)) {
-            Ok(server) => {
-                let warner = Warner {
-                    lines: &warned,
-                    progress,
-                };
-                write_files(system, &files, &options.reports, config, warner);
+        let mut files = Some(files);
+        let warner = Warner {
+            lines: &warned,
+            progress,
+        };
+        match start(scope, rt, serving, journal, &mut files, warner) {
+            Started::Beside(server) => {
+                if let Some(files) = &files {
+                    write_files(system, files, &options.reports, config, warner);
+                }
                 drop(warned);
                 server.join(rt)
             }
-            Err(error) => {
-                drop(files);
-                let warner = Warner {
-                    lines: &warned,
-                    progress,
-                };
-                warner.warn(
-                    system,
-                    "cannot start a thread to serve on: no files are written",
-                );
+            Started::Ended(served) => {
                 drop(warned);
-                (error.value)()
+                served
             }
         }
     })
+}
+
+// What becomes of serving: it goes on on a thread of its own, or has ended on this one.
+#[derive(Drop)]
+enum Started {
+    Beside(JoinHandle<Result<(), ServeError>>),
+    Ended(Result<(), ServeError>),
+}
+
+// Serves on a thread of its own. If there is none, it serves on this one, and no files are written.
+fn start<
+    's,
+    'c: 's,
+    E,
+    R: Clock + Print + Threads + Wait + Sync + AllocGlobal + 's,
+    J: Journal + Drop + Send + 's,
+>(
+    scope: &Scope<'s, E>,
+    rt: &'s R,
+    serving: Serving<'s, 'c, R>,
+    journal: J,
+    files: &mut Option<Receiver<Text>>,
+    warner: Warner,
+) -> Started {
+    match scope.spawn(move || serving.run(rt, journal)) {
+        Ok(server) => Started::Beside(server),
+        Err(error) => {
+            drop(files.take());
+            warner.warn(
+                rt,
+                "cannot start a thread to serve on: no files are written",
+            );
+            Started::Ended((error.value)())
+        }
+    }
 }
 
 // Binds the ports, and prints that it listens.
 fn listen<'r, R: Net + Clock + Print + AllocGlobal>(
     rt: &'r R,
     options: &Options,
+    moments: Moments,
 ) -> Result<UdpPorts<'r, R>, ServeError> {
-    let ports = UdpPorts::bind(rt, options.address, options.auth, options.acct)?;
+    let mut ports = UdpPorts::bind(rt, options.address, options.auth, options.acct)?;
+    ports.go_by(moments);
     print_listening(rt, options, &ports);
     Ok(ports)
 }
@@ -272,9 +388,11 @@ fn serve_turns<
     Ok(())
 }
 
-// Calls of `Turns::run_keeping` follow one another, on the same service; if the number of turns is given, the first call makes them all. A
-// call counts turns in 32 bits, which last 50 days at 1,000 a second.
-fn make_calls<
+/// Calls of `Turns::run_keeping` follow one another, on the same service; if the number of turns is given, the first call makes them all.
+///
+/// A call counts turns in 32 bits, which last 50 days at 1,000 a second. Where the server was restored from what a journal kept,
+/// whatever a crash leaves is one run of the one-thread server, and each reply that ever went is in it.
+pub(crate) fn make_calls<
     R: Threads + Wait + Sync,
     P: Ports,
     J: Journal,
@@ -304,7 +422,15 @@ fn make_calls<
         made.tally (ended result) (J.kept journal.new) (J.may_leave journal.new)) }
     ensures reported { P.reported ports.new ≡ P.reported ports.old + port_faults result }
     ensures clean { J.is_clean journal.new → J.is_clean journal.old }
+    ensures lives { J.is_clean journal.new → J.is_open journal.old → IsTrue J.keeps
+        → StaysOneRun service.old (J.kept journal.old) (P.passed ports.old) (P.passed ports.new)
+        (J.may_leave journal.new) }
 {
+    service.server().state_is_lawful();
+    fresh_are_enough();
+    runs_are_lawful();
+    lawful_steps();
+    kept_are_restored();
     time_passes_unseen();
     kept_is_enough();
     let rounds = options.rounds.unwrap_or(u32::MAX);

@@ -9,11 +9,11 @@ ghost use Rattle.rad_shell.specs.Serving.{IsReceived};
 
 use crate::asking::Asking;
 use crate::failure::{Failure, receive_failure, send_failure};
+use crate::moments::{Moments, wall};
 use crate::receive_buffer::ask_for_room;
 use mio::net::UdpSocket;
 use mio::{Events, Interest, Poll, Token};
 use rad_auth::Door;
-use rad_config::MOMENT_MAX;
 use rad_shell::{Got, PortFault, Ports, RECEIVED_MAX};
 use std::alloc::{AllocError, AllocGlobal};
 use std::io;
@@ -60,6 +60,7 @@ impl From<io::Error> for BindFault {
 #[derive(Drop)]
 pub struct UdpPorts<'r, C> {
     clock: &'r C,
+    moments: Moments,
     poll: Poll,
     events: Events,
     auth: UdpSocket,
@@ -74,7 +75,7 @@ pub struct UdpPorts<'r, C> {
 }
 
 impl<'r, C: Clock> UdpPorts<'r, C> {
-    /// Binds the two ports of an address, most significant octet first. Port 0 is any free one.
+    /// Binds the two ports of an address, most significant octet first. Port 0 is any free one. Moments are those of the system's clock.
     pub fn bind(rt: &'r C, address: u32, auth: u16, acct: u16) -> Result<UdpPorts<'r, C>, BindFault>
     where
         C: Net + AllocGlobal,
@@ -85,6 +86,7 @@ impl<'r, C: Clock> UdpPorts<'r, C> {
         let (acct, acct_port) = bind_socket(rt, &poll, ACCT, address, acct)?;
         Ok(UdpPorts {
             clock: rt,
+            moments: Moments::of_system(),
             poll,
             events,
             auth,
@@ -141,16 +143,18 @@ impl<'r, C: Clock> UdpPorts<'r, C> {
         Err(PortFault)
     }
 
-    // The moment, in milliseconds by a clock that goes on whatever time it is set to. Its zero is the system's choice.
+    /// Tells moments by this clock from now on.
+    pub fn go_by(&mut self, moments: Moments)
+        ensures { self.new.moments ≡ moments }
+    {
+        self.moments = moments;
+    }
+
+    // The moment, in milliseconds.
     fn now(&self) -> u64
         ensures { result ≤ moment_max }
     {
-        match self.clock.monotonic() {
-            Ok(time) => u64::try_from(time.as_millis())
-                .unwrap_or(MOMENT_MAX)
-                .min(MOMENT_MAX),
-            Err(_) => 0,
-        }
+        self.moments.now(self.clock)
     }
 
     // Receives from one socket, if it is marked and has a datagram.
@@ -262,6 +266,10 @@ impl<'r, C: Clock> Ports for UdpPorts<'r, C> {
 
     fn faults(&self) -> u64 {
         self.failures
+    }
+
+    fn wall(&self) -> u64 {
+        wall(self.clock)
     }
 
     fn moment(&mut self) -> Option<u64> {

@@ -2,7 +2,7 @@ use super::LOOPBACK;
 use super::client::{client, gets, sends};
 use crate::tests::holds;
 use rad_auth::Door;
-use rad_serve::{BindFault, UdpPorts};
+use rad_serve::{BindFault, Moments, UdpPorts};
 use rad_shell::{Got, PortFault, Ports, RECEIVED_MAX};
 use std::alloc::AllocGlobal;
 use std::net::{Net, UdpSocket};
@@ -160,6 +160,24 @@ fn moments_are_milliseconds(rt: HostRuntime) -> Result<(), Fail> {
         &rt,
         between.is_some_and(|span| span >= 15 && span <= 5_000),
         "some 20 milliseconds",
+    );
+    Ok(())
+}
+
+#[test]
+fn moments_go_on(rt: HostRuntime) -> Result<(), Fail> {
+    let mut ports = UdpPorts::bind(&rt, LOOPBACK, 0, 0)?;
+    ports.go_by(Moments::from(&rt, 1_000_000));
+    let moment = ports.moment();
+    holds(
+        &rt,
+        moment.is_some_and(|now| now >= 1_000_000 && now <= 1_005_000),
+        "from a million",
+    );
+    holds(
+        &rt,
+        ports.wall() >= 1_700_000_000_000,
+        "the wall time is after 2023",
     );
     Ok(())
 }

@@ -2,8 +2,11 @@ use super::LOOPBACK;
 use super::client::CONFIGURATION;
 use crate::tests::holds;
 use rad_config::ConfigFault;
-use rad_serve::{Options, Reports, ServeError, UdpPorts, Workers, serve};
+use rad_journal::RestoreFault;
+use rad_serve::{Given, Options, Reports, ServeError, UdpPorts, Workers, serve, serve_with_state};
 use rad_shell::{JournalFault, ServeFault};
+use rad_state::OpenFault;
+use sqlite_disk::{Fuse, Memory};
 use std::alloc::{AllocGlobal, Global};
 use std::net::Net;
 use std::process::Abort;
@@ -19,6 +22,8 @@ const TAKEN: u16 = 18136;
 
 const FREE: u16 = 18138;
 
+const STATE_FREE: u16 = 18140;
+
 /// Files that the tests write.
 const SEED: &str = "/tmp/test_serve.seed";
 
@@ -27,6 +32,10 @@ const SHORT_SEED: &str = "/tmp/test_serve.short";
 const LONG_SEED: &str = "/tmp/test_serve.long";
 
 const CONFIG: &str = "/tmp/test_serve.toml";
+
+const STATE_CONFIG: &str = "/tmp/test_serve.state.toml";
+
+const STATE_SEED: &str = "/tmp/test_serve.state.seed";
 
 /// Files that are wherever the tests run: none, one without end, one that isn't TOML.
 const MISSING: &str = "/dev/null/missing";
@@ -39,6 +48,7 @@ fn options(alloc: Global, config: &str, seed: &str, auth: u16) -> Option<Options
     Some(Options {
         config: config.to_string(alloc).ok()?,
         seed: seed.to_string(alloc).ok()?,
+        state: None,
         address: LOOPBACK,
         auth,
         acct: auth.saturating_add(1),
@@ -64,7 +74,10 @@ fn served<R: Files + Net + Clock + Print + Eprint + Threads + Wait + Sync + Allo
     auth: u16,
 ) -> Option<Result<(), ServeError>> {
     let options = options(rt.alloc(), config, seed, auth)?;
-    Some(serve(rt, &options))
+    Some(match Given::read(rt, &options) {
+        Ok(given) => serve(rt, &options, given),
+        Err(error) => Err(error),
+    })
 }
 
 /// Files, ports, and how serving ends: the configuration's fault comes first, then the seed's, and then that of the ports.
@@ -126,6 +139,33 @@ fn faults_in_their_order(rt: HostRuntime) -> Result<(), Fail> {
     Ok(())
 }
 
+// How one turn of serving ends over a new state whose files fail after so many calls each.
+fn served_over<R: Files + Net + Clock + Print + Eprint + Threads + Wait + Sync + AllocGlobal>(
+    rt: &R,
+    calls: u64,
+) -> Option<Result<(), ServeError>> {
+    let options = options(rt.alloc(), STATE_CONFIG, STATE_SEED, STATE_FREE)?;
+    let given = Given::read(rt, &options).ok()?;
+    let files = sqlite_disk::Files {
+        log: Fuse::new(Memory::new(rt.alloc()), calls),
+        db: Fuse::new(Memory::new(rt.alloc()), calls),
+    };
+    Some(serve_with_state(rt, &options, given, files, 7))
+}
+
+#[test]
+fn a_state_is_begun_or_its_disk_fails(rt: HostRuntime) -> Result<(), Fail> {
+    fs::write(&rt, STATE_CONFIG, CONFIGURATION)?;
+    fs::write(&rt, STATE_SEED, &[1u8; 32])?;
+    let failed = Err(ServeError::State(OpenFault::Disk));
+    holds(&rt, served_over(&rt, 0) == Some(failed), "no call");
+    holds(&rt, served_over(&rt, 9) == Some(failed), "nine calls");
+    holds(&rt, served_over(&rt, 1000) == Some(Ok(())), "begun");
+    fs::remove_file(&rt, STATE_CONFIG)?;
+    fs::remove_file(&rt, STATE_SEED)?;
+    Ok(())
+}
+
 fn says(rt: &impl Abort, alloc: Global, error: ServeError, text: &str) {
     let said = error.to_string(alloc).unwrap_or(String::new(alloc));
     holds(rt, said.as_str() == text, text);
@@ -139,6 +179,18 @@ const TEXTS: &[(ServeError, &str)] = &[
     ),
     (ServeError::SeedUnreadable, "seed unreadable"),
     (ServeError::NoMemory, "out of memory"),
+    (
+        ServeError::State(OpenFault::InUse),
+        "another process uses the state",
+    ),
+    (
+        ServeError::Restore(RestoreFault::OtherAnswer { entry: 7 }),
+        "the answer of entry 7 is another",
+    ),
+    (
+        ServeError::Clocks,
+        "the boot's id or its clock can't be read",
+    ),
     (ServeError::Bind, "bind failed"),
     (ServeError::Rounds(ServeFault::Receive), "receive failed"),
     (ServeError::Rounds(ServeFault::Send), "send failed"),

@@ -1,6 +1,10 @@
 use Rattle.std.proofs.Common.{◌≡◌, ◌∙◌, Err, ap, arith, inl, refl, subst, sym}
 use Rattle.std.proofs.lemmas.Result.{err_from_is_err_and}
+use Rattle.rad_server.specs.Lawful.{IsLawful}
+use Rattle.rad_server.specs.Servers.{Server}
+use Rattle.rad_config.specs.Ranges.{IsConfiguration}
 use Rattle.rad_serve.proofs.CallLemmas.{AreKeptCalls, none_called, one_more_call, one_more_ok}
+use Rattle.rad_serve.proofs.LifeLemmas.{stays_one_run}
 use Rattle.rad_shell.specs.Serving.{ended, port_faults}
 use Rattle.rad_serve.proofs.serving.make_calls.Goals as goal
 
@@ -75,3 +79,42 @@ returns-clause-called g c =
         left = λ left l. inl (g.met.J.Journal.settled c.loop.journal (i.opened clean opened) left l ∙ i.kept (clean, opened));
       },
     )
+
+pub returns-in_err-made-clause-lives : goal.returns-in_err-made-clause-lives
+returns-in_err-made-clause-lives g c = λ clean opened keeps.
+    let all = returns-in_err-made-clause-called g c in
+    stays_one_run (record {
+      fresh = c.fresh_are_enough.ensures;
+      runs = c.runs_are_lawful.ensures;
+      passing = c.lawful_steps.ensures.passing;
+      time = c.time_passes_unseen.ensures.alike;
+      replied = c.kept_are_restored.ensures;
+    }) g.J.Journal.keeps _ _ _ _ _ _ (subst (λ
+    (s : Server). IsConfiguration s.configuration) c.server.ensures c.state_is_lawful.ensures.configuration)
+    (subst (λ (s : Server). IsLawful s.configuration s.state) c.server.ensures c.state_is_lawful.ensures.state) all.0 (all.1 clean opened) keeps
+
+pub returns-then-is_some-clause-lives : goal.returns-then-is_some-clause-lives
+returns-then-is_some-clause-lives g c = λ clean opened keeps.
+    let all = returns-then-is_some-clause-called g c in
+    stays_one_run (record {
+      fresh = c.fresh_are_enough.ensures;
+      runs = c.runs_are_lawful.ensures;
+      passing = c.lawful_steps.ensures.passing;
+      time = c.time_passes_unseen.ensures.alike;
+      replied = c.kept_are_restored.ensures;
+    }) g.J.Journal.keeps _ _ _ _ _ _ (subst (λ
+    (s : Server). IsConfiguration s.configuration) c.server.ensures c.state_is_lawful.ensures.configuration)
+    (subst (λ (s : Server). IsLawful s.configuration s.state) c.server.ensures c.state_is_lawful.ensures.state) all.0 (all.1 clean opened) keeps
+
+pub returns-clause-lives : goal.returns-clause-lives
+returns-clause-lives g c = λ clean opened keeps.
+    let all = returns-clause-called g c in
+    stays_one_run (record {
+      fresh = c.fresh_are_enough.ensures;
+      runs = c.runs_are_lawful.ensures;
+      passing = c.lawful_steps.ensures.passing;
+      time = c.time_passes_unseen.ensures.alike;
+      replied = c.kept_are_restored.ensures;
+    }) g.J.Journal.keeps _ _ _ _ _ _ (subst (λ
+    (s : Server). IsConfiguration s.configuration) c.server.ensures c.state_is_lawful.ensures.configuration)
+    (subst (λ (s : Server). IsLawful s.configuration s.state) c.server.ensures c.state_is_lawful.ensures.state) all.0 (all.1 clean opened) keeps

@@ -1,0 +1,69 @@
+//! What the options of `serve` name, read.
+
+use crate::input::{open_seed, open_text};
+use crate::options::Options;
+use crate::serve_error::ServeError;
+use rad_check::{warn, warn_of_file};
+use rad_config::{Config, read_configuration};
+use rad_server::HashKey;
+use rand_chacha::ChaCha20Rng;
+use rand_core::{Rng, SeedableRng};
+use std::alloc::AllocGlobal;
+use std::rt::Files;
+
+/// What the options of `serve` name, read: the configuration and the seed; and what may be wrong with them.
+#[derive(Drop)]
+pub struct Given {
+    pub(crate) text: Vec<u8>,
+    pub(crate) config: Config,
+    pub(crate) seed: [u8; 32],
+    // Lines that nobody has been told yet.
+    pub(crate) warnings: String,
+}
+
+impl Given {
+    /// Reads the configuration and the seed.
+    ///
+    /// `ConfigUnreadable`, `Config`, `SeedUnreadable`, in this order: one of them can't be read, or has a fault.
+    pub fn read<R: Files + Eprint + AllocGlobal>(
+        rt: &R,
+        options: &Options,
+    ) -> Result<Given, ServeError> {
+        let text = open_text(rt, &options.config)?;
+        let config = read_configuration(rt.alloc(), &text)?;
+        let mut warnings = String::new(rt.alloc());
+        if options.reports.log.is_some() {
+            warn(&mut warnings, rt, &options.config, &text, &config);
+            warn_of_file(&mut warnings, rt, &options.seed);
+            if let Some(folder) = &options.state {
+                warn_of_file(&mut warnings, rt, folder);
+            }
+        }
+        match open_seed(rt, &options.seed) {
+            Ok(seed) => Ok(Given {
+                text,
+                config,
+                seed,
+                warnings,
+            }),
+            Err(error) => {
+                let _ = eprint!(rt; "{warnings}");
+                Err(error)
+            }
+        }
+    }
+}
+
+/// The random source of a life, and the key of the tables' hashes: its first 16 octets.
+///
+/// `kept` is how many entries were kept before. Each number has a stream of its own, so that no life draws what one before it has drawn
+/// for a reply: that was kept.
+pub(crate) fn random_of(seed: [u8; 32], kept: u32) -> (ChaCha20Rng, HashKey) {
+    let mut random = ChaCha20Rng::from_seed(seed);
+    random.set_stream(u64::from(kept));
+    let key = HashKey {
+        low: random.next_u64(),
+        high: random.next_u64(),
+    };
+    (random, key)
+}

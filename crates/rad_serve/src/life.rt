@@ -1,0 +1,134 @@
+//! What serves: in memory, or over a state.
+ghost use Rattle.std.specs.Prelude.{◌≡◌, ◌≤◌, IfOk, IsSome, IsTrue};
+ghost use Rattle.sqlite_trees.specs.View.{IsClean};
+ghost use Rattle.rad_config.specs.Spans.{moment_max};
+ghost use Rattle.rad_journal.specs.Restores.{IsRestored};
+ghost use Rattle.rad_journal.specs.Stores.{kept_in};
+ghost use Rattle.rad_serve.specs.Lives.{opened};
+ghost use Rattle.rad_state.specs.Stores.{IsOpened};
+
+use crate::given::{Given, random_of};
+use crate::moments::{Moments, clocks};
+use crate::serve_error::ServeError;
+use rad_check::push_warning;
+use rad_config::Config;
+use rad_journal::{ENTRIES_MAX, NoJournal, StoreJournal, restore};
+use rad_packet::Octets;
+use rad_server::Server;
+use rad_shell::Service;
+use rad_state::{FORMAT, Meta, RULES, State, begin};
+use rand_chacha::ChaCha20Rng;
+use sqlite_trees::store::Store;
+use std::alloc::{AllocGlobal, Global};
+use std::rt::Files;
+use std::time::Clock;
+
+/// From so many entries on there is a warning: nine tenths of those that a journal has room for.
+const MANY_ENTRIES: u32 = ENTRIES_MAX / 10 * 9;
+
+/// A service, the source of its draws, its clock, and what keeps its entries.
+#[derive(Drop)]
+pub(crate) struct Life<'c, J> {
+    pub service: Service<'c>,
+    pub random: ChaCha20Rng,
+    pub moments: Moments,
+    pub journal: J,
+}
+
+/// A life that begins with nothing, and keeps nothing.
+pub(crate) fn in_memory<'c>(
+    alloc: Global,
+    config: &'c Config,
+    seed: [u8; 32],
+) -> Result<Life<'c, NoJournal>, ServeError> {
+    let (random, key) = random_of(seed, 0);
+    Ok(Life {
+        service: Service::open_keyed(alloc, config, key)?,
+        random,
+        moments: Moments::of_system(),
+        journal: NoJournal,
+    })
+}
+
+/// The life that goes on from the state in a store that was just opened.
+pub(crate) fn over<'c, R: Files + Clock + AllocGlobal, S: Store + Drop>(
+    rt: &R,
+    store: S,
+    text: &[u8],
+    config: &'c Config,
+    seed: [u8; 32],
+    warnings: &mut String,
+) -> Result<Life<'c, StoreJournal<S>>, ServeError>
+    requires { IsClean (S.view store) → IsOpened (S.view store) }
+    ensures restored { IfOk result (λ life. IsClean (S.view life.journal.store)
+        → IsRestored (opened config.now) (kept_in (S.view store)) life.service) }
+    ensures kept { IfOk result (λ life. IsClean (S.view life.journal.store)
+        → kept_in (S.view life.journal.store) ≡ kept_in (S.view store)) }
+    ensures open { IfOk result (λ life. IsClean (S.view life.journal.store)
+        → IsTrue (S.view life.journal.store).is_open × IsSome life.journal.count) }
+{
+    let state = State::open(rt.alloc(), store, text)?;
+    let (meta, moment) = next_meta(rt, &state, text)?;
+    let moments = Moments::from(rt, moment);
+    let journal = state.into_journal(rt.alloc())?;
+    let kept = journal.count().unwrap_or(0);
+    if kept >= MANY_ENTRIES {
+        push_warning(
+            warnings,
+            format_args!("the journal has {kept} entries, and room for {ENTRIES_MAX}"),
+        );
+    }
+    let (random, key) = random_of(seed, kept);
+    let server = Server::open_keyed(rt.alloc(), config, key)?;
+    let (server, journal) = go_on(rt.alloc(), journal, server, &meta)?;
+    Ok(Life {
+        service: Service::of(rt.alloc(), server),
+        random,
+        moments,
+        journal,
+    })
+}
+
+// The meta of a life that begins now, and its first moment.
+fn next_meta<R: Files + Clock + AllocGlobal, S: Store + Drop>(
+    rt: &R,
+    state: &State<S>,
+    text: &[u8],
+) -> Result<(Meta, u64), ServeError>
+    ensures { IfOk result (λ next. next.1 ≤ moment_max) }
+{
+    let clocks = clocks(rt).ok_or(ServeError::Clocks)?;
+    let meta = Meta {
+        format: FORMAT,
+        rules: RULES,
+        configuration: Octets::of(rt.alloc(), text)?,
+        boot: clocks.boot,
+        zero: state.next_zero(&clocks),
+    };
+    Ok((meta, state.next_moment(&clocks)))
+}
+
+// The server that a journal's entries lead to, and the journal with a new meta.
+fn go_on<'c, S: Store + Drop>(
+    alloc: Global,
+    journal: StoreJournal<S>,
+    server: Server<'c>,
+    meta: &Meta,
+) -> Result<(Server<'c>, StoreJournal<S>), ServeError>
+    requires { IsClean (S.view journal.store)
+        → IsTrue (S.view journal.store).is_open × IsSome journal.count }
+    ensures restored { IfOk result (λ life. IsClean (S.view life.1.store)
+        → IsRestored server.entry (kept_in (S.view journal.store)) life.0) }
+    ensures kept { IfOk result (λ life. IsClean (S.view life.1.store)
+        → kept_in (S.view life.1.store) ≡ kept_in (S.view journal.store)) }
+    ensures open { IfOk result (λ life. IsClean (S.view life.1.store)
+        → IsTrue (S.view life.1.store).is_open × IsSome life.1.count) }
+    ensures clean { IfOk result (λ life. IsClean (S.view life.1.store)
+        → IsClean (S.view journal.store)) }
+{
+    let mut journal = journal;
+    let mut server = server;
+    restore(alloc, &mut journal, &mut server)?;
+    let journal = begin(alloc, journal, meta)?;
+    Ok((server, journal))
+}
