@@ -1,4 +1,4 @@
-.PHONY: commands deb demo install install-trial refused-memory test try udp uninstall
+.PHONY: commands deb demo install install-trial refused-memory state test try udp uninstall
 
 PREFIX ?= /usr/local
 PROGRAM = crates/radpool/out/radpool
@@ -32,10 +32,15 @@ refused-memory: demo
 udp: demo
 	trials/udp/run
 
+# Kills radpool with a state again and again beside gateways that go on, and judges what outlives it, what is refused and a full disk. It
+# needs Python 3, and root for file systems of its own, without which these are left out.
+state: demo
+	trials/state/run
+
 # Proves everything from nothing, tries the must-fail edits, and runs the tests and the programs. The run of radpool is the
 # example, and the list in docs/CLAUSES.md is the one that docs/definitions makes. Then the executables are tried: radpool with many
-# command lines and over UDP, trial_refused_memory and commands of radpool with each of their allocations refused in turn, and an
-# installation.
+# command lines, over UDP and killed with a state, trial_refused_memory and commands of radpool with each of their allocations refused
+# in turn, and an installation.
 test:
 	@cmp examples/requests.txt crates/radpool/stdin
 	@cmp examples/requests.expected crates/radpool/stdout
@@ -44,6 +49,7 @@ test:
 	@trials/command/run > /dev/null
 	@trials/refused_memory/run > /dev/null
 	@trials/udp/run
+	@trials/state/run
 	@trials/install/run > /dev/null
 
 # Installs the executable of `make demo`, its man pages, a unit for systemd, room for receive buffers, the example configuration and

@@ -65,11 +65,12 @@ def status_server(identifier):
     return begin + hmac.new(SECRET, begin + bytes(16), hashlib.md5).digest()
 
 
-def accounting_request(identifier, status=1, class_value=b""):
-    """A signed Start (RFC 2866), or a report with another status, perhaps with a Class."""
+def accounting_request(identifier, status=1, class_value=b"", rest=b""):
+    """A signed Start (RFC 2866), or a report with another status, perhaps with a Class or further attributes."""
     attributes = b"\x28\x06" + struct.pack(">I", status)
     if class_value:
         attributes += bytes([25, 2 + len(class_value)]) + class_value
+    attributes += rest
     begin = struct.pack(">BBH", 4, identifier, 20 + len(attributes))
     return begin + hashlib.md5(begin + bytes(16) + attributes + SECRET).digest() + attributes
 
@@ -122,9 +123,10 @@ class Server:
         judge(self.auth > 0 and self.acct > 0, "the first line has the ports that the system gave")
         self.replies = []
 
-    def ask(self, port, request, seconds=5):
+    def ask(self, port, request, seconds=5, source=("127.0.0.1", 0)):
         """The reply to a request, if it comes from the port that was asked."""
         with socket.socket(socket.AF_INET, socket.SOCK_DGRAM) as client:
+            client.bind(source)
             client.settimeout(seconds)
             client.sendto(request, ("127.0.0.1", port))
             try:

@@ -30,8 +30,18 @@ const REPLAY_EXAMPLE: &str = "\
 A transcript is a configuration, the line '---', and one line per datagram:
 MOMENT DOOR ADDRESS:PORT OCTETS
 
-Example:
-  radpool replay < examples/requests.txt";
+Examples:
+  radpool replay < examples/requests.txt
+  radpool replay --state /var/lib/radpool/state.db > state.txt";
+
+/// The options of `replay`.
+const REPLAY_OPTIONS: &[Valued] = &[Valued {
+    name: "state",
+    value: "FILE",
+    help: "Prints the entries of this state, which no server may have open, as a transcript in place of answering one",
+    absent: Absent::Nothing,
+    parser: TEXT,
+}];
 
 const MAKE_EXAMPLES: &str = "\
 Examples:
@@ -109,6 +119,7 @@ const MAKE_OPTIONS: &[Valued] = &[
 #[derive(Clone, Copy)]
 enum Task<'a> {
     Replay,
+    Transcript(&'a str),
     Make(Make<'a>),
     Check(&'a str),
     Serve(Serve<'a>),
@@ -123,6 +134,8 @@ pub enum Next {
     Check(String),
     /// To serve.
     Serve(Options),
+    /// To write the entries of the state in this file as a transcript.
+    Transcript(String),
 }
 
 /// Does what the words after the program's name ask for, except what takes files, which is left to the caller.
@@ -142,6 +155,7 @@ fn do_task<R: Input + Print + AllocGlobal>(rt: &R, task: Task) -> Result<Next, F
     match task {
         Task::Replay => run_replay(rt.alloc(), &mut rt.reader(), &mut io::writer(rt))?,
         Task::Make(make) => print_request(rt, make)?,
+        Task::Transcript(path) => return Ok(Next::Transcript(path.to_string(rt.alloc())?)),
         Task::Check(path) => return Ok(Next::Check(path.to_string(rt.alloc())?)),
         Task::Serve(serve) => return Ok(Next::Serve(serve.options(rt.alloc())?)),
     }
@@ -210,7 +224,10 @@ fn matches_of<'a, S: AsStr>(alloc: Global, words: &'a [S]) -> Result<ArgMatches<
 
 fn task_in<'a>(matches: &ArgMatches<'a>) -> Option<Task<'a>> {
     match matches.subcommand()? {
-        ("replay", _) => Some(Task::Replay),
+        ("replay", found) => Some(match found.get_str("state") {
+            Some(path) => Task::Transcript(path),
+            None => Task::Replay,
+        }),
         ("make", found) => Some(Task::Make(make_in(found)?)),
         ("check", found) => Some(Task::Check(path_in(found)?)),
         ("serve", found) => Some(Task::Serve(Serve::given(found)?)),
@@ -242,18 +259,19 @@ fn program<'a>(alloc: Global) -> Result<Command<'a>, AllocError> {
         .subcommand_required(true)
         .arg_required_else_help(true)
         .disable_help_subcommand(true)
-        .subcommand(replay_command(alloc))?
+        .subcommand(replay_command(alloc)?)?
         .subcommand(make_command(alloc)?)?
         .subcommand(check_command(alloc)?)?
         .subcommand(serve_command(alloc)?)
 }
 
-fn replay_command<'a>(alloc: Global) -> Command<'a> {
-    Command::new(alloc, "replay")
+fn replay_command<'a>(alloc: Global) -> Result<Command<'a>, AllocError> {
+    let command = Command::new(alloc, "replay")
         .about(
             "Answers the datagrams of a transcript on standard input, and prints one line for each",
         )
-        .after_help(REPLAY_EXAMPLE)
+        .after_help(REPLAY_EXAMPLE);
+    with_options(alloc, command, REPLAY_OPTIONS)
 }
 
 fn make_command<'a>(alloc: Global) -> Result<Command<'a>, AllocError> {

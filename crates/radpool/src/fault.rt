@@ -6,8 +6,12 @@ use rad_check::Detail;
 use rad_config::ConfigFault;
 use rad_replay::RunFault;
 use rad_serve::ServeError;
+use rad_shell::ServeFault;
+use rad_state::OpenFault;
+use sqlite_std_file::OpenError;
 use std::alloc::AllocError;
 use std::process::ExitCode;
+use std::{fmt, io};
 
 /// The status after a fault of the input, of a read or a write, or of memory.
 const RUN_FAULT: u8 = 1;
@@ -24,8 +28,88 @@ pub enum Fault {
     Run(RunFault),
     /// Serving came to its fault.
     Serve(ServeError),
+    /// Serving came to its fault at this file of a state.
+    State(String, StateFault),
     /// The configuration to check has a fault.
     Config(ConfigFault, Detail),
+}
+
+/// Why a state isn't served from, or no longer.
+#[derive(Clone, Copy, Debug)]
+pub enum StateFault {
+    /// Its files can't be opened.
+    Files(OpenError),
+    /// Serving came to its fault, or what was kept isn't answered as it was.
+    Serve(ServeError),
+    /// A transcript of it couldn't be read.
+    Divided,
+    /// A transcript of it can't be written.
+    Write,
+}
+
+impl StateFault {
+    /// The fault, which names the state's file where it is about that.
+    pub fn at(self, path: String) -> Fault {
+        match self {
+            StateFault::Files(OpenError::OutOfMemory) => Fault::Run(RunFault::NoMemory),
+            StateFault::Write => Fault::Run(RunFault::Write),
+            StateFault::Files(OpenError::Busy) => {
+                let fault = ServeError::State(OpenFault::InUse);
+                Fault::State(path, StateFault::Serve(fault))
+            }
+            StateFault::Serve(
+                ServeError::State(_)
+                | ServeError::Restore(_)
+                | ServeError::Rounds(ServeFault::Journal(_)),
+            )
+            | StateFault::Files(_)
+            | StateFault::Divided => Fault::State(path, self),
+            StateFault::Serve(error) => Fault::Serve(error),
+        }
+    }
+}
+
+impl fmt::Display for StateFault {
+    fn fmt<W: fmt::Write>(&self, f: &mut fmt::Formatter<W>) -> fmt::Result {
+        match self {
+            StateFault::Files(error) => write!(f, "{error}"),
+            StateFault::Serve(error) => write!(f, "{error}"),
+            StateFault::Divided => {
+                f.write_str("its configuration has a line ---, so it has no transcript")
+            }
+            StateFault::Write => f.write_str("write failed"),
+        }
+    }
+}
+
+impl From<OpenError> for StateFault {
+    fn from(error: OpenError) -> StateFault {
+        StateFault::Files(error)
+    }
+}
+
+impl From<io::Error> for StateFault {
+    fn from(error: io::Error) -> StateFault {
+        StateFault::Files(OpenError::Io(error))
+    }
+}
+
+impl From<ServeError> for StateFault {
+    fn from(error: ServeError) -> StateFault {
+        StateFault::Serve(error)
+    }
+}
+
+impl From<OpenFault> for StateFault {
+    fn from(fault: OpenFault) -> StateFault {
+        StateFault::Serve(ServeError::State(fault))
+    }
+}
+
+impl From<ServeError> for Fault {
+    fn from(error: ServeError) -> Fault {
+        Fault::Serve(error)
+    }
 }
 
 impl From<clap::Error> for Fault {
@@ -63,6 +147,10 @@ pub fn report<R: Eprint>(rt: &R, fault: Fault) -> ExitCode {
         }
         Fault::Serve(fault) => {
             let _ = eprintln!(rt; "radpool: {fault}");
+            ExitCode::from(RUN_FAULT)
+        }
+        Fault::State(path, fault) => {
+            let _ = eprintln!(rt; "radpool: {path}: {fault}");
             ExitCode::from(RUN_FAULT)
         }
         Fault::Config(fault, detail) => {

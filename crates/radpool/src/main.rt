@@ -7,6 +7,8 @@ mod command;
 mod fault;
 mod options;
 mod serve_command;
+mod state_files;
+mod transcript_command;
 
 use command::Next;
 use std::convert::AsStr;
@@ -16,6 +18,7 @@ fn main(rt: HostRuntime) -> ExitCode {
     match command::run(&rt) {
         Next::End(status) => status,
         Next::Check(path) => check_command::run_check(&rt, path.as_str()),
-        Next::Serve(options) => serve_command::run_server(&rt, &options),
+        Next::Transcript(path) => transcript_command::run_transcript(&rt, &rt, path),
+        Next::Serve(options) => serve_command::run_server(&rt, &rt, &options),
     }
 }

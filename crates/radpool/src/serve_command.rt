@@ -1,13 +1,16 @@
 //! The command `serve`: its options, and its run.
 
-use crate::fault::{Fault, error_of, report};
+use crate::fault::{Fault, StateFault, error_of, report};
 use crate::options::{Absent, PORT, TEXT, Valued, with_options};
+use crate::state_files::open_files;
 use clap::builder::ValueParser;
 use clap::error::ErrorKind;
 use clap::{ArgMatches, Command};
-use rad_serve::{Level, Options, Reports, Workers};
+use rad_serve::{Given, Level, Options, Reports, Workers, serve, serve_with_state};
 use rad_text::decimal;
+use sqlite_disk::Unknown;
 use std::alloc::{AllocError, AllocGlobal, Global};
+use std::hash::{BuildHasher, RandomState};
 use std::net::{Ipv4Addr, Net};
 use std::process::ExitCode;
 use std::rt::Files;
@@ -27,6 +30,9 @@ const BAD_ADDRESS: &str =
 
 const BAD_WORKERS: &str = "invalid value for '--workers <N>': expected 1 to 8";
 
+/// The file in the folder of a state.
+const STATE_FILE: &str = "state.db";
+
 /// The options of `serve`: the files, where to listen, and how turns are made.
 const SERVE_OPTIONS: &[Valued] = &[
     Valued {
@@ -41,6 +47,13 @@ const SERVE_OPTIONS: &[Valued] = &[
         value: "PATH",
         help: "A file of exactly 32 random octets, the seed for all that must not be guessed",
         absent: Absent::Fault,
+        parser: TEXT,
+    },
+    Valued {
+        name: "state",
+        value: "DIR",
+        help: "Keeps sessions, replies and challenges over restarts, in this folder of its own [default: nothing is kept]",
+        absent: Absent::Nothing,
         parser: TEXT,
     },
     Valued {
@@ -124,6 +137,7 @@ fn level_named(name: &str) -> Option<Level> {
 pub struct Serve<'a> {
     config: &'a str,
     seed: &'a str,
+    state: Option<&'a str>,
     bind: &'a str,
     auth: u16,
     acct: u16,
@@ -141,6 +155,7 @@ impl<'a> Serve<'a> {
         Some(Serve {
             config: found.get_str("config")?,
             seed: found.get_str("seed")?,
+            state: found.get_str("state"),
             bind: found.get_str("bind")?,
             auth: found.get_one::<u16>("auth")?,
             acct: found.get_one::<u16>("acct")?,
@@ -165,6 +180,7 @@ impl<'a> Serve<'a> {
         Ok(Options {
             config: self.config.to_string(alloc)?,
             seed: self.seed.to_string(alloc)?,
+            state: text_of(alloc, self.state)?,
             address,
             auth: self.auth,
             acct: self.acct,
@@ -201,15 +217,45 @@ fn text_of(alloc: Global, text: Option<&str>) -> Result<Option<String>, AllocErr
     }
 }
 
-/// Serves, and returns the exit status.
+/// Serves, and returns the exit status. Only the host opens the files of a state.
 pub fn run_server<R: Files + Net + Clock + Print + Eprint + Threads + Wait + Sync + AllocGlobal>(
     rt: &R,
+    host: &HostRuntime,
     options: &Options,
 ) -> ExitCode {
-    match rad_serve::serve(rt, options) {
+    match try_serve(rt, host, options) {
         Ok(()) => ExitCode::SUCCESS,
-        Err(error) => report(rt, Fault::Serve(error)),
+        Err(fault) => report(rt, fault),
     }
+}
+
+fn try_serve<R: Files + Net + Clock + Print + Eprint + Threads + Wait + Sync + AllocGlobal>(
+    rt: &R,
+    host: &HostRuntime,
+    options: &Options,
+) -> Result<(), Fault> {
+    let given = Given::read(rt, options)?;
+    match &options.state {
+        None => Ok(serve(rt, options, given)?),
+        Some(folder) => {
+            let path = format!(in rt.alloc(); "{folder}/{STATE_FILE}")?;
+            serve_file(rt, host, options, given, &path).map_err(|fault| fault.at(path))
+        }
+    }
+}
+
+// Serves with the state in a file and its log.
+fn serve_file<R: Files + Net + Clock + Print + Eprint + Threads + Wait + Sync + AllocGlobal>(
+    rt: &R,
+    host: &HostRuntime,
+    options: &Options,
+    given: Given,
+    path: &str,
+) -> Result<(), StateFault> {
+    let files = open_files(host, path, Unknown)?;
+    let salt = RandomState::new(host)?.hash_one(&0u8);
+    serve_with_state(rt, options, given, files, salt)?;
+    Ok(())
 }
 
 // An option that doesn't fit, reported as clap reports those that it finds.
