@@ -7,16 +7,10 @@ use Rattle.rad_server.specs.Runs.{FreshAreEnough, IsLikeFromNow, LeadsAlike, Lik
 use Rattle.rad_server.specs.States.{State}
 use Rattle.rad_server.specs.declared.answer.Answer.TheVariants.{Send}
 use Rattle.rad_server.specs.declared.entry.Entry.{Entry}
+use Rattle.rad_server.proofs.RunLemmas.{run_append}
 use Rattle.rad_journal.specs.Leads.{FreshAreKept, KeptLastOverTime, KeptLeadOn}
 use Rattle.rad_journal.specs.Restores.{AreKept, RepliedAreKept}
 use Rattle.rad_journal.specs.declared.kept.Kept.{Kept}
-
--- a run, and one after it
-run_append : (configuration : Configuration) (before : State) (first rest : List Entry) (middle after : State)
-    → Run configuration before first middle → Run configuration middle rest after → Run configuration before (first ++ rest) after
-run_append configuration before [] rest middle after is run = subst (λ state. Run configuration state rest after) (sym is) run
-run_append configuration before (entry ∷ more) rest middle after run next =
-    (run.0, run.1, run_append configuration run.0 more rest middle after run.2 next)
 
 kept_append : (first : List Entry) (kept : List Kept) (rest : List Entry) (others : List Kept) → AreKept first kept → AreKept rest others
     → AreKept (first ++ rest) (kept ++ others)

@@ -149,7 +149,7 @@ fresh_is_answered configuration current request draw fresh =
 -- ---- histories
 
 -- the moment of an entry, or the one at which it counted: the state is the same
-at_counted : (moment : ℕ) (state : State) → at_moment (max state.clock moment) state ≡ at_moment moment state
+pub at_counted : (moment : ℕ) (state : State) → at_moment (max state.clock moment) state ≡ at_moment moment state
 at_counted moment state =
     let same : max state.clock (max state.clock moment) ≡ max state.clock moment = omega arith in
     ap (λ clock. without_expired (record state { clock = clock })) same

@@ -1,12 +1,12 @@
 mod AddressLemmas
 mod DecisionLemmas
-mod FreshLemmas
+pub mod FreshLemmas
 mod LawfulLemmas
 mod OccurrenceLemmas
 mod PassingLemmas
 mod PlanLemmas
-mod RepeatLemmas
+pub mod RepeatLemmas
 mod ReplyLemmas
 mod ReportLemmas
-mod RunLemmas
+pub mod RunLemmas
 mod ShareLemmas

@@ -50,7 +50,7 @@ leads_in_time before middle after passed passed_after kept law first is = law be
 
 -- ---- turns
 
-all_added : (keeps : Bool) (kept : List Kept) → IsTrue keeps → added keeps kept ≡ kept
+pub all_added : (keeps : Bool) (kept : List Kept) → IsTrue keeps → added keeps kept ≡ kept
 all_added true kept is = refl
 all_added false kept is = absurd cc
 
