@@ -24,13 +24,13 @@ pub enum JournalFault {
     #[error("the disk failed")]
     Disk,
     /// What was read is not what was written, or is no entry.
-    #[error("the journal is damaged")]
+    #[error("it is damaged")]
     Damaged,
     /// The disk or the database has no room.
-    #[error("no room is left for the journal")]
+    #[error("no room is left")]
     NoRoom,
     /// There would be more than `ENTRIES_MAX` entries, or a time is 2 ^ 63 or more.
-    #[error("the journal is full")]
+    #[error("it is full")]
     Full,
 }
 

@@ -1,5 +1,6 @@
 -- The moment at which a server goes on. Moments, wall times and readings of the boot clock are in milliseconds.
-use Rattle.std.specs.Prelude.{◌≡◌, ◌≢◌, ℕ, ◌+◌, ◌-◌, ◌^◌, ℤ, pos, ◌-ℤ◌, max, min, List, [], ◌∷◌, reverse, Option, None, Some}
+use Rattle.std.specs.Prelude.{◌≡◌, ◌≢◌, ℕ, ◌+◌, ◌-◌, ℤ, pos, ◌-ℤ◌, max, min, List, [], ◌∷◌, reverse, Option, None, Some}
+use Rattle.rad_config.specs.Spans.{moment_max}
 use Rattle.rad_journal.specs.Rows.{magnitude}
 use Rattle.rad_journal.specs.declared.kept.Kept.{Kept}
 use Rattle.rad_state.specs.declared.meta.Meta.{Meta}
@@ -27,10 +28,6 @@ in_boot zero running = magnitude (pos running -ℤ zero)
 abbrev pub by_wall : Option Last → ℕ → ℕ
 by_wall None wall = 0
 by_wall (Some last) wall = last.moment + (wall - last.wall)
-
--- no moment is later
-abbrev pub moment_max : ℕ
-moment_max = 2 ^ 62
 
 -- This is the moment now. In the same boot it goes by the boot clock, and is no earlier than the last entry's. After another boot it goes
 -- by the wall clock.

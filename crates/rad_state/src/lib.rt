@@ -18,7 +18,7 @@ mod state;
 pub use beginning::begin;
 pub use meta::{FORMAT, Meta, RULES};
 pub use meta_table::{read_meta, write_meta};
-pub use moments::{Clocks, Last, next_moment, next_zero, read_last};
+pub use moments::{Clocks, Last, next_moment, read_last};
 pub use open_fault::OpenFault;
 pub use opening::open_files;
 pub use state::State;

@@ -1,5 +1,5 @@
 //! The moment at which a server goes on.
-ghost use Rattle.std.specs.Prelude.{◌≡◌, ◌≤◌, ◌+ℤ◌, ◌-ℤ◌, ℕ, pos, min, IfOk, OnOk};
+ghost use Rattle.std.specs.Prelude.{◌≡◌, ◌≤◌, pos, min, IfOk, OnOk};
 ghost use Rattle.sqlite_value.specs.Order.{column};
 ghost use Rattle.sqlite_value.specs.declared.value.Value.TheVariants.{Int};
 ghost use Rattle.sqlite_trees.specs.Tree.{Trees};
@@ -62,19 +62,6 @@ pub fn next_moment(meta: &Meta, last: Option<Last>, now: &Clocks) -> u64
         by_wall(last, now.wall)
     };
     moment.min(MOMENT_MAX)
-}
-
-/// What the boot clock shows at moment 0, in milliseconds, where the moment now is that of `next_moment`.
-pub fn next_zero(meta: &Meta, last: Option<Last>, now: &Clocks) -> i64
-    requires last { moment_of last ≤ MOMENT_MAX }
-    requires running { now.now.running ≤ MOMENT_MAX }
-    ensures zero { (moment : ℕ) × IsMoment meta.now last now.now moment
-        × (result ≡ pos now.now.running -ℤ pos moment) }
-    ensures same { meta.now.boot ≡ now.now.boot → (moment : ℕ)
-        → pos now.now.running ≡ meta.now.zero +ℤ pos moment
-        → moment_of last ≤ moment → moment ≤ MOMENT_MAX → result ≡ meta.now.zero }
-{
-    now.running as i64 - next_moment(meta, last, now) as i64
 }
 
 // The moment of the last entry, or 0.

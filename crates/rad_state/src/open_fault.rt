@@ -34,10 +34,10 @@ pub enum OpenFault {
     #[error("the disk failed")]
     Disk,
     /// The disk or the database has no room, or the configuration is too long for a row.
-    #[error("no room is left for the state")]
+    #[error("no room is left")]
     NoRoom,
     /// There are more entries than a journal has room for.
-    #[error("the journal is full")]
+    #[error("it is full")]
     JournalFull,
 }
 

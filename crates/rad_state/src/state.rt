@@ -9,7 +9,7 @@ ghost use Rattle.rad_state.specs.Stores.{IsOpened};
 
 use crate::meta::Meta;
 use crate::meta_table::read_meta;
-use crate::moments::{Clocks, Last, next_moment, next_zero, read_last};
+use crate::moments::{Clocks, Last, next_moment, read_last};
 use crate::open_fault::OpenFault;
 use rad_config::MOMENT_MAX;
 use rad_journal::StoreJournal;
@@ -43,6 +43,8 @@ impl<S: Store + Drop> State<S> {
         ensures fits { IfOk result (λ state.
             IfSome state.found (λ meta. Fits meta configuration.now)) }
         ensures begun { IfOk result (λ state. state.found ≡ None → state.last ≡ None) }
+        ensures times { IfOk result (λ state. IsClean (S.view state.store)
+            → state.last ≡ last_of (entries_of ((S.view store).committed table))) }
         ensures kept { IfOk result (λ state. IsClean (S.view state.store)
             → (S.view state.store).committed ≡ (S.view store).committed) }
         ensures clean { IfOk result (λ state.
@@ -86,20 +88,6 @@ impl<S: Store + Drop> State<S> {
         match &self.found {
             Some(meta) => next_moment(meta, self.last, now),
             None => 0,
-        }
-    }
-
-    /// What the boot clock shows at moment 0, in milliseconds, for a life that begins now: at moment 0 where the database is new, and else
-    /// at that of `next_moment`.
-    pub fn next_zero(&self, now: &Clocks) -> i64
-        requires { now.now.running ≤ MOMENT_MAX }
-        ensures { MatchOption self.now.found (result ≡ pos now.now.running)
-            (λ meta. (moment : ℕ) × IsMoment meta self.now.last now.now moment
-            × (result ≡ pos now.now.running -ℤ pos moment)) }
-    {
-        match &self.found {
-            Some(meta) => next_zero(meta, self.last, now),
-            None => now.running as i64,
         }
     }
 

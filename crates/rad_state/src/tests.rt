@@ -9,7 +9,7 @@ ghost use Rattle.rad_state.specs.Stores.{IsOpened};
 use crate::beginning::begin;
 use crate::meta::{FORMAT, Meta, RULES};
 use crate::meta_table::{read_meta, write_meta};
-use crate::moments::{Clocks, Last, next_moment, next_zero};
+use crate::moments::{Clocks, Last, next_moment};
 use crate::open_fault::OpenFault;
 use crate::opening::open_files;
 use crate::state::State;
@@ -249,10 +249,6 @@ fn moments_go_on(rt: HostRuntime) -> Result<(), Fail> {
             wall,
         };
         assert_eq!(rt; next_moment(&meta, Some(last), &now), moment);
-        assert_eq!(rt;
-            next_zero(&meta, Some(last), &now),
-            running as i64 - moment as i64
-        );
     }
     Ok(())
 }
@@ -273,8 +269,8 @@ fn faults_have_texts(rt: HostRuntime) -> Result<(), Fail> {
         ),
         (OpenFault::NoMemory, "out of memory"),
         (OpenFault::Disk, "the disk failed"),
-        (OpenFault::NoRoom, "no room is left for the state"),
-        (OpenFault::JournalFull, "the journal is full"),
+        (OpenFault::NoRoom, "no room is left"),
+        (OpenFault::JournalFull, "it is full"),
     ] {
         let text = format!(in rt.alloc(); "{fault}")?;
         assert_eq!(rt; text.as_str(), want);

@@ -7,8 +7,8 @@ fn faults_have_texts(rt: HostRuntime) -> Result<(), Fail> {
     const ROWS: &[(JournalFault, &str)] = &[
         (JournalFault::NoMemory, "out of memory"),
         (JournalFault::Disk, "the disk failed"),
-        (JournalFault::Damaged, "the journal is damaged"),
-        (JournalFault::Full, "the journal is full"),
+        (JournalFault::Damaged, "it is damaged"),
+        (JournalFault::Full, "it is full"),
     ];
     for (fault, want) in ROWS.iter() {
         let text = format!(in rt.alloc(); "{fault}")?;

@@ -27,7 +27,7 @@ fn serve_faults_are_printed(rt: HostRuntime) {
         (ServeFault::Mismatch, "mismatch"),
         (
             ServeFault::Journal(JournalFault::Full),
-            "the journal is full",
+            "it is full",
         ),
     ];
     for row in ROWS.iter() {
