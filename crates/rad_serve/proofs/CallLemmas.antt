@@ -13,18 +13,11 @@ use Rattle.rad_shell.specs.Serving.{IsServed, LeadsByKept, Outlives, Situation, 
 use Rattle.rad_shell.specs.declared.serve_fault.ServeFault.{ServeFault}
 use Rattle.rad_shell.specs.declared.serve_fault.ServeFault.TheVariants as faults
 use Rattle.rad_shell.specs.declared.served.Served.{Served}
+use Rattle.rad_shell.proofs.KeepingLemmas.{leads_nowhere}
 use Rattle.rad_serve.specs.Calls.{MadeCalls, next_call, no_call}
 
 none_led : (server : Server) → LeadsTo server [] server
 none_led server = record { state = server.state; passed = None; configuration = refl; run = refl; within = tt; now = refl }
-
-none_kept : (server : Server) → LeadKept server [] server
-none_kept server = record {
-  entries = [];
-  are_kept = tt;
-  configuration = refl;
-  alike = λ other like. record { state = other; run = refl; like = like; replied = All-nil (λ (e : Entry). (body : Body) × (e.answer ≡ Send body)) };
-}
 
 -- what calls so far kept, and what one more did
 both_kept : (before middle after : Server) (tally more : Tally) (passed : Option ℕ) → KeptLeadOn → LeadsByKept before tally middle → tally.unkept ≡ []
@@ -84,7 +77,7 @@ none_called keeps situation clean kept = (
     tally = nothing_done;
     called = no_call;
     run = none_led situation.server;
-    enough = λ _. record { middle = situation.server; kept = none_kept situation.server; unkept = none_kept situation.server };
+    enough = λ _. record { middle = situation.server; kept = leads_nowhere situation.server; unkept = leads_nowhere situation.server };
     settled = refl;
   },
   λ _. sym (append-nil kept),

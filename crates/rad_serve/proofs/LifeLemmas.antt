@@ -1,5 +1,5 @@
 -- A life, from the server that was restored to what a crash leaves of it, goes on with the one run.
-use Rattle.std.proofs.Common.{◌≡◌, ◌⊎◌, ◌≤◌, ℕ, Bool, true, false, List, [], ◌∷◌, ◌++◌, map, All, Option, Some, None, IfSome, OnOk, Result, Ok, Err, IsTrue, is_err, refl, sym, ap, subst, ◌∙◌, ⊎_elim}
+use Rattle.std.proofs.Common.{◌≡◌, ◌⊎◌, ◌≤◌, ℕ, Bool, List, [], ◌∷◌, ◌++◌, map, All, Option, Some, None, IfSome, OnOk, Result, Ok, Err, IsTrue, is_err, refl, sym, ap, subst, ◌∙◌, ⊎_elim}
 use Rattle.std.proofs.lemmas.List.{append-nil, append_assoc}
 use Rattle.std.proofs.lemmas.List.Elements.{All-append, All-nil, All-weaker}
 use Rattle.rad_config.specs.Configurations.{Configuration}
@@ -11,7 +11,6 @@ use Rattle.rad_server.specs.Servers.{Server}
 use Rattle.rad_server.specs.States.{State, opening, when_passed}
 use Rattle.rad_server.specs.declared.entry.Entry.{Entry}
 use Rattle.rad_round.specs.declared.outcome.Outcome.{Outcome}
-use Rattle.rad_journal.specs.Journals.{added}
 use Rattle.rad_journal.specs.Kept.{kept_of}
 use Rattle.rad_journal.specs.Restores.{AreKept, IsRestored, RepliedAreKept}
 use Rattle.rad_journal.specs.declared.kept.Kept.{Kept}
@@ -20,6 +19,7 @@ use Rattle.rad_shell.specs.Passages.{Came, Fault, HavePassed, In, Passage, Went,
 use Rattle.rad_shell.specs.Serving.{AreTurns, IsAnswered, IsBetween, IsMade, IsTurn, Outlives, Situation, Tally, between, came_of, ended, no_turn, nothing_done, one_more, passages, replies, with_turn}
 use Rattle.rad_shell.specs.declared.serve_fault.ServeFault.{ServeFault}
 use Rattle.rad_shell.specs.declared.serve_fault.ServeFault.TheVariants as faults
+use Rattle.rad_shell.proofs.KeepingLemmas.{all_added}
 use Rattle.rad_shell.proofs.PassageLemmas.{both_passed, none_passed}
 use Rattle.rad_serve.specs.Calls.{AreCalls, MadeCalls, next_call, no_call}
 use Rattle.rad_serve.specs.Lives.{AreOneRun, IsOneRun, IsReplyIn, StaysOneRun, marked_of, opened, went_among, went_since}
@@ -84,10 +84,6 @@ restored_stands server kept sent lawful restored run =
     }
 
 -- ---- a round
-
-all_added : (keeps : Bool) (kept : List Kept) → IsTrue keeps → added keeps kept ≡ kept
-all_added true kept is = refl
-all_added false kept is = absurd cc
 
 -- a marked run from where a life stands, of which some replies went
 run_stands : AreLaws → (configuration : Configuration) (kept : List Kept) (sent : List Went) (before : Server) (history : List Entry)

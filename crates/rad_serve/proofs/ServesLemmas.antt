@@ -5,22 +5,19 @@ use Rattle.std.proofs.lemmas.Option.{none-some}
 use Rattle.rad_packet.specs.Bodies.{Body}
 use Rattle.rad_packet.specs.Codes.{code_status_server}
 use Rattle.rad_auth.specs.Clients.{Client}
-use Rattle.rad_auth.specs.declared.arrival.Door.{Door}
-use Rattle.rad_auth.specs.declared.arrival.Door.TheVariants.{Auth, Acct}
 use Rattle.rad_auth.specs.declared.arrival.Request.{Request}
 use Rattle.rad_config.specs.Configurations.{Configuration}
 use Rattle.rad_config.specs.Ranges.{IsConfiguration}
 use Rattle.rad_recent.specs.declared.kept.Kept.{Kept as Recent}
-use Rattle.rad_server.specs.Access.{Challenged, Decision, Granted, access_with, decided, without_challenge}
-use Rattle.rad_server.specs.Credentials.{Credentials, credentials_in}
 use Rattle.rad_server.specs.Lawful.{IsLawful}
-use Rattle.rad_server.specs.Runs.{FreshAreEnough, IsExchange, IsLikeFromNow, IsMarked, LeadsAlike, MarkedRun, Run, RunsAreLawful, counted, fresh_of}
+use Rattle.rad_server.specs.Runs.{FreshAreEnough, IsLikeFromNow, IsMarked, LeadsAlike, MarkedRun, Run, RunsAreLawful, counted, fresh_of}
 use Rattle.rad_server.specs.Shares.{lacks_room}
-use Rattle.rad_server.specs.States.{State, at_moment, without_expired}
-use Rattle.rad_server.specs.Steps.{answer, answer_with, reply_by_port, reply_kept, sent_and_kept, without_reply}
+use Rattle.rad_server.specs.States.{State, at_moment}
+use Rattle.rad_server.specs.Steps.{answer, answer_with, is_fresh, reply_by_port, reply_kept, sent_and_kept, without_reply}
 use Rattle.rad_server.specs.declared.answer.Answer.{Answer}
-use Rattle.rad_server.specs.declared.denial.Denial.{Denial}
 use Rattle.rad_server.specs.declared.entry.Entry.{Entry}
+use Rattle.rad_server.proofs.FreshLemmas.{at_counted}
+use Rattle.rad_server.proofs.RepeatLemmas.{reply_leaves}
 use Rattle.rad_round.specs.Rounds.{HasEntry}
 use Rattle.rad_journal.specs.Restores.{AreKept}
 use Rattle.rad_journal.specs.declared.kept.Kept.{Kept}
@@ -28,28 +25,6 @@ use Rattle.rad_shell.specs.Passages.{Went}
 use Rattle.rad_serve.specs.Lives.{IsReplyIn, Serves, marked_of}
 
 -- ---- a step leaves the clock at its moment, or where it was
-
-left_clock : (client : ℕ) (value : Option (List ℕ)) (state : State) → (without_challenge client value state).clock ≡ state.clock
-left_clock client None state = refl
-left_clock client (Some value) state = refl
-
-decided_clock : (configuration : Configuration) (state : State) (request : Request) (draw : List ℕ) (decision : Result Decision Denial)
-    → (decided configuration state request draw decision).1.clock ≡ state.clock
-decided_clock configuration state request draw (Err denial) = refl
-decided_clock configuration state request draw (Ok (Challenged user)) = refl
-decided_clock configuration state request draw (Ok (Granted user grant)) = refl
-
-access_clock : (configuration : Configuration) (state : State) (request : Request) (draw : List ℕ) (credentials : Result Credentials Denial)
-    → (access_with configuration state request draw credentials).1.clock ≡ state.clock
-access_clock configuration state request draw (Err denial) = refl
-access_clock configuration state request draw (Ok credentials) =
-    decided_clock configuration (without_challenge request.client credentials.state state) request draw _
-    ∙ left_clock request.client credentials.state state
-
-port_clock : (door : Door) (configuration : Configuration) (state : State) (request : Request) (draw : List ℕ)
-    → (reply_by_port door configuration state request draw).1.clock ≡ state.clock
-port_clock Auth configuration state request draw = access_clock configuration state request draw (credentials_in request.packet.attributes)
-port_clock Acct configuration state request draw = refl
 
 answer_clock : (configuration : Configuration) (current : State) (request : Request) (draw : List ℕ)
     → (answer configuration current request draw).1.clock ≡ current.clock
@@ -65,13 +40,7 @@ answer_clock configuration current request draw =
     with_kept None =
         let left = without_reply request current in
         cond_both (lacks_room configuration request.client left.replies) _ _ (λ (r : Answer × State). r.1.clock ≡ current.clock) (λ full. refl)
-        (λ room. sent (reply_by_port request.door configuration left request draw) (port_clock request.door configuration left request draw))
-
--- the moment of an entry, or the one at which it counted: the state is the same
-at_counted : (moment : ℕ) (state : State) → at_moment (max state.clock moment) state ≡ at_moment moment state
-at_counted moment state =
-    let same : max state.clock (max state.clock moment) ≡ max state.clock moment = omega arith in
-    ap (λ clock. without_expired (record state { clock = clock })) same
+        (λ room. sent (reply_by_port request.door configuration left request draw) (reply_leaves request.door configuration left request draw).clock)
 
 -- ---- a run with marks
 
@@ -122,7 +91,10 @@ serves_counted enough all_lawful configuration before after other (entry ∷ res
     clock = ap (λ (r : Answer × State). r.1.clock) (sym marked.answered)
         ∙ answer_clock configuration (at_moment entry.moment before) marked.request entry.draw
 
-    exchange : IsExchange configuration other (counted before.clock entry) next
+    same : at_moment now other ≡ at_moment entry.moment before
+    same = like now (omega arith) ∙ at_counted entry.moment before
+
+    exchange : IsMarked configuration other (counted before.clock entry) mark next
     exchange = record {
       request = marked.request;
       asked = record {
@@ -131,9 +103,12 @@ serves_counted enough all_lawful configuration before after other (entry ∷ res
         moment = omega (arith, lawful.clock, marked.asked.moment);
         draw = marked.asked.draw;
       };
-      answered = ap (λ s. answer configuration s marked.request entry.draw) (like now (omega arith) ∙ at_counted entry.moment before)
-          ∙ marked.answered;
+      answered = ap (λ s. answer configuration s marked.request entry.draw) same ∙ marked.answered;
+      fresh = marked.fresh ∙ ap (λ s. is_fresh configuration s marked.request) (sym same);
     }
+
+    marked_by : (b : Bool) → mark ≡ b → IsMarked configuration other (counted before.clock entry) b next
+    marked_by b is = subst (λ m. IsMarked configuration other (counted before.clock entry) m next) is exchange
 
     by_mark : ((state : State) → IsLikeFromNow next state → ServesAlike configuration state (all_counted next.clock rest) marks after) →
         (b : Bool) → mark ≡ b
@@ -141,7 +116,7 @@ serves_counted enough all_lawful configuration before after other (entry ∷ res
     by_mark more true is =
         let on : ServesAlike configuration next (all_counted now rest) marks after =
         subst (λ c. ServesAlike configuration next (all_counted c rest) marks after) clock (more next (λ moment le. refl)) in
-        record { state = on.state; serves = (next, exchange, on.serves); like = on.like }
+        record { state = on.state; serves = (next, marked_by true is, on.serves); like = on.like }
     by_mark more false is =
         let alone : MarkedRun configuration before (entry ∷ []) (false ∷ []) next =
         (next, subst (λ m. IsMarked configuration before entry m next) is marked, refl) in
@@ -150,7 +125,7 @@ serves_counted enough all_lawful configuration before after other (entry ∷ res
         let stays : IsLikeFromNow next other = subst (IsLikeFromNow next) (sym left.run) left.like in
         let on : ServesAlike configuration other (all_counted now rest) marks after =
         subst (λ c. ServesAlike configuration other (all_counted c rest) marks after) clock (more other stays) in
-        record { state = on.state; serves = (next, exchange, on.serves); like = on.like }
+        record { state = on.state; serves = (next, marked_by false is, on.serves); like = on.like }
 
 -- the marked entries alone are a run
 pub marked_run : (configuration : Configuration) (before : State) (history : List Entry) (marks : List Bool) (after : State)
@@ -158,8 +133,11 @@ pub marked_run : (configuration : Configuration) (before : State) (history : Lis
 marked_run configuration before [] [] after serves = serves
 marked_run configuration before [] (mark ∷ marks) after serves = absurd serves
 marked_run configuration before (entry ∷ rest) [] after serves = absurd serves
-marked_run configuration before (entry ∷ rest) (true ∷ marks) after serves =
-    (serves.0, serves.1, marked_run configuration serves.0 rest marks after serves.2)
+marked_run configuration before (entry ∷ rest) (true ∷ marks) after serves = (
+  serves.0,
+  record { request = serves.1.request; asked = serves.1.asked; answered = serves.1.answered },
+  marked_run configuration serves.0 rest marks after serves.2,
+)
 marked_run configuration before (entry ∷ rest) (false ∷ marks) after serves = marked_run configuration before rest marks after serves.2
 
 -- ---- one after another

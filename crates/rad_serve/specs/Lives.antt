@@ -7,7 +7,7 @@ use Rattle.rad_auth.specs.Admission.{IsAdmitted, own_datagram}
 use Rattle.rad_auth.specs.Clients.{Client}
 use Rattle.rad_auth.specs.declared.arrival.Request.{Request}
 use Rattle.rad_config.specs.Configurations.{Configuration}
-use Rattle.rad_server.specs.Runs.{IsExchange, datagram_of_entry}
+use Rattle.rad_server.specs.Runs.{IsMarked, datagram_of_entry}
 use Rattle.rad_server.specs.Servers.{Server}
 use Rattle.rad_server.specs.States.{State, opening}
 use Rattle.rad_server.specs.declared.entry.Entry.{Entry}
@@ -51,14 +51,14 @@ went_since (Some before) (Some after) = went_among (drop (length before) after)
 
 -- ---- one run
 
--- A history with a mark for each entry leads from one state to another. A marked entry leads on. Any other is answered as the state between
--- the marked ones answers it, and changes nothing.
+-- A history with a mark for each entry leads from one state to another. A marked entry was fresh, and leads on. Any other wasn't: it is
+-- answered as the state between the marked ones answers it, and that stays.
 abbrev pub Serves : Configuration → State → List Entry → List Bool → State → Type 0
 Serves configuration before [] [] after = before ≡ after
 Serves configuration before [] (mark ∷ marks) after = ⊥
 Serves configuration before (entry ∷ rest) [] after = ⊥
 Serves configuration before (entry ∷ rest) (mark ∷ marks) after =
-    (next : State) × IsExchange configuration before entry next × Serves configuration (if mark then next else before) rest marks after
+    (next : State) × IsMarked configuration before entry mark next × Serves configuration (if mark then next else before) rest marks after
 
 -- the marked entries of a history
 abbrev pub marked_of : List Entry → List Bool → List Entry

@@ -1,5 +1,5 @@
 //! The clock of moments, and what the system's clocks show.
-ghost use Rattle.std.specs.Prelude.{◌≤◌, IfSome};
+ghost use Rattle.std.specs.Prelude.{◌≡◌, ◌≤◌, ◌+◌, ◌-◌, min, IfSome};
 ghost use Rattle.rad_config.specs.Spans.{moment_max};
 
 use libc::types::timespec;
@@ -20,33 +20,44 @@ const BOOT_ID_SIZE: usize = 36;
 /// The clock that goes on while the machine sleeps, as Linux numbers it.
 const CLOCK_BOOTTIME: i32 = 7;
 
-/// The clock of moments: the system's, which goes on whatever time it is set to, with so many milliseconds added.
+/// A clock of moments, in milliseconds. It goes by the system's clock that goes on whatever time it is set to.
 #[derive(Clone, Copy)]
 pub struct Moments {
-    added: i64,
+    /// Its first moment.
+    pub first: u64,
+    /// What the system's clock showed then.
+    pub shown: u64,
 }
 
 impl Moments {
     /// The system's clock. Its zero is the system's choice.
     pub fn of_system() -> Moments {
-        Moments { added: 0 }
+        Moments { first: 0, shown: 0 }
     }
 
-    /// The clock that shows this moment now.
+    /// The clock whose first moment, now, is this one.
     pub fn from<C: Clock>(clock: &C, moment: u64) -> Moments
-        requires { moment ≤ moment_max }
+        ensures { result.first ≡ moment }
     {
         Moments {
-            added: moment as i64 - monotonic(clock) as i64,
+            first: moment,
+            shown: monotonic(clock),
         }
     }
 
-    /// The moment now, in milliseconds; 0 if the system's clock fails.
+    /// The moment now; the first one if the system's clock fails.
     pub fn now<C: Clock>(self, clock: &C) -> u64
         ensures { result ≤ moment_max }
     {
-        let moment = (monotonic(clock) as i64).saturating_add(self.added);
-        u64::try_from(moment).unwrap_or(0).min(MOMENT_MAX)
+        self.at(monotonic(clock))
+    }
+
+    // The moment when the system's clock shows this.
+    fn at(self, system: u64) -> u64
+        ensures { result ≡ min (self.first + (system - self.shown)) moment_max }
+    {
+        let since = system.saturating_sub(self.shown);
+        self.first.saturating_add(since).min(MOMENT_MAX)
     }
 }
 

@@ -24,15 +24,15 @@ pub enum ServeError {
     /// Memory was refused before the first turn.
     #[error("out of memory")]
     NoMemory,
+    /// The boot's id or its clock can't be read.
+    #[error("the boot's id or its clock can't be read")]
+    Clocks,
     /// The state can't be opened, gone on from or begun.
     #[error(transparent)]
     State(OpenFault),
     /// The journal of the state doesn't lead to a server.
     #[error(transparent)]
     Restore(RestoreFault),
-    /// The boot's id or its clock can't be read.
-    #[error("the boot's id or its clock can't be read")]
-    Clocks,
     /// A port can't be bound.
     #[error("bind failed")]
     Bind,

@@ -2,7 +2,7 @@
 
 use crate::fault::{Fault, StateFault, error_of, report};
 use crate::options::{Absent, PORT, TEXT, Valued, with_options};
-use crate::state_files::open_files;
+use crate::state_files::{open_files, salt};
 use clap::builder::ValueParser;
 use clap::error::ErrorKind;
 use clap::{ArgMatches, Command};
@@ -10,7 +10,6 @@ use rad_serve::{Given, Level, Options, Reports, Workers, serve, serve_with_state
 use rad_text::decimal;
 use sqlite_disk::Unknown;
 use std::alloc::{AllocError, AllocGlobal, Global};
-use std::hash::{BuildHasher, RandomState};
 use std::net::{Ipv4Addr, Net};
 use std::process::ExitCode;
 use std::rt::Files;
@@ -253,7 +252,7 @@ fn serve_file<R: Files + Net + Clock + Print + Eprint + Threads + Wait + Sync + 
     path: &str,
 ) -> Result<(), StateFault> {
     let files = open_files(host, path, Unknown)?;
-    let salt = RandomState::new(host)?.hash_one(&0u8);
+    let salt = salt(host)?;
     serve_with_state(rt, options, given, files, salt)?;
     Ok(())
 }

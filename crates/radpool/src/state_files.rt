@@ -7,6 +7,7 @@ use rad_state::OpenFault;
 use sqlite_disk::{Files, Start};
 use sqlite_std_file::FileFrom;
 use std::fs::OpenOptions;
+use std::hash::{BuildHasher, RandomState};
 use std::io::{self, Read};
 use std::os::unix::fs::OpenOptionsExt;
 
@@ -34,6 +35,11 @@ pub fn open_files<S: Start>(
         return Err(StateFault::from(OpenFault::Damaged));
     }
     Ok(sqlite_std_file::open(host, path, start)?)
+}
+
+/// A random number for the log of a database.
+pub fn salt(host: &HostRuntime) -> io::Result<u64> {
+    Ok(RandomState::new(host)?.hash_one(&0u8))
 }
 
 // Makes a file that is missing. Whether it was.

@@ -3,7 +3,7 @@ ghost use Rattle.sqlite_trees.specs.View.{IsClean};
 ghost use Rattle.rad_state.specs.Stores.{IsOpened};
 
 use crate::fault::{Fault, StateFault, report};
-use crate::state_files::open_files;
+use crate::state_files::{open_files, salt};
 use rad_auth::Arrival;
 use rad_config::read_configuration;
 use rad_journal::{Journal, Kept, restore};
@@ -15,7 +15,6 @@ use rad_text::lines::divide;
 use sqlite_disk::Unknown;
 use sqlite_trees::store::Store;
 use std::alloc::{AllocError, AllocGlobal, Global};
-use std::hash::{BuildHasher, RandomState};
 use std::io::Write;
 use std::process::ExitCode;
 use std::{fs, io};
@@ -44,7 +43,7 @@ fn write_file<R: Print + AllocGlobal>(
         return Err(StateFault::from(ServeError::State(OpenFault::Damaged)));
     }
     let files = open_files(host, path, Unknown)?;
-    let salt = RandomState::new(host)?.hash_one(&0u8);
+    let salt = salt(host)?;
     let store = rad_state::open_files(rt.alloc(), files, salt)?;
     write_transcript(rt.alloc(), store, &mut io::writer(rt))
 }

@@ -21,7 +21,7 @@ returns-clause-one_run g c = λ clean.
     let is_open = on_ok c.restore.result _ restored_ok c.restore.ensures.open restored
     (on_ok c.crash_and_reopen.result _ found_ok c.crash_and_reopen.ensures.open reopened) in
     let run = c.requires.before (c.crash_and_reopen.ensures.clean reopened) (J.kept c.crash_and_reopen.new.self) found in
-    life_goes_on J.keeps c.args.config.now c.in-Ok.server c.restore.new.server c.of-service.result (J.kept c.crash_and_reopen.new.self)
+    life_goes_on J.keeps c.args.lives.config.now c.in-Ok.server c.restore.new.server c.of-service.result (J.kept c.crash_and_reopen.new.self)
     (J.kept c.restore.new.journal) _ _ _ (J.may_leave c.make_calls-ended.new.journal) c.in-Ok.ensures.configuration c.in-Ok.ensures.state
     c.restore.ensures.configuration (on_ok c.restore.result _ restored_ok c.restore.ensures.restored restored)
     (on_ok c.restore.result _ restored_ok c.restore.ensures.kept restored) c.of-service.ensures c.make_calls-ended.ensures.called.0
