@@ -524,6 +524,15 @@ def one_client_fills_the_replies():
     return [seen, Seen(line, 1 + replies == KEPT * SHARE // 100 and again == [b"", reply, b"\x03"])]
 
 
+def one_client_fills_the_disk():
+    """Rejected log-ins with one port and Identifier, each of them new: a reply replaces the kept one, and the state keeps them all."""
+    state = path("filled")
+    os.makedirs(state, 0o700, exist_ok=True)
+    more = [(GREEDY, 20_000, log_in(0, GOOD, b"no")) for _ in range(10_000)]
+    with serving(words=["--state", state], configuration=two_clients(user(GOOD.decode(), "sessions = 4096"))) as server:
+        return [attacked("log-ins beside those that fill the disk", logging_in, server, server.auth, more, 10_000)]
+
+
 def one_user_takes_a_pool():
     """Log-ins of a user, each with a Stop, beside log-ins of another from the same small pool."""
     pool = f'[[pool]]\nname = "small"\nfirst = "10.0.0.1"\nlast = "10.0.0.{GRANTS + LOG_INS}"\n'
@@ -548,5 +557,5 @@ def one_user_takes_a_pool():
 
 TRIALS = tuple(map(tried, (
     storm_of_accounting_ons, storm_of_forgeries, floods, memory_that_comes_back, colliding_keys, cost_of_an_accounting_on,
-    one_user_fills_the_challenges, one_client_fills_the_replies, one_user_takes_a_pool,
+    one_user_fills_the_challenges, one_client_fills_the_replies, one_client_fills_the_disk, one_user_takes_a_pool,
 )))

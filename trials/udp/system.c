@@ -19,6 +19,8 @@ struct told {
     volatile int64_t receives;
     volatile int64_t waits;
     volatile int64_t moments; // how often a clock was read
+    volatile int64_t pace;    // milliseconds that pass meanwhile, but not for the time of day
+    volatile int64_t passed;
 };
 
 static struct told *told(void) {
@@ -40,6 +42,9 @@ int clock_gettime(clockid_t clock, struct timespec *time) {
     int status = syscall(SYS_clock_gettime, clock, time);
     if (clock == CLOCK_REALTIME && status == 0) {
         time->tv_sec += told()->shift;
+    } else if (status == 0) {
+        told()->passed += told()->pace;
+        time->tv_sec += told()->passed / 1000;
     }
     return status;
 }
