@@ -8,6 +8,7 @@ from books import Books, Journal
 from gateways import ACCEPT, ON, START, STOP, Gateway, Load, User
 from serving import SECRET, attribute, judge, path
 from states import RANDOM, Spans, ended, entry, folder, killed_early, living, pap_log_in
+from transcripts import lines_of
 
 KILLS = 20
 TERMINATIONS = 3
@@ -79,6 +80,7 @@ def lives():
             load.end()
             ended(server)
         examined(state, load, gateways, spans, options)
+    lines_of(state)
     journal.read(state)
     journal.judge_replies(load.books)
     books = Books(load.books, spans)
