@@ -1,31 +1,11 @@
 // What `radpool serve` answers over UDP on 127.0.0.1, beside a responder that makes the digests and the system calls alone.
-#define OPENSSL_SUPPRESS_DEPRECATED
-#define _GNU_SOURCE
-#include "bench.h"
-#include <arpa/inet.h>
-#include <errno.h>
-#include <openssl/hmac.h>
-#include <openssl/md5.h>
-#include <poll.h>
-#include <signal.h>
-#include <stdbool.h>
-#include <stdint.h>
-#include <string.h>
-#include <sys/prctl.h>
-#include <sys/socket.h>
-#include <sys/wait.h>
-#include <unistd.h>
+#include "serving.h"
 
 enum {
     AUTH = 18130,
     ACCT = 18131,
-    SOCKETS = 8,
     SOME = 128,     // requests that wait for a reply
     SLOTS = 512,    // the most
-    BLOCK = 16,
-    HEADER = 20,
-    STATUS = 38,    // the length of a Status-Server
-    FRAME = 4096,
     ROUND = 512,    // the most datagrams that are received before replies are sent
     WARM = 1000,
     COUNT = 200000, // the requests of a measurement
@@ -33,11 +13,8 @@ enum {
     SPAN = 21,      // seconds, in which files are written three times
     IDS = 256,      // the Identifiers
     PORTS = 255,    // the most from which sessions are asked for
-    SESSIONS = 4096,    // of a user
+    HOLD = 86400,   // seconds
 };
-
-#define SECRET "xyzzy5461"
-static const size_t secret_len = sizeof SECRET - 1;
 
 // A request that is sent again and again, and its reply.
 struct slot {
@@ -51,19 +28,6 @@ static struct slot slots[SLOTS];
 static int sockets[SOCKETS];
 static double times[COUNT];
 
-static void digest(const uint8_t *octets, size_t len, uint8_t *out) {
-    MD5_CTX context;
-    MD5_Init(&context);
-    MD5_Update(&context, octets, len);
-    MD5_Update(&context, SECRET, secret_len);
-    MD5_Final(out, &context);
-}
-
-static void authenticate(const uint8_t *octets, size_t len, uint8_t *out) {
-    unsigned out_len;
-    HMAC(EVP_md5(), SECRET, (int)secret_len, octets, len, out, &out_len);
-}
-
 // ---- requests
 
 // The Accounting-Response to a request (RFC 2866, section 3; RFC 5997, section 4.1).
@@ -73,17 +37,6 @@ static void respond_to(const uint8_t *request, uint8_t *reply) {
     digest(reply, HEADER, reply + 4);
 }
 
-static size_t status_server(uint8_t id, uint8_t *octets) {
-    memcpy(octets, (uint8_t[]){12, id, 0, STATUS}, 4);
-    memset(octets + 4, id, BLOCK);
-    memcpy(octets + HEADER, (uint8_t[]){80, 18}, 2);
-    memset(octets + HEADER + 2, 0, BLOCK);
-    uint8_t code[BLOCK];
-    authenticate(octets, STATUS, code);
-    memcpy(octets + HEADER + 2, code, BLOCK);
-    return STATUS;
-}
-
 // A Start of a session that the server doesn't know.
 static size_t accounting_request(uint8_t id, uint8_t *octets) {
     memcpy(octets, (uint8_t[]){4, id, 0, 26}, 4);
@@ -91,27 +44,6 @@ static size_t accounting_request(uint8_t id, uint8_t *octets) {
     memcpy(octets + HEADER, (uint8_t[]){40, 6, 0, 0, 0, 1}, 6);
     digest(octets, 26, octets + 4);
     return 26;
-}
-
-// The Access-Request of the user whose turn it is, with an authenticator of this number. As one of an access point it has NAS-IP-Address,
-// NAS-Port, NAS-Port-Type, Calling-Station-Id and Called-Station-Id, so it has 100 octets.
-static size_t access_request(uint8_t id, uint32_t number, uint8_t *octets) {
-    static const char rest[] = "\4\6\177\0\0\1\5\6\0\0\0\1\75\6\0\0\0\23\37\23" "02-00-00-00-00-01\36\23" "02-00-00-00-00-02";
-    size_t len = 44 + sizeof rest - 1;
-    memcpy(octets, (uint8_t[]){1, id, 0, (uint8_t)len}, 4);
-    memset(octets + 4, 7, BLOCK);
-    memcpy(octets + 4, &number, sizeof number);
-    memcpy(octets + HEADER, "\1\6nem?\2\22arctangent\0\0\0\0\0\0", 24);
-    octets[HEADER + 5] = (uint8_t)('a' + number / SESSIONS);
-    uint8_t keyed[64], pad[BLOCK];
-    memcpy(keyed, SECRET, secret_len);
-    memcpy(keyed + secret_len, octets + 4, BLOCK);
-    MD5(keyed, secret_len + BLOCK, pad);
-    for (size_t at = 0; at < BLOCK; at++) {
-        octets[28 + at] ^= pad[at];
-    }
-    memcpy(octets + 44, rest, sizeof rest - 1);
-    return len;
 }
 
 // ---- the responder
@@ -167,15 +99,6 @@ static void run_responder(void) {
 }
 
 // ---- the load
-
-static int connected(uint16_t port) {
-    int made = socket(AF_INET, SOCK_DGRAM, 0);
-    struct sockaddr_in there = {.sin_family = AF_INET, .sin_port = htons(port), .sin_addr.s_addr = htonl(INADDR_LOOPBACK)};
-    if (made < 0 || connect(made, (struct sockaddr *)&there, sizeof there) != 0) {
-        end("no socket");
-    }
-    return made;
-}
 
 // Half of the slots of a socket have a Status-Server, the others an Accounting-Request.
 static void fill_slots(void) {
@@ -242,35 +165,7 @@ static double load(int count, int waiting) {
     return now() - start;
 }
 
-static int compare(const void *one, const void *other) {
-    double a = *(const double *)one, b = *(const double *)other;
-    return (a > b) - (a < b);
-}
-
-// Microseconds within which so many of a thousand were answered.
-static double within(int count, int per_mille) {
-    qsort(times, (size_t)count, sizeof times[0], compare);
-    return times[(size_t)count * (size_t)per_mille / 1000] / 1e3;
-}
-
 // ---- servers
-
-static const char *folder;
-
-static const char *in_folder(const char *name) {
-    static char path[2][200];
-    static int turn;
-    turn = !turn;
-    snprintf(path[turn], sizeof path[turn], "%s/%s", folder, name);
-    return path[turn];
-}
-
-static void write_file(const char *name, const char *octets, size_t len) {
-    FILE *file = fopen(in_folder(name), "w");
-    if (!file || fwrite(octets, 1, len, file) != len || fclose(file) != 0) {
-        end("a file can't be written");
-    }
-}
 
 // What a server tells its operator: an option, and a level or the name of a file. Files that are written every ten seconds are measured
 // for longer, with full tables.
@@ -362,21 +257,6 @@ static void grant(const struct state *state) {
     }
 }
 
-static void write_configuration(unsigned window) {
-    char text[2000];
-    int len = snprintf(text, sizeof text, "window = %u\nhold = 86400\n[[client]]\naddress = \"127.0.0.1\"\nsecret = \"" SECRET "\"\n"
-                       "[[pool]]\nname = \"hall\"\nfirst = \"10.0.0.0\"\nlast = \"10.0.255.255\"\n",
-                       window);
-    for (int user = 'a'; user <= 'p'; user++) {
-        len += snprintf(text + len, sizeof text - (size_t)len,
-                        "[[user]]\nname = \"nem%c\"\npassword = \"arctangent\"\nsessions = %d\npool = \"hall\"\n", user, SESSIONS);
-        if ((size_t)len >= sizeof text) {
-            end("the configuration is too long");
-        }
-    }
-    write_file("toml", text, (size_t)len);
-}
-
 struct figures {
     double one_p50, one_p99, a_second, p50, p99, processor, most_a_second, resident;
 };
@@ -397,7 +277,7 @@ static double resident(pid_t process) {
 // The figures of a server that begins in a state; without a path of one, those of the responder.
 static struct figures measure(const char *radpool, const struct state *state) {
     struct figures found;
-    write_configuration(state->window);
+    write_configuration(state->window, HOLD);
     pid_t server = begin_server(radpool, &reports[0]);
     wait_for_server();
     if (radpool) {
@@ -405,8 +285,8 @@ static struct figures measure(const char *radpool, const struct state *state) {
     }
     load(WARM, SLOTS);
     load(COUNT / 4, 1);
-    found.one_p50 = within(COUNT / 4, 500);
-    found.one_p99 = within(COUNT / 4, 990);
+    found.one_p50 = within(times, COUNT / 4, 500);
+    found.one_p99 = within(times, COUNT / 4, 990);
     clockid_t clock;
     if (clock_getcpuclockid(server, &clock) != 0) {
         end("no clock");
@@ -414,8 +294,8 @@ static struct figures measure(const char *radpool, const struct state *state) {
     double processor = nanoseconds(clock);
     found.a_second = COUNT / load(COUNT, SOME) * 1e9;
     found.processor = (nanoseconds(clock) - processor) / COUNT / 1e3;
-    found.p50 = within(COUNT, 500);
-    found.p99 = within(COUNT, 990);
+    found.p50 = within(times, COUNT, 500);
+    found.p99 = within(times, COUNT, 990);
     found.most_a_second = COUNT / load(COUNT, SLOTS) * 1e9;
     found.resident = resident(server);
     kill(server, SIGTERM);
@@ -426,7 +306,7 @@ static struct figures measure(const char *radpool, const struct state *state) {
 // The processor time of a request, in microseconds, to a server that reports.
 static double processor_of(const char *radpool, const struct report *report) {
     const struct state *state = report->is_long ? &full : &few;
-    write_configuration(state->window);
+    write_configuration(state->window, HOLD);
     unlink(in_folder("record"));
     pid_t server = begin_server(radpool, report);
     wait_for_server();
