@@ -6,6 +6,7 @@
 
 mod clients;
 mod desks;
+mod journals;
 mod moments;
 mod packets;
 mod prepared;
@@ -13,6 +14,8 @@ mod replays;
 mod requests;
 mod rounds;
 mod servers;
+mod states;
+mod stores;
 mod tables;
 mod trial;
 
@@ -43,6 +46,10 @@ enum Run {
     Round(rounds::Call),
     /// A call of `rad_replay`.
     Replay(replays::Call),
+    /// A call of `rad_journal`.
+    Journal(journals::Call),
+    /// A call of `rad_state`.
+    State(states::Call),
 }
 
 /// The runs, each with its name: the call, and then what it is made on. A call `without memory` makes no allocation.
@@ -233,6 +240,26 @@ const RUNS: &[(&str, Run)] = &[
     ),
     ("push_address", Run::Replay(replays::Call::PushAddress)),
     ("push_decimal", Run::Replay(replays::Call::PushDecimal)),
+    ("Kept::of", Run::Journal(journals::Call::KeptOf)),
+    ("keep", Run::Journal(journals::Call::Keep)),
+    (
+        "keep where nothing is fresh, without memory",
+        Run::Journal(journals::Call::KeepNothing),
+    ),
+    ("StoreJournal::open", Run::Journal(journals::Call::Open)),
+    ("Journal::entry", Run::Journal(journals::Call::Entry)),
+    ("Journal::commit", Run::Journal(journals::Call::Commit)),
+    ("restore", Run::Journal(journals::Call::Restore)),
+    (
+        "Meta::check, without memory",
+        Run::State(states::Call::Check),
+    ),
+    ("read_meta", Run::State(states::Call::ReadMeta)),
+    ("write_meta", Run::State(states::Call::WriteMeta)),
+    ("read_last", Run::State(states::Call::ReadLast)),
+    ("State::open", Run::State(states::Call::Open)),
+    ("State::into_journal", Run::State(states::Call::IntoJournal)),
+    ("begin", Run::State(states::Call::Begin)),
 ];
 
 fn judge<R: Threads + Wait + Sync + AllocGlobal>(rt: &R, run: Run) -> Verdict {
@@ -245,6 +272,8 @@ fn judge<R: Threads + Wait + Sync + AllocGlobal>(rt: &R, run: Run) -> Verdict {
         Run::Desk(call) => desks::judge_call(rt, call),
         Run::Round(call) => rounds::judge_call(rt, call),
         Run::Replay(call) => replays::judge_call(rt.alloc(), call),
+        Run::Journal(call) => journals::judge_call(rt.alloc(), call),
+        Run::State(call) => states::judge_call(rt.alloc(), call),
     }
 }
 

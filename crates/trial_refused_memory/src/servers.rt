@@ -259,7 +259,7 @@ struct EntryTrial {
 
 impl EntryTrial {
     fn ready(alloc: Global) -> Option<EntryTrial> {
-        let entry = entry(alloc).ok()?;
+        let entry = unshared_entry(alloc).ok()?;
         Some(EntryTrial {
             alloc,
             entry,
@@ -268,7 +268,8 @@ impl EntryTrial {
     }
 }
 
-fn entry(alloc: Global) -> Result<Entry, AllocError> {
+/// An entry of which nothing is shared.
+pub(crate) fn unshared_entry(alloc: Global) -> Result<Entry, AllocError> {
     let octets = NEMO.octets.to_vec(alloc)?;
     Ok(Entry {
         tag: 1,

@@ -26,6 +26,8 @@ pub(crate) enum Verdict {
     Other,
     /// A call reports a fault that is not the memory's.
     Fault,
+    /// A call reports that memory was refused, where none is.
+    Refused,
     /// A replay reports no fault, though its configuration has one.
     NoFault,
     /// A replay wrote lines, and then reports a fault.
@@ -50,6 +52,7 @@ impl Verdict {
             Verdict::Changed => "wrong: a change by a refusal",
             Verdict::Other => "wrong: another result",
             Verdict::Fault => "wrong: another fault",
+            Verdict::Refused => "wrong: refused without a refusal",
             Verdict::NoFault => "wrong: no fault",
             Verdict::LinesBeforeFault => "wrong: lines before a fault",
         }
@@ -96,6 +99,29 @@ pub(crate) fn begin(alloc: Global) {
 /// From here on none is.
 pub(crate) fn end(alloc: Global) {
     mark(alloc, LAST_MARK);
+}
+
+/// Whether a call is made for the first time, or again after a refusal.
+#[derive(Clone, Copy)]
+pub(crate) enum Time {
+    First,
+    Again,
+}
+
+impl Time {
+    /// From here on allocations may be refused, the first time.
+    pub fn begin(self, alloc: Global) {
+        if matches!(self, Time::First) {
+            begin(alloc);
+        }
+    }
+
+    /// From here on none is.
+    pub fn end(self, alloc: Global) {
+        if matches!(self, Time::First) {
+            end(alloc);
+        }
+    }
 }
 
 fn mark(alloc: Global, size: usize) {
@@ -145,6 +171,16 @@ fn judge_refused<T: Trial>(trial: &mut T, before: &T, whole: &T) -> Verdict {
     match trial.call() {
         Called::Done => Verdict::of(trial.is_like(whole)),
         _ => Verdict::Other,
+    }
+}
+
+/// Makes a call that uses up its value. Once it was refused memory, the same call on a new value must be right.
+pub(crate) fn judge_anew<F: Fn(Time) -> Verdict>(call: F) -> Verdict
+    requires { F.IsAlwaysCallable call }
+{
+    match call(Time::First) {
+        Verdict::Refused => call(Time::Again),
+        verdict => verdict,
     }
 }
 

@@ -1,0 +1,18 @@
+use Rattle.std.proofs.Common.{ap, refl}
+use Rattle.sqlite_trees.specs.Memory.{memory_is_unaltered}
+use Rattle.sqlite_trees.specs.Objects.{catalog_tree}
+use Rattle.sqlite_trees.specs.Tree.{Trees}
+use Rattle.rad_journal.specs.Rows.{table}
+use Rattle.rad_state.specs.Metas.{meta_table}
+use Rattle.trial_refused_memory.proofs.stores.blank.Goals as goal
+
+pub returns : goal.returns
+returns c = record {
+  fresh = record {
+    is_open = refl;
+    shape = ap (λ f. f table) c.in_ok-store.ensures.shape;
+    committed_shape = (memory_is_unaltered c.in_ok-store.store (ap (λ (t : Trees). t catalog_tree) c.in_ok-store.ensures.clean)).0;
+    settled = c.in_ok-store.ensures.clean;
+  };
+  meta_shape = ap (λ f. f meta_table) c.in_ok-store.ensures.shape;
+}
