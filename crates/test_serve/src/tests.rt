@@ -1,6 +1,7 @@
 //! Sockets are on 127.0.0.1, each test on ports of its own. What a socket was sent there is in it when `send_to` returns.
 mod client;
 mod failures;
+mod lives;
 mod ports;
 mod rounds;
 mod serving;

@@ -44,7 +44,7 @@ const ENDLESS: &str = "/dev/zero";
 
 const NO_TOML: &str = "/proc/version";
 
-fn options(alloc: Global, config: &str, seed: &str, auth: u16) -> Option<Options> {
+pub(crate) fn options(alloc: Global, config: &str, seed: &str, auth: u16) -> Option<Options> {
     Some(Options {
         config: config.to_string(alloc).ok()?,
         seed: seed.to_string(alloc).ok()?,

@@ -1,0 +1,170 @@
+//! Lives over a journal and ports in memory.
+ghost use Rattle.std.specs.Prelude.{◌≡◌, [], List, Some, IfOk, IsTrue};
+ghost use Rattle.rad_journal.specs.Stores.{IsFresh, kept_in};
+ghost use Rattle.rad_journal.specs.declared.kept.Kept.{Kept};
+ghost use Rattle.rad_serve.specs.Lives.{went_since};
+ghost use Rattle.rad_shell.specs.Memory.{kept_passages};
+ghost use Rattle.sqlite_trees.specs.Memory.{memory_view};
+
+use super::serving::options;
+use crate::tests::holds;
+use rad_auth::Door;
+use rad_config::Config;
+use rad_journal::{JournalFault, Reopen, StoreJournal};
+use rad_serve::{Options, live, nothing_is_one_run};
+use rad_shell::{Datagram, MemoryPorts, OpenGate, Passed, Turns, Unwatched};
+use rand_chacha::ChaCha20Rng;
+use rand_core::SeedableRng;
+use sqlite_trees::memory::MemStore;
+use sqlite_trees::schema::Object;
+use sqlite_trees::store::Shape;
+use std::alloc::{AllocError, AllocGlobal, Global};
+use std::sync::Wait;
+use std::test::Fail;
+use std::thread::Threads;
+use test_common::{CAMPUS, CLIENT, PORT, RFC_REQUEST};
+
+/// The table of a journal.
+const TABLE: Object<'static> = Object {
+    shape: Shape::Table,
+    kind: "table",
+    name: "exchange",
+    table: "exchange",
+    reals: 0,
+    sql: Some("CREATE TABLE exchange(a, b, c, d, e, f, g, h)"),
+};
+
+/// The Codes of an Access-Accept and an Access-Reject.
+const ACCEPT: u8 = 2;
+
+const REJECT: u8 = 3;
+
+#[test]
+fn a_later_life_goes_on(rt: HostRuntime) -> Result<(), Fail> {
+    let config = Config::read(rt.alloc(), CAMPUS)?;
+    holds(
+        &rt,
+        is_right(&rt, rt.alloc(), &config) == Some(true),
+        "a log-in, in the next life its repeat and another one, and in the last one nothing",
+    );
+    Ok(())
+}
+
+#[tactic(auto, using(crate::proofs::LifeLemmas::leaves_nothing))]
+fn is_right<R: Threads + Wait + Sync>(rt: &R, alloc: Global, config: &Config) -> Option<bool> {
+    let options = options(alloc, "", "", 0)?;
+    let mut ports = MemoryPorts::new(alloc);
+    log_in(alloc, &mut ports, 1, 0).ok()?;
+    log_in(alloc, &mut ports, 2, 0).ok()?;
+    log_in(alloc, &mut ports, 2, 1).ok()?;
+    let mut journal = begun(alloc).ok()?;
+    Some(are_three_lives(rt, alloc, config, &options, &mut ports, &mut journal))
+}
+
+// Lets nemo's log-in come in a turn, with an Identifier.
+fn log_in(
+    alloc: Global,
+    ports: &mut MemoryPorts,
+    turn: u64,
+    identifier: u8,
+) -> Result<(), AllocError> {
+    let mut octets = RFC_REQUEST.to_vec(alloc)?;
+    octets[1] = identifier;
+    ports.arrive(Datagram {
+        turn,
+        address: CLIENT,
+        port: PORT,
+        door: Door::Auth,
+        moment: turn,
+        octets,
+    })
+}
+
+// A store that was just made, with an empty table.
+fn blank(alloc: Global) -> Result<MemStore, AllocError>
+    ensures fresh { IfOk result (λ store. IsFresh (memory_view store)) }
+    ensures empty { IfOk result (λ store. kept_in (memory_view store) ≡ []) }
+{
+    let store = MemStore::new(alloc, &[TABLE])?;
+    Ok(store)
+}
+
+// Its journal, which has kept nothing.
+fn begun(alloc: Global) -> Result<StoreJournal<MemStore>, JournalFault>
+    ensures { IfOk result (λ journal. kept_in (memory_view journal.store) ≡ []) }
+{
+    let store = blank(alloc)?;
+    let journal = StoreJournal::open(alloc, store)?;
+    Ok(journal)
+}
+
+// Whether three lives of a turn each answer as one server does.
+#[tactic(auto, using(crate::proofs::LifeLemmas::one_run_of_nothing))]
+fn are_three_lives<R: Threads + Wait + Sync, J: Reopen>(
+    rt: &R,
+    alloc: Global,
+    config: &Config,
+    options: &Options,
+    ports: &mut MemoryPorts,
+    journal: &mut J,
+) -> bool
+    requires keeps { IsTrue J.Journal.keeps }
+    requires nothing { (left : List Kept) → J.Journal.may_leave journal.old left → left ≡ [] }
+{
+    let mut random = ChaCha20Rng::from_seed([7; 32]);
+    let Ok(mut turns) = Turns::open(alloc, &mut random, &OpenGate, Unwatched) else {
+        return false;
+    };
+    if !is_unused(ports) {
+        return false;
+    }
+    nothing_is_one_run();
+    live(rt, alloc, config, options, &mut turns, ports, journal, 1);
+    let first = sent_count(ports);
+    live(rt, alloc, config, options, &mut turns, ports, journal, 1);
+    let second = sent_count(ports);
+    live(rt, alloc, config, options, &mut turns, ports, journal, 1);
+    first == 1 && second == 3 && are_replies(ports)
+}
+
+// Whether nothing has passed ports yet, as far as they can tell. So nothing was sent.
+fn is_unused(ports: &MemoryPorts) -> bool
+    ensures { IsTrue result → went_since (Some []) (kept_passages ports.now.passed) ≡ [] }
+{
+    ports.passed().is_empty()
+}
+
+// How many datagrams were sent.
+fn sent_count(ports: &MemoryPorts) -> usize {
+    ports
+        .passed()
+        .iter()
+        .filter(|passed| matches!(passed, Passed::Out(_)))
+        .count()
+}
+
+// Whether an Access-Accept was sent in the first turn, the same octets in the second, and an Access-Reject.
+fn are_replies(ports: &MemoryPorts) -> bool {
+    let mut sent = ports.passed().iter().filter_map(|passed| match passed {
+        Passed::Out(sent) => Some(sent),
+        _ => None,
+    });
+    let (Some(accept), Some(again), Some(reject)) = (sent.next(), sent.next(), sent.next()) else {
+        return false;
+    };
+    accept.turn == 1
+        && again.turn == 2
+        && reject.turn == 2
+        && begins(accept, ACCEPT, 0)
+        && begins(reject, REJECT, 1)
+        && again.octets == accept.octets
+        && sent.next().is_none()
+}
+
+// Whether a datagram has this Code and this Identifier, and goes where the log-ins came from.
+fn begins(sent: &Datagram, code: u8, identifier: u8) -> bool {
+    sent.octets.starts_with(&[code, identifier])
+        && sent.address == CLIENT
+        && sent.port == PORT
+        && sent.door == Door::Auth
+}
