@@ -13,7 +13,7 @@ use Rattle.rad_serve.specs.Lives.{IsOneRun}
 -- a crash leaves nothing of a store that has no entries
 pub leaves_nothing : (store : MemStore) (left : List Kept) → kept_in (memory_view store) ≡ []
     → MayLeave (λ db. db ≡ (memory_view store).committed) left → left ≡ []
-leaves_nothing store left none leaves = leaves.2.2 ∙ ap (λ (db : Trees). entries_of (db table)) leaves.2.1 ∙ none
+leaves_nothing store left none leaves = leaves.2 ∙ ap (λ (db : Trees). entries_of (db table)) leaves.1 ∙ none
 
 -- nothing is one run, however it is written
 pub one_run_of_nothing : (configuration : Configuration) (left : List Kept) (sent : List Went) → left ≡ [] → sent ≡ []

@@ -12,9 +12,9 @@ use rad_auth::Door;
 use rad_config::Config;
 use rad_journal::{JournalFault, Reopen, StoreJournal};
 use rad_serve::{Options, live, nothing_is_one_run};
-use rad_shell::{Datagram, MemoryPorts, OpenGate, Passed, Turns, Unwatched};
+use rad_shell::{Datagram, Gate, MemoryPorts, OpenGate, Passed, Ports, Turns, Unwatched, Watch};
 use rand_chacha::ChaCha20Rng;
-use rand_core::SeedableRng;
+use rand_core::{Rng, SeedableRng};
 use sqlite_trees::memory::MemStore;
 use sqlite_trees::schema::Object;
 use sqlite_trees::store::Shape;
@@ -58,7 +58,21 @@ fn is_right<R: Threads + Wait + Sync>(rt: &R, alloc: Global, config: &Config) ->
     log_in(alloc, &mut ports, 2, 0).ok()?;
     log_in(alloc, &mut ports, 2, 1).ok()?;
     let mut journal = begun(alloc).ok()?;
-    Some(are_three_lives(rt, alloc, config, &options, &mut ports, &mut journal))
+    let mut random = ChaCha20Rng::from_seed([7; 32]);
+    let mut turns = Turns::open(alloc, &mut random, &OpenGate, Unwatched).ok()?;
+    if !is_unused(&ports) {
+        return None;
+    }
+    live_thrice(
+        rt,
+        alloc,
+        config,
+        &options,
+        &mut turns,
+        &mut ports,
+        &mut journal,
+    );
+    Some(ports.turns() == 3 && are_replies(&ports))
 }
 
 // Lets nemo's log-in come in a turn, with an Identifier.
@@ -98,33 +112,31 @@ fn begun(alloc: Global) -> Result<StoreJournal<MemStore>, JournalFault>
     Ok(journal)
 }
 
-// Whether three lives of a turn each answer as one server does.
+// Two lives, and another one. Nothing was kept or sent before.
 #[tactic(auto, using(crate::proofs::LifeLemmas::one_run_of_nothing))]
-fn are_three_lives<R: Threads + Wait + Sync, J: Reopen>(
+fn live_thrice<
+    R: Threads + Wait + Sync,
+    J: Reopen,
+    P: Ports,
+    D: Rng,
+    G: Gate + Sync,
+    W: Watch + Drop,
+>(
     rt: &R,
     alloc: Global,
     config: &Config,
     options: &Options,
-    ports: &mut MemoryPorts,
+    turns: &mut Turns<D, G, W>,
+    ports: &mut P,
     journal: &mut J,
-) -> bool
+)
     requires keeps { IsTrue J.Journal.keeps }
-    requires nothing { (left : List Kept) → J.Journal.may_leave journal.old left → left ≡ [] }
+    requires unkept { (left : List Kept) → J.Journal.may_leave journal.old left → left ≡ [] }
+    requires unsent { went_since (Some []) (P.passed ports.old) ≡ [] }
 {
-    let mut random = ChaCha20Rng::from_seed([7; 32]);
-    let Ok(mut turns) = Turns::open(alloc, &mut random, &OpenGate, Unwatched) else {
-        return false;
-    };
-    if !is_unused(ports) {
-        return false;
-    }
     nothing_is_one_run();
-    live(rt, alloc, config, options, &mut turns, ports, journal, 1);
-    let first = sent_count(ports);
-    live(rt, alloc, config, options, &mut turns, ports, journal, 1);
-    let second = sent_count(ports);
-    live(rt, alloc, config, options, &mut turns, ports, journal, 1);
-    first == 1 && second == 3 && are_replies(ports)
+    live(rt, alloc, config, options, turns, ports, journal, 2);
+    live(rt, alloc, config, options, turns, ports, journal, 1);
 }
 
 // Whether nothing has passed ports yet, as far as they can tell. So nothing was sent.
@@ -132,15 +144,6 @@ fn is_unused(ports: &MemoryPorts) -> bool
     ensures { IsTrue result → went_since (Some []) (kept_passages ports.now.passed) ≡ [] }
 {
     ports.passed().is_empty()
-}
-
-// How many datagrams were sent.
-fn sent_count(ports: &MemoryPorts) -> usize {
-    ports
-        .passed()
-        .iter()
-        .filter(|passed| matches!(passed, Passed::Out(_)))
-        .count()
 }
 
 // Whether an Access-Accept was sent in the first turn, the same octets in the second, and an Access-Reject.
