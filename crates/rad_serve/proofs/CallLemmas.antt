@@ -1,12 +1,8 @@
 -- Calls of turns follow one another, and lead from one server to another.
 use Rattle.std.proofs.Common.{◌≡◌, ◌⊎◌, ℕ, Bool, List, [], ◌++◌, Option, None, OnOk, Result, Ok, Err, inl, inr, refl, sym, ap, subst, ◌∙◌}
 use Rattle.std.proofs.lemmas.List.{append-nil, append_assoc}
-use Rattle.std.proofs.lemmas.List.Elements.{All-nil}
 use Rattle.rad_server.specs.Runs.{HistoriesAfterTime, LeadsTo}
 use Rattle.rad_server.specs.Servers.{Server}
-use Rattle.rad_packet.specs.Bodies.{Body}
-use Rattle.rad_server.specs.declared.answer.Answer.TheVariants.{Send}
-use Rattle.rad_server.specs.declared.entry.Entry.{Entry}
 use Rattle.rad_journal.specs.Leads.{KeptLeadOn, LeadKept}
 use Rattle.rad_journal.specs.declared.kept.Kept.{Kept}
 use Rattle.rad_shell.specs.Serving.{IsServed, LeadsByKept, Outlives, Situation, Tally, UnlessJournal, ended, nothing_done, with_turn}

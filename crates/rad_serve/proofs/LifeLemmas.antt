@@ -1,5 +1,5 @@
 -- A life, from the server that was restored to what a crash leaves of it, goes on with the one run.
-use Rattle.std.proofs.Common.{◌≡◌, ◌⊎◌, ◌≤◌, ℕ, Bool, List, [], ◌∷◌, ◌++◌, map, All, Option, Some, None, IfSome, OnOk, Result, Ok, Err, IsTrue, is_err, refl, sym, ap, subst, ◌∙◌, ⊎_elim}
+use Rattle.std.proofs.Common.{◌≡◌, ◌≤◌, ℕ, Bool, false, List, [], ◌∷◌, ◌++◌, map, All, Option, Some, None, IfSome, OnOk, Result, Ok, Err, IsTrue, is_err, refl, sym, ap, subst, ◌∙◌, ⊎_elim}
 use Rattle.std.proofs.lemmas.List.{append-nil, append_assoc}
 use Rattle.std.proofs.lemmas.List.Elements.{All-append, All-nil, All-weaker}
 use Rattle.rad_config.specs.Configurations.{Configuration}

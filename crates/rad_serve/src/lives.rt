@@ -37,13 +37,7 @@ pub fn live<
     D: Rng,
     G: Gate + Sync,
     W: Watch + Drop,
->(
-    rt: &R,
-    lives: Lives,
-    turns: &mut Turns<D, G, W>,
-    ports: &mut P,
-    journal: &mut J,
-)
+>(rt: &R, lives: Lives, turns: &mut Turns<D, G, W>, ports: &mut P, journal: &mut J)
     requires keeps { IsTrue J.Journal.keeps }
     requires before { J.Journal.is_clean journal.old → AreOneRun lives.config.now
         (J.Journal.may_leave journal.old) (went_since (Some []) (P.passed ports.old)) }
@@ -63,13 +57,7 @@ fn live_once<
     D: Rng,
     G: Gate + Sync,
     W: Watch + Drop,
->(
-    rt: &R,
-    lives: Lives,
-    turns: &mut Turns<D, G, W>,
-    ports: &mut P,
-    journal: &mut J,
-)
+>(rt: &R, lives: Lives, turns: &mut Turns<D, G, W>, ports: &mut P, journal: &mut J)
     requires keeps { IsTrue J.Journal.keeps }
     requires before { J.Journal.is_clean journal.old → AreOneRun lives.config.now
         (J.Journal.may_leave journal.old) (went_since (Some []) (P.passed ports.old)) }

@@ -1,4 +1,4 @@
-use Rattle.std.proofs.Common.{arith, ◌≡◌, List, sym, ap, subst, ◌∙◌}
+use Rattle.std.proofs.Common.{arith, ◌≡◌, ◌≤◌, ℕ, List, Option, sym, ap, subst, ◌∙◌}
 use Rattle.sqlite_trees.specs.Tree.{Trees}
 use Rattle.sqlite_trees.specs.View.{IsClean}
 use Rattle.rad_config.specs.Configurations.{Configuration}
@@ -8,6 +8,8 @@ use Rattle.rad_journal.specs.Restores.{IsRestored}
 use Rattle.rad_journal.specs.Rows.{entries_of, table}
 use Rattle.rad_journal.specs.Stores.{kept_in}
 use Rattle.rad_journal.specs.declared.kept.Kept.{Kept}
+use Rattle.rad_state.specs.Moments.{last_of, moment_of}
+use Rattle.rad_state.specs.declared.moments.Last.{Last}
 use Rattle.rad_serve.specs.Lives.{opened}
 use Rattle.rad_serve.proofs.life.over.Goals as goal
 
@@ -26,3 +28,13 @@ returns-clause-restored g c clean =
     (subst (λ (kept : List Kept). IsRestored c.in_ok-server.server kept c.of.result) same
     (subst (λ (it : Server). IsRestored c.in_ok-server.server (kept_in (S.view c.in_ok-journal.journal.store)) it) (sym c.of.ensures)
     (c.in_ok-server-2.ensures.restored clean)))
+
+-- the first moment is no earlier than that of the file's last entry
+pub returns-clause-later : goal.returns-clause-later
+returns-clause-later g c clean =
+    let S = g.S.Store in
+    let read : IsClean (S.view c.in_ok-journal.journal.store) = c.in_ok-server-2.ensures.clean clean in
+    let found : IsClean (S.view c.in_ok-state.state.store) = omega (arith, c.in_ok-journal.ensures.clean, read) in
+    let last : c.in_ok-state.state.last ≡ last_of (kept_in (S.view c.args.store)) = c.in_ok-state.ensures.times found in
+    subst (λ (it : Option Last). moment_of it ≤ c.from-moments.result.first) last
+    (subst (λ (moment : ℕ). moment_of c.in_ok-state.state.last ≤ moment) (sym c.from-moments.ensures) c.in_ok-meta.ensures.later)

@@ -6,6 +6,6 @@ abbrev pub invariant-loop : goal.invariant-loop
 invariant-loop g l =
     record {
       one_run : g.J.Journal.is_clean l.journal
-          → AreOneRun l.lives.config (g.J.Journal.may_leave l.journal) (went_since (Some []) (g.P.Ports.passed l.ports));
+          → AreOneRun l.lives.config.now (g.J.Journal.may_leave l.journal) (went_since (Some []) (g.P.Ports.passed l.ports));
       clean : g.J.Journal.is_clean l.journal → g.J.Journal.is_clean l.fn.journal;
     }
