@@ -11,7 +11,7 @@ use crate::tests::holds;
 use rad_auth::Door;
 use rad_config::Config;
 use rad_journal::{JournalFault, Reopen, StoreJournal};
-use rad_serve::{Options, live, nothing_is_one_run};
+use rad_serve::{Lives, Options, live, nothing_is_one_run};
 use rad_shell::{Datagram, Gate, MemoryPorts, OpenGate, Passed, Ports, Turns, Unwatched, Watch};
 use rand_chacha::ChaCha20Rng;
 use rand_core::{Rng, SeedableRng};
@@ -44,14 +44,15 @@ fn a_later_life_goes_on(rt: HostRuntime) -> Result<(), Fail> {
     let config = Config::read(rt.alloc(), CAMPUS)?;
     holds(
         &rt,
-        is_right(&rt, rt.alloc(), &config) == Some(true),
+        is_right(&rt, &config) == Some(true),
         "a log-in, in the next life its repeat and another one, and in the last one nothing",
     );
     Ok(())
 }
 
 #[tactic(auto, using(crate::proofs::LifeLemmas::leaves_nothing))]
-fn is_right<R: Threads + Wait + Sync>(rt: &R, alloc: Global, config: &Config) -> Option<bool> {
+fn is_right<R: Threads + Wait + Sync + AllocGlobal>(rt: &R, config: &Config) -> Option<bool> {
+    let alloc = rt.alloc();
     let options = options(alloc, "", "", 0)?;
     let mut ports = MemoryPorts::new(alloc);
     log_in(alloc, &mut ports, 1, 0).ok()?;
@@ -63,15 +64,7 @@ fn is_right<R: Threads + Wait + Sync>(rt: &R, alloc: Global, config: &Config) ->
     if !is_unused(&ports) {
         return None;
     }
-    live_thrice(
-        rt,
-        alloc,
-        config,
-        &options,
-        &mut turns,
-        &mut ports,
-        &mut journal,
-    );
+    live_thrice(rt, config, &options, &mut turns, &mut ports, &mut journal);
     Some(ports.turns() == 3 && are_replies(&ports))
 }
 
@@ -115,7 +108,7 @@ fn begun(alloc: Global) -> Result<StoreJournal<MemStore>, JournalFault>
 // Two lives, and another one. Nothing was kept or sent before.
 #[tactic(auto, using(crate::proofs::LifeLemmas::one_run_of_nothing))]
 fn live_thrice<
-    R: Threads + Wait + Sync,
+    R: Threads + Wait + Sync + AllocGlobal,
     J: Reopen,
     P: Ports,
     D: Rng,
@@ -123,7 +116,6 @@ fn live_thrice<
     W: Watch + Drop,
 >(
     rt: &R,
-    alloc: Global,
     config: &Config,
     options: &Options,
     turns: &mut Turns<D, G, W>,
@@ -135,8 +127,13 @@ fn live_thrice<
     requires unsent { went_since (Some []) (P.passed ports.old) ≡ [] }
 {
     nothing_is_one_run();
-    live(rt, alloc, config, options, turns, ports, journal, 2);
-    live(rt, alloc, config, options, turns, ports, journal, 1);
+    let two = Lives {
+        config,
+        options,
+        count: 2,
+    };
+    live(rt, two, turns, ports, journal);
+    live(rt, Lives { count: 1, ..two }, turns, ports, journal);
 }
 
 // Whether nothing has passed ports yet, as far as they can tell. So nothing was sent.
