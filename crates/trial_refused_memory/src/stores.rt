@@ -142,7 +142,8 @@ fn begun<S: Store + Drop>(alloc: Global, store: S, kept: &[Kept]) -> Option<S>
 
 /// The store of a state with a meta and these entries.
 pub(crate) fn state_with(alloc: Global, kept: &[Kept]) -> Option<MemStore>
-    ensures { IfSome result (λ store. IsOpened (memory_view store)) }
+    ensures { IfSome result (λ store.
+        IsClean (memory_view store) → IsOpened (memory_view store)) }
 {
     begun(alloc, blank(alloc).ok()?, kept)
 }

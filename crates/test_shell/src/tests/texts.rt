@@ -25,10 +25,7 @@ fn serve_faults_are_printed(rt: HostRuntime) {
         (ServeFault::Receive, "receive failed"),
         (ServeFault::Send, "send failed"),
         (ServeFault::Mismatch, "mismatch"),
-        (
-            ServeFault::Journal(JournalFault::Full),
-            "it is full",
-        ),
+        (ServeFault::Journal(JournalFault::Full), "it is full"),
     ];
     for row in ROWS.iter() {
         holds(&rt, is_serve_fault(rt.alloc(), row.0, row.1), row.1);
