@@ -77,9 +77,10 @@ pub(crate) fn over<'c, R: Files + Clock + Eprint + AllocGlobal, S: Store + Drop>
         (λ meta. Fits meta text.now)) }
 {
     let clocks = clocks(rt).ok_or(ServeError::Clocks)?;
+    // Read with the clocks: moments that began later would lag behind those of the next life.
+    let now = Moments::from(rt, 0);
     let state = State::open(rt.alloc(), store, text)?;
     let (meta, moment) = next_meta(rt.alloc(), &state, &clocks, text)?;
-    let moments = Moments::from(rt, moment);
     let journal = state.into_journal(rt.alloc())?;
     let kept = journal.count().unwrap_or(0);
     if kept >= MANY_ENTRIES {
@@ -94,7 +95,10 @@ pub(crate) fn over<'c, R: Files + Clock + Eprint + AllocGlobal, S: Store + Drop>
     Ok(Life {
         service: Service::of(rt.alloc(), server),
         random,
-        moments,
+        moments: Moments {
+            first: moment,
+            ..now
+        },
         journal,
     })
 }

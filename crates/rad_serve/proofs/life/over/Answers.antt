@@ -1,4 +1,4 @@
-use Rattle.std.proofs.Common.{arith, ◌≡◌, ◌≤◌, ℕ, List, Option, sym, ap, subst, ◌∙◌}
+use Rattle.std.proofs.Common.{arith, ◌≡◌, ◌≤◌, List, Option, sym, ap, subst, ◌∙◌}
 use Rattle.sqlite_trees.specs.Tree.{Trees}
 use Rattle.sqlite_trees.specs.View.{IsClean}
 use Rattle.rad_config.specs.Configurations.{Configuration}
@@ -36,5 +36,4 @@ returns-clause-later g c clean =
     let read : IsClean (S.view c.in_ok-journal.journal.store) = c.in_ok-server-2.ensures.clean clean in
     let found : IsClean (S.view c.in_ok-state.state.store) = omega (arith, c.in_ok-journal.ensures.clean, read) in
     let last : c.in_ok-state.state.last ≡ last_of (kept_in (S.view c.args.store)) = c.in_ok-state.ensures.times found in
-    subst (λ (it : Option Last). moment_of it ≤ c.from-moments.result.first) last
-    (subst (λ (moment : ℕ). moment_of c.in_ok-state.state.last ≤ moment) (sym c.from-moments.ensures) c.in_ok-meta.ensures.later)
+    subst (λ (it : Option Last). moment_of it ≤ c.in_ok-meta.moment) last c.in_ok-meta.ensures.later
