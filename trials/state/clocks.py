@@ -25,17 +25,17 @@ def another_boot(configuration, ask):
         ended(server)
     with boots() as boot:
         for number, is_booted, shift, user, gets in (
-            (2, False, HOUR, b"bo", None),
-            (3, True, 0, b"bo", None),
+            (2, False, HOUR, b"bo", b""),
+            (3, True, 0, b"bo", b""),
             (4, True, HOUR, b"bo", first),
-            (5, True, -HOUR, b"cy", None),
+            (5, True, -HOUR, b"cy", b""),
         ):
             system.tell("shift", shift)
             if is_booted:
                 boot()
             with living(state, **options) as server:
                 reply = ask(server.auth, access_request(number, user))
-                judge(attribute(reply, 8) == gets, f"{user} gets {gets} where the time of day is wrong by {shift} seconds: {reply}")
+                judge(attribute(reply, 8) == gets, f"{user} gets the address {gets} where the time of day is wrong by {shift} seconds: {reply}")
                 ended(server, signal.SIGTERM)
     print("clocks: after another boot a state goes on by the time of day, and never back")
 
