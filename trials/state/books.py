@@ -16,6 +16,7 @@ from serving import attribute, judge, path
 
 
 LAG = 1.0  # seconds that moments may be behind the boot clock
+ROUNDED = 0.002  # seconds by which a span may seem shorter: moments are whole milliseconds, counted anew in each life
 
 
 class Session:
@@ -62,7 +63,7 @@ class Books:
     """The books of gateways, whose server has these spans."""
 
     def __init__(self, asked, spans):
-        self.asked, self.window, self.hold = asked, spans.window, spans.hold
+        self.asked, self.window, self.hold = asked, spans.window - ROUNDED, spans.hold - ROUNDED
         self.count = sum(len(one.replies) for one in asked)
         self.sessions = self.granted()
         for one in asked:

@@ -148,8 +148,9 @@ class Known:
 
     def __init__(self, load, spans):
         now = time.monotonic()
-        sessions = Books(load.books, spans).sessions.values()
-        self.open = [session for session in sessions if not session.may_have_ended(now, spans.hold)]
+        books = Books(load.books, spans)
+        sessions = books.sessions.values()
+        self.open = [session for session in sessions if not session.may_have_ended(now, books.hold)]
         self.unclear = [session for session in sessions if session not in self.open and not session.has_ended(now, spans.hold)]
         judge(len(self.open) > 20, f"some sessions are open for certain: {len(self.open)}, and perhaps {len(self.unclear)}")
 
