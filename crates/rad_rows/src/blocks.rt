@@ -1,8 +1,8 @@
 //! What is done to the block that a number belongs to, and to the row of blocks.
-ghost use Rattle.std.specs.Prelude.{◌≡◌, ◌<◌, ◌-◌, ◌*◌, ◌++◌, ◌∷◌, [], All, OnOk, false, filter, find, length, option_copied, slice_get, true};
+ghost use Rattle.std.specs.Prelude.{◌≡◌, ℕ, ◌<◌, ◌-◌, ◌*◌, ◌++◌, ◌∷◌, [], All, OnErr, OnOk, false, filter, find, length, option_copied, slice_get, true};
 ghost use Rattle.indexmap.specs.IndexMap.{keys};
 ghost use Rattle.rad_rows.specs.Blocks.{block_changed, block_mapped, block_without};
-ghost use Rattle.rad_rows.specs.Entries.{Ascends, EntryLives, IsGrouped, IsPlaced, IsSound, all_rows, has_room_at, has_rows, is_at_key, key_of, on_blocks};
+ghost use Rattle.rad_rows.specs.Entries.{Ascends, EntryLives, IsGrouped, IsPlaced, IsSound, IsUpTo, all_rows, has_room_at, has_rows, is_at_key, key_of, on_blocks};
 ghost use Rattle.rad_rows.specs.Rows.{has_number};
 
 use crate::block::{BLOCK, Block};
@@ -155,7 +155,8 @@ pub(crate) fn make_room<T: Row<S>, S: Copy>(
     try_room(blocks, bounds, spans, key, bound)
 }
 
-fn try_room<T: Row<S>, S: Copy>(
+/// The same with one try, and nothing is taken out.
+pub(crate) fn try_room<T: Row<S>, S: Copy>(
     blocks: &mut IndexMap<u64, Block<T, S>>,
     bounds: &mut Vec<u64>,
     spans: &S,
@@ -168,6 +169,9 @@ fn try_room<T: Row<S>, S: Copy>(
     ensures grouped { IsGrouped T.is_live bounds.new.items blocks.new.entries }
     ensures rows { all_rows blocks.new.entries ≡ all_rows blocks.old.entries }
     ensures ready { OnOk result (has_room_at key blocks.new.entries ≡ true) }
+    // After an error no block is new.
+    ensures unready { OnErr result ((top : ℕ) →
+        All (IsUpTo top) blocks.old.entries → All (IsUpTo top) blocks.new.entries) }
 {
     groups::grow(bounds, blocks.len())?;
     if is_last(blocks, key) {
@@ -226,7 +230,8 @@ fn add<T: Row<S>, S: Copy>(
     ensures { IsSound T.number T.is_live spans.now bound key blocks.new.entries
         × (all_rows blocks.new.entries ≡ all_rows blocks.old.entries)
         × IsGrouped T.is_live bounds.now blocks.new.entries
-        × OnOk result (has_room_at key blocks.new.entries ≡ true) }
+        × OnOk result (has_room_at key blocks.new.entries ≡ true)
+        × OnErr result (blocks.new.entries ≡ blocks.old.entries) }
 {
     let block = Block::open(*blocks.allocator(), *spans)?;
     match blocks.insert(key, block) {

@@ -177,6 +177,47 @@ impl<T: Row<S>, S: Copy> Rows<T, S> {
         self.ready = false;
     }
 
+    /// Puts a row last, whose number is above the last that was given. The numbers between are given to none.
+    ///
+    /// After an error the rows and the last number are as before.
+    pub fn restore(&mut self, row: T) -> Result<(), AllocError>
+        requires { self.old.last < T.number row }
+        ensures rows { OnOk result (self.new.rows ≡ self.old.rows ++ row ∷ []) }
+        ensures last { OnOk result (self.new.last ≡ T.number row) }
+        ensures same_rows { OnErr result (self.new.rows ≡ self.old.rows) }
+        ensures same_last { OnErr result (self.new.last ≡ self.old.last) }
+        ensures spans { self.new.spans ≡ self.old.spans }
+        ensures room { self.new.has_room ≡ false }
+    {
+        self.room_at(row.number())?;
+        self.push(row);
+        Ok(())
+    }
+
+    // Makes memory ready for a row of this number, which is the next then.
+    fn room_at(&mut self, number: u64) -> Result<(), AllocError>
+        requires { self.old.last < number }
+        ensures rows { self.new.rows ≡ self.old.rows }
+        ensures spans { self.new.spans ≡ self.old.spans }
+        ensures last { OnOk result (self.new.last + 1 ≡ number) }
+        ensures ready { OnOk result (self.new.has_room ≡ true) }
+        ensures same_last { OnErr result (self.new.last ≡ self.old.last) }
+        ensures unready { OnErr result (self.new.has_room ≡ false) }
+    {
+        self.ready = false;
+        let Rows {
+            blocks,
+            bounds,
+            spans,
+            bound,
+            ..
+        } = self;
+        blocks::try_room(blocks, bounds, spans, number / BLOCK, *bound)?;
+        self.last = number - 1;
+        self.ready = true;
+        Ok(())
+    }
+
     /// Removes the row of this number. With a number of no row nothing changes.
     pub fn remove(&mut self, number: u64)
         ensures rows { self.new.rows ≡ filter (has_other T.number number) self.old.rows }
@@ -260,29 +301,14 @@ impl<T: Row<S>, S: Copy> Rows<T, S> {
         let mut copy = Rows::open(*self.blocks.allocator(), self.spans);
         let mut rest = self.iter();
         while let Some(row) = rest.next() {
-            copy.push_copy(row)?;
+            copy.restore(row.copy()?)?;
         }
         copy.skip(last);
         Ok(copy)
     }
 
-    // Puts an equal row last. The numbers between are given to none.
-    fn push_copy(&mut self, row: &T) -> Result<(), AllocError>
-        requires { self.old.last < T.number row.now }
-        ensures rows { OnOk result (self.new.rows ≡ self.old.rows ++ row.now ∷ []) }
-        ensures last { OnOk result (self.new.last ≡ T.number row.now) }
-        ensures spans { self.new.spans ≡ self.old.spans }
-        ensures room { OnOk result (self.new.has_room ≡ false) }
-    {
-        self.skip(row.number() - 1);
-        self.room()?;
-        let row = row.copy()?;
-        self.push(row);
-        Ok(())
-    }
-
-    // Gives the numbers up to this one to no row.
-    fn skip(&mut self, last: u64)
+    /// Gives the numbers up to this one to no row. No memory is ready then.
+    pub fn skip(&mut self, last: u64)
         requires { self.old.last ≤ last }
         ensures rows { self.new.rows ≡ self.old.rows }
         ensures last { self.new.last ≡ last }
