@@ -407,6 +407,39 @@ rows_granted rows rows' session old new h open' few is none comes = record {
   room = λ r. absurd (true≢false (sym r ∙ none));
 }
 
+-- ---- a session that is put back
+
+-- one that is open comes
+pub rows_back_open : (rows rows' : SeenRows Session Spans) (session : Session) (old new : Counts) → HoldsCounts rows.rows old
+    → (session.phase ≡ Ended → ⊥) → length rows.rows + 1 < 2 ^ 64 → rows'.rows ≡ rows.rows ++ session ∷ [] → rows'.has_room ≡ false
+    → Comes old session new → CountsRows rows' new
+rows_back_open rows rows' session old new h other few is none comes = record {
+  holds = holds_granted rows.rows rows'.rows session old new h (opens session.phase other) few is comes;
+  room = λ r. absurd (true≢false (sym r ∙ none));
+}
+  where
+    opens : (phase : Phase) → (phase ≡ Ended → ⊥) → is_open phase ≡ true
+    opens Pending other = refl
+    opens Active other = refl
+    opens Ended other = absurd (other refl)
+
+-- one that has ended comes as an open one, and ends then
+pub rows_back_ended : (rows rows' : SeenRows Session Spans) (session : Session) (old mid new : Counts) → HoldsCounts rows.rows old
+    → session.phase ≡ Ended → length rows.rows + 1 < 2 ^ 64 → rows'.rows ≡ rows.rows ++ session ∷ [] → rows'.has_room ≡ false
+    → Comes old session mid → Ends mid (Some (record session { phase = Active })) new → CountsRows rows' new
+rows_back_ended rows rows' session old mid new h ended few is none comes ends =
+    let opened : Session = record session { phase = Active } in
+    let come : Comes old opened mid
+    = record { users = comes.users; grants = comes.grants; sources = comes.sources; pools = comes.pools; outside = comes.outside } in
+    let open_holds : HoldsCounts (rows.rows ++ opened ∷ []) mid
+    = holds_granted rows.rows (rows.rows ++ opened ∷ []) opened old mid h refl few refl come in
+    let same : session ≡ session_ended opened = ap (λ (phase : Phase). record session { phase = phase }) ended in
+    record {
+      holds = subst (λ xs. HoldsCounts xs new) (ap (λ x. rows.rows ++ x ∷ []) (sym same) ∙ sym is)
+          (holds_between rows.rows [] opened mid new open_holds ends);
+      room = λ r. absurd (true≢false (sym r ∙ none));
+    }
+
 -- ---- a session by its number
 
 both : (a b : Bool) → (a && b) ≡ true → (a ≡ true) × (b ≡ true)

@@ -92,7 +92,7 @@ least_freed dead places old new first free used told =
 
 -- ---- the least free address of a pool
 
-held_is : (address : ℕ) (sessions : List Session) → is_held sessions address ≡ ltb 0 (held_by address sessions)
+pub held_is : (address : ℕ) (sessions : List Session) → is_held sessions address ≡ ltb 0 (held_by address sessions)
 held_is address [] = refl
 held_is address (x ∷ sessions) = by_test (has_address address x) refl (held_is address sessions)
   where

@@ -16,6 +16,7 @@ use Rattle.rad_config.specs.declared.pool.Pool.{Pool}
 use Rattle.rad_config.specs.declared.spans.Spans.{Spans}
 use Rattle.rad_pool.specs.Grants.{address_from, grant_limit, granted, has_address, is_held, is_limited, last_number, least_free, open_sessions, pool_of, session_limit, sessions_of, with_session}
 use Rattle.rad_pool.specs.Lawful.{HaveOwnAddresses, IsInPool, IsLawful, IsLawfulSession}
+use Rattle.rad_pool.specs.Restored.{with_row}
 use Rattle.rad_pool.specs.Sessions.{Sessions, cut, if_numbered, is_live, is_open, opening, renewed, session_ended, session_renewed, session_reset, sessions_max, source_reset, stopped, with_each}
 use Rattle.rad_pool.specs.declared.grant.Grant.{Grant}
 use Rattle.rad_pool.specs.declared.grant.Refusal.{Refusal}
@@ -72,7 +73,7 @@ found_in_range fits first n found is =
 -- ---- ladders
 
 -- a ladder that gives a value has passed each check, and has got a value of each step
-past_refusal : {B E : Type 0} (refused : Bool) (refusal : E) (next : Unit {0} → Result B E) (value : B)
+pub past_refusal : {B E : Type 0} (refused : Bool) (refusal : E) (next : Unit {0} → Result B E) (value : B)
     → (refuse_if refused refusal >>= next) ≡ Ok value → (refused ≡ false) × (next tt ≡ Ok value)
 past_refusal true refusal next value is = absurd (cc)
 past_refusal false refusal next value is = (refl, is)
@@ -160,7 +161,7 @@ address_is_free sessions (Some pool) address is = by_search (least_free sessions
 
 -- what a grant says of the table
 record AllowsGrant (configuration : Configuration) (user : ℕ) (table : Sessions) (grant : Grant) : Type 0 where
-  below : open_sessions user table.sessions < session_limit configuration user
+  below : nat_le (session_limit configuration user) (open_sessions user table.sessions) ≡ false
   spared : is_reached (grant_limit configuration user) (sessions_of user table.sessions) ≡ false
   address : address_from table.sessions (pool_of configuration user) ≡ Ok grant.address
   few : length table.sessions < sessions_max
@@ -186,7 +187,7 @@ granted_says configuration user table grant is =
     let same : made ≡ grant = cc in
     let address_in : Grant → Result (Option ℕ) Refusal = λ g. Ok g.address in
     record {
-      below = leb-false (session_limit configuration user) (open_sessions user table.sessions) limits.0;
+      below = limits.0;
       spared = limits.1;
       address = addressed.1 ∙ ap address_in same;
       few = leb-false sessions_max (length table.sessions) parts.0;
@@ -194,57 +195,64 @@ granted_says configuration user table grant is =
       number = sym (ap (λ (g : Grant). g.number) same);
     }
 
--- a session that is granted is lawful by itself
-new_is_lawful : (configuration : Configuration) (client source user now : ℕ) (grant : Grant) (table : Sessions)
-    → client < length configuration.clients → user < length configuration.users → AllowsGrant configuration user table grant → 1 ≤ table.next
-    → IsLawfulSession configuration now (table.next + 1) (record {
-      number = grant.number;
-      client = client;
-      source = source;
-      user = user;
-      address = grant.address;
-      phase = Pending;
-      made = now;
-      seen = now;
-    })
-new_is_lawful configuration client source user now grant table known_client known_user facts counted = record {
-  number = (omega arith, omega arith);
-  client = known_client;
-  user = known_user;
-  address = IfSome_then grant.address (address_is_free table.sessions (pool_of configuration user) grant.address facts.address) (λ given free. free.0);
-  seen = (omega arith, omega arith);
+-- ---- one session more
+
+-- what a session has to be, to come last in a lawful table with its number
+pub record CanFollow (configuration : Configuration) (clock : ℕ) (row : Session) (table : Sessions) : Type 0 where
+  pub rises : table.next ≤ row.number
+  pub last : row.number ≤ last_number
+  pub lawful : IsLawfulSession configuration clock (row.number + 1) row
+  pub free : IfSome row.address (λ given. is_held table.sessions given ≡ false)
+  pub below : (is_open row.phase && nat_le (session_limit configuration row.user) (open_sessions row.user table.sessions)) ≡ false
+  pub spared : is_reached (grant_limit configuration row.user) (sessions_of row.user table.sessions) ≡ false
+  pub few : length table.sessions < sessions_max
+
+-- a lawful session is so beside a greater next number
+pub lawful_below : (configuration : Configuration) (clock next later : ℕ) → next ≤ later → (session : Session)
+    → IsLawfulSession configuration clock next session → IsLawfulSession configuration clock later session
+lawful_below configuration clock next later more session known = record {
+  number = (known.number.0, omega (arith, known.number.1, more));
+  client = known.client;
+  user = known.user;
+  address = known.address;
+  seen = known.seen;
 }
 
--- one more open session of a user who may have one more
-limits_with_session : (configuration : Configuration) (user other : ℕ) (sessions : List Session) (new : Session)
-    → new.user ≡ user → open_sessions user sessions < session_limit configuration user
+-- one more session, open or not, of a user who may have one more like it
+limits_with_session : (configuration : Configuration) (other : ℕ) (sessions : List Session) (new : Session)
+    → (is_open new.phase && nat_le (session_limit configuration new.user) (open_sessions new.user sessions)) ≡ false
     → open_sessions other sessions ≤ session_limit configuration other
     → open_sessions other (sessions ++ new ∷ []) ≤ session_limit configuration other
-limits_with_session configuration user other sessions new own below within =
-    let counted : Session → ℕ = λ session. cond ((session.user == other) && is_open session.phase) 1 0 in
-    by_test (new.user == other) refl (sum_by_push counted sessions new)
+limits_with_session configuration other sessions new below within =
+    by_test (new.user == other) refl (is_open new.phase) refl
+    (sum_by_push (λ session. cond {A = ℕ} ((session.user == other) && is_open session.phase) 1 0) sessions new)
   where
-    at_most_one : (b : Bool) → cond b 1 0 ≤ 1
-    at_most_one true = omega arith
-    at_most_one false = omega arith
+    one : ℕ
+    one = cond ((new.user == other) && is_open new.phase) 1 0
 
-    by_test : (b : Bool) → (new.user == other) ≡ b
-        → open_sessions other (sessions ++ new ∷ []) ≡ open_sessions other sessions + cond ((new.user == other) && is_open new.phase) 1 0
+    by_test : (b : Bool) → (new.user == other) ≡ b → (o : Bool) → is_open new.phase ≡ o
+        → open_sessions other (sessions ++ new ∷ []) ≡ open_sessions other sessions + one
         → open_sessions other (sessions ++ new ∷ []) ≤ session_limit configuration other
-    by_test true is sum =
-        let same : user ≡ other = sym own ∙ eqb-true new.user other is in
-        let room = subst (λ u. open_sessions u sessions < session_limit configuration u) same below in
-        omega (arith, sum, room, at_most_one ((new.user == other) && is_open new.phase))
-    by_test false is sum =
-        let none : ◌≡◌ {A = ℕ} (cond ((new.user == other) && is_open new.phase) 1 0) 0 = rw is refl in
+    by_test false is o e sum =
+        let none : one ≡ 0 = ap (λ b. cond {A = ℕ} (b && is_open new.phase) 1 0) is in
         omega (arith, sum, none, within)
+    by_test true is false e sum =
+        let none : one ≡ 0 = λ j. cond {A = ℕ} (is j && e j) 1 0 in
+        omega (arith, sum, none, within)
+    by_test true is true e sum =
+        let counted : one ≡ 1 = λ j. cond {A = ℕ} (is j && e j) 1 0 in
+        let limit : ℕ = session_limit configuration new.user in
+        let full : Bool = nat_le limit (open_sessions new.user sessions) in
+        let less = leb-false limit (open_sessions new.user sessions) (sym (ap (λ b. b && full) e) ∙ below) in
+        let room = subst (λ u. open_sessions u sessions < session_limit configuration u) (eqb-true new.user other is) less in
+        omega (arith, sum, counted, room)
 
 -- one more session of a user who may have one more
-grants_with_session : (configuration : Configuration) (user other : ℕ) (sessions : List Session) (new : Session)
-    → new.user ≡ user → is_reached (grant_limit configuration user) (sessions_of user sessions) ≡ false
+grants_with_session : (configuration : Configuration) (other : ℕ) (sessions : List Session) (new : Session)
+    → is_reached (grant_limit configuration new.user) (sessions_of new.user sessions) ≡ false
     → IfSome (grant_limit configuration other) (λ most. sessions_of other sessions ≤ most)
     → IfSome (grant_limit configuration other) (λ most. sessions_of other (sessions ++ new ∷ []) ≤ most)
-grants_with_session configuration user other sessions new own spared within =
+grants_with_session configuration other sessions new spared within =
     by_test (new.user == other) refl (sum_by_push (λ (session : Session). cond {A = ℕ} (session.user == other) 1 0) sessions new)
   where
     not_reached : (limit : Option ℕ) (count more : ℕ) → is_reached limit count ≡ false → more ≡ count + 1 → IfSome limit (λ most. more ≤ most)
@@ -254,9 +262,8 @@ grants_with_session configuration user other sessions new own spared within =
     by_test : (b : Bool) → (new.user == other) ≡ b → sessions_of other (sessions ++ new ∷ []) ≡ sessions_of other sessions + cond (new.user == other) 1 0
         → IfSome (grant_limit configuration other) (λ most. sessions_of other (sessions ++ new ∷ []) ≤ most)
     by_test true is sum =
-        let same : user ≡ other = sym own ∙ eqb-true new.user other is in
         not_reached (grant_limit configuration other) (sessions_of other sessions) _
-        (subst (λ u. is_reached (grant_limit configuration u) (sessions_of u sessions) ≡ false) same spared)
+        (subst (λ u. is_reached (grant_limit configuration u) (sessions_of u sessions) ≡ false) (eqb-true new.user other is) spared)
         (sum ∙ ap (λ b. sessions_of other sessions + cond {A = ℕ} b 1 0) is)
     by_test false is sum =
         let none : ◌≡◌ {A = ℕ} (cond (new.user == other) 1 0) 0 = rw is refl in
@@ -286,6 +293,24 @@ addresses_with_session sessions new own free one other address there here is sam
     by_cases (inr first) (inl second) = absurd (is_free other second same (ap (λ s. s.address) first ∙ is))
     by_cases (inr first) (inr second) = ap (λ s. s.number) (sym first ∙ second)
 
+pub with_row_is_lawful : (configuration : Configuration) (clock : ℕ) (row : Session) (table : Sessions)
+    → CanFollow configuration clock row table → IsLawful configuration clock table → IsLawful configuration clock (with_row row table)
+with_row_is_lawful configuration clock row table follows lawful =
+    let sessions : List Session = table.sessions in
+    record {
+      next = (omega arith, omega (arith, follows.last));
+      few = omega (arith, length_push sessions row, follows.few);
+      rising = all_pairs_push (λ (earlier later : Session). earlier.number < later.number) sessions row lawful.rising
+          (λ k d within. omega (arith, (lawful.sessions k d within).number.1, follows.rises));
+      sessions = All-push (IsLawfulSession configuration clock (row.number + 1)) sessions row
+          (All-weaker (IsLawfulSession configuration clock table.next) (IsLawfulSession configuration clock (row.number + 1))
+          (lawful_below configuration clock table.next (row.number + 1) (omega (arith, follows.rises))) sessions lawful.sessions)
+          follows.lawful;
+      limits = λ other. limits_with_session configuration other sessions row follows.below (lawful.limits other);
+      grants = λ other. grants_with_session configuration other sessions row follows.spared (lawful.grants other);
+      addresses = addresses_with_session sessions row lawful.addresses follows.free;
+    }
+
 pub with_session_is_lawful : (configuration : Configuration) (client source user now : ℕ) (grant : Grant) (table : Sessions)
     → client < length configuration.clients → user < length configuration.users → granted configuration user table ≡ Ok grant
     → IsLawful configuration now table → IsLawful configuration now (with_session client source user now grant table)
@@ -293,25 +318,24 @@ with_session_is_lawful configuration client source user now grant table known_cl
     let sessions : List Session = table.sessions in
     let facts = granted_says configuration user table grant is in
     let new : Session = record { number = grant.number; client = client; source = source; user = user; address = grant.address; phase = Pending; made = now; seen = now } in
-    let first : 1 ≤ table.next = lawful.next.0 in
-    record {
-      next = (omega arith, omega (arith, facts.last));
-      few = omega (arith, length_push sessions new, facts.few);
-      rising = all_pairs_push (λ (earlier later : Session). earlier.number < later.number) sessions new lawful.rising (λ k d within. omega (arith, (lawful.sessions k d within).number.1, facts.number));
-      sessions = All-push (IsLawfulSession configuration now (table.next + 1)) sessions new
-          (All-weaker (IsLawfulSession configuration now table.next) (IsLawfulSession configuration now (table.next + 1)) (λ session known. record {
-            number = (known.number.0, omega (arith, known.number.1));
-            client = known.client;
-            user = known.user;
-            address = known.address;
-            seen = known.seen;
-          }) sessions lawful.sessions)
-          (new_is_lawful configuration client source user now grant table known_client known_user facts first);
-      limits = λ other. limits_with_session configuration user other sessions new refl facts.below (lawful.limits other);
-      grants = λ other. grants_with_session configuration user other sessions new refl facts.spared (lawful.grants other);
-      addresses = addresses_with_session sessions new lawful.addresses
-          (IfSome_then grant.address (address_is_free sessions (pool_of configuration user) grant.address facts.address) (λ given free. free.1));
-    }
+    let free = address_is_free sessions (pool_of configuration user) grant.address facts.address in
+    let whole = with_row_is_lawful configuration now new table (record {
+      rises = omega (arith, facts.number);
+      last = omega (arith, facts.number, facts.last);
+      lawful = record {
+        number = (omega (arith, facts.number, lawful.next.0), omega arith);
+        client = known_client;
+        user = known_user;
+        address = IfSome_then grant.address free (λ given both. both.0);
+        seen = (omega arith, omega arith);
+      };
+      free = IfSome_then grant.address free (λ given both. both.1);
+      below = facts.below;
+      spared = facts.spared;
+      few = facts.few;
+    }) lawful in
+    subst (λ n. IsLawful configuration now (record { sessions = sessions ++ new ∷ []; next = n + 1; spans = table.spans }))
+    facts.number whole
 
 -- ---- reports
 

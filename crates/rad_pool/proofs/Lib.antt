@@ -6,3 +6,4 @@ mod InsideLemmas
 mod CountLemmas
 mod DeadLemmas
 mod HolderLemmas
+mod RestoreLemmas

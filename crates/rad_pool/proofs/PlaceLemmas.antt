@@ -20,7 +20,7 @@ abbrev pub is_at : ℕ → Option ℕ → Bool
 is_at address None = false
 is_at address (Some held) = eqb held address
 
-has_is : (address : ℕ) (x : Session) → has_address address x ≡ is_at address x.address
+pub has_is : (address : ℕ) (x : Session) → has_address address x ≡ is_at address x.address
 has_is address x = by x.address
   where
     by : (o : Option ℕ) → has_address address (record x { address = o }) ≡ is_at address o

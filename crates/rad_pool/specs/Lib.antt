@@ -5,5 +5,6 @@ pub mod Lawful
 pub mod Links
 pub mod Meant
 pub mod Reports
+pub mod Restored
 pub mod Sessions
 pub mod Sources

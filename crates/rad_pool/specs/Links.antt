@@ -1,5 +1,5 @@
 -- The room of the chains of open sessions: all that contracts say of them.
-use Rattle.std.specs.Prelude.{ℕ, ◌<◌, ◌≤◌}
+use Rattle.std.specs.Prelude.{◌<◌, ◌≤◌}
 use Rattle.indexmap.specs.IndexMap.{spare}
 use Rattle.rad_pool.specs.declared.links.Links.{Links}
 

@@ -3,10 +3,11 @@
 //!
 //! `Sessions` is a list, oldest first, which `expire` and `grant` cut to the live sessions. `grant` adds a session with the least
 //! free address of the user's pool, `start`, `renew`, `stop` and `end_source` follow what is reported, and `find` is how an
-//! Accounting-Request names one.
+//! Accounting-Request names one. `restore` and `restore_last` put back what a table once held.
 //!
-//! Other crates rest on this: what each call does to the list is what `specs/Sessions.antt`, `specs/Grants.antt` and
-//! `specs/Meant.antt` say. `lawful_sessions` says what these calls keep true of a lawful table (`specs/Lawful.antt`).
+//! Other crates rest on this: what each call does to the list is what `specs/Sessions.antt`, `specs/Grants.antt`,
+//! `specs/Meant.antt` and `specs/Restored.antt` say. `lawful_sessions` says what these calls keep true of a lawful table
+//! (`specs/Lawful.antt`).
 //!
 //! `rad_rows` has the sessions under their numbers. How many open sessions each user and each source has and which addresses are in
 //! use is counted beside it, with `indexmap` and `rad_places`. All of that is known to this crate alone.
@@ -20,6 +21,7 @@ mod grant;
 mod lawful;
 mod links;
 mod report;
+mod restore;
 mod row;
 mod session;
 mod sessions;

@@ -1,10 +1,12 @@
 //! The table of sessions.
-ghost use Rattle.std.specs.Prelude.{◌≡◌, ◌≤◌, ◌<◌, ◌↔◌, ◌||◌, nat_le, IsTrue, length, IfOk, IsErrOf, IsOk, OnOk, false, true};
+ghost use Rattle.std.specs.Prelude.{◌≡◌, ◌≤◌, ◌<◌, ◌+◌, ◌↔◌, ◌==◌, ◌||◌, find, nat_le, IsTrue, length, IfOk, IsErrOf, IsOk, OnErr, OnOk, false, true};
 ghost use Rattle.std.specs.Iterator.{YieldsFirst, item_count};
 ghost use Rattle.rad_config.specs.Configurations.{is_reached};
 ghost use Rattle.rad_config.specs.Spans.{moment_max, spans_of};
+ghost use Rattle.rad_restore_fault.specs.Answers.{IsAnswer};
 ghost use Rattle.rad_pool.specs.Grants.{IsGranted, granted, with_session};
 ghost use Rattle.rad_pool.specs.Meant.{meant};
+ghost use Rattle.rad_pool.specs.Restored.{last_restorable, restorable, with_last, with_row};
 ghost use Rattle.rad_pool.specs.Sessions.{AreSame, cut, opening, renewed, source_reset, stopped};
 
 use crate::counts::Counts;
@@ -12,8 +14,9 @@ use crate::grant::{Grant, Refusal};
 use crate::report::Report;
 use crate::session::{Phase, Session};
 use crate::users::UserCounts;
-use crate::{changes, found, free, users};
+use crate::{changes, found, free, restore, users};
 use rad_config::{Config, Spans, User};
+use rad_restore_fault::RestoreFault;
 use rad_rows::{HashKey, Iter};
 use std::alloc::{AllocError, Global};
 use std::marker::Model;
@@ -78,6 +81,20 @@ impl Sessions {
         Rows {
             rest: self.rows.iter(),
         }
+    }
+
+    /// The session of this number, also one that is no longer live.
+    pub fn get(&self, number: u64) -> Option<Session>
+        ensures { result ≡ find (λ session. session.number == number) self.now.table.sessions }
+    {
+        self.rows.get(number).copied()
+    }
+
+    /// The last number that was given, or 0.
+    pub fn last(&self) -> u64
+        ensures { self.now.table.next ≡ result + 1 }
+    {
+        self.rows.last()
     }
 
     /// Removes the sessions that are no longer live.
@@ -187,6 +204,42 @@ impl Sessions {
         changes::add(&mut self.rows, &mut self.counts, session);
     }
 
+    /// Puts back a row that a table once held, after the others; rows are put back in the order of their numbers.
+    ///
+    /// `row` is that of a session, live or ended, with the number that it had; the next number is the one after it. `clock` is the
+    /// moment that the clock shows, in milliseconds. Of a lawful table, it is done exactly where the table with the row is lawful
+    /// and the number wasn't given yet. The first of these that applies is refused: the number doesn't rise, the client or the user
+    /// is no place of the configuration, the session was seen before it was made or after the clock, its address isn't in its
+    /// user's pool, or is another session's, the user has as many sessions as allowed, and there are `SESSIONS_MAX` sessions;
+    /// `NoMemory` comes last. After a refusal the table is as it was.
+    pub fn restore(&mut self, config: &Config, row: Session, clock: u64) -> Result<(), RestoreFault>
+        ensures answer { IsAnswer (restorable config.now clock row self.old.table) result }
+        ensures restored { OnOk result (self.new.table ≡ with_row row self.old.table) }
+        ensures unchanged { OnErr result (self.new.table ≡ self.old.table) }
+    {
+        restore::check(&self.rows, &self.counts, config, row, clock)?;
+        if restore::restore(&mut self.rows, &mut self.counts, row).is_err() {
+            return Err(RestoreFault::NoMemory);
+        }
+        Ok(())
+    }
+
+    /// Puts back the last number that was given, once the rows are back. They don't tell it: sessions with greater numbers may have
+    /// come and gone, and a number is given only once.
+    ///
+    /// A number that is less than the last is refused, and then nothing changes.
+    pub fn restore_last(&mut self, last: u64) -> Result<(), RestoreFault>
+        ensures answer { result ≡ last_restorable last self.old.table }
+        ensures restored { OnOk result (self.new.table ≡ with_last last self.old.table) }
+        ensures unchanged { OnErr result (self.new.table ≡ self.old.table) }
+    {
+        if last < self.rows.last() {
+            return Err(RestoreFault::Number);
+        }
+        self.rows.skip(last);
+        Ok(())
+    }
+
     /// A Start was reported: the session of this number is Active, and was seen now. One that has ended stays so.
     ///
     /// With a number of no session nothing changes. Source: RFC 2866, section 5.1.
@@ -275,10 +328,7 @@ impl Sessions {
 fn is_limited(user: &User, live: UserCounts) -> bool
     ensures { result ≡ (nat_le user.now.sessions live.open_count || is_reached user.now.grants live.total) }
 {
-    u64::from(user.sessions) <= live.open_count
-        || user
-            .grants
-            .is_some_and(|most| u64::from(most) <= live.total)
+    u64::from(user.sessions) <= live.open_count || users::has_all_grants(user, live.total)
 }
 
 /// The sessions that are left, oldest first. Contracts see them as a list.

@@ -1,5 +1,6 @@
 //! How many sessions a user has.
 ghost use Rattle.std.specs.Prelude.{◌≡◌, ◌≤◌};
+ghost use Rattle.rad_config.specs.Configurations.{is_reached};
 ghost use Rattle.rad_config.specs.Spans.{moment_max};
 ghost use Rattle.rad_pool.specs.Counts.{HoldsCounts};
 ghost use Rattle.rad_pool.specs.Dead.{CountsUser, TakesOne};
@@ -8,7 +9,7 @@ ghost use Rattle.rad_pool.specs.Sessions.{live_sessions};
 use crate::counts::Counts;
 use crate::session::{Phase, Session};
 use crate::walk;
-use rad_config::Spans;
+use rad_config::{Spans, User};
 use rad_rows::{Rows, Tally};
 
 /// How many sessions of a user are open, and how many there are in all.
@@ -45,15 +46,31 @@ pub(crate) fn count_live(
     requires counts { HoldsCounts rows.now.rows counts.now }
     ensures { CountsUser user (live_sessions rows.now.spans now rows.now.rows) result }
 {
+    let mut live = count(rows, counts, user);
+    rows.tell_dead(&mut live, now);
+    live
+}
+
+/// How many sessions a user has, those that aren't live included.
+pub(crate) fn count(rows: &Rows<Session, Spans>, counts: &Counts, user: u32) -> UserCounts
+    requires { HoldsCounts rows.now.rows counts.now }
+    ensures counts { CountsUser user rows.now.rows result }
+    ensures user { result.user ≡ user }
+{
     let place = user as usize;
     if counts.users.len() <= place || counts.grants.len() <= place {
-        return walk::count(rows, now, user);
+        return walk::count(rows, user);
     }
-    let mut live = UserCounts {
+    UserCounts {
         user,
         open_count: counts.users[place],
         total: counts.grants[place],
-    };
-    rows.tell_dead(&mut live, now);
-    live
+    }
+}
+
+/// Whether a user who has so many sessions of any phase may have no more.
+pub(crate) fn has_all_grants(user: &User, total: u64) -> bool
+    ensures { result ≡ is_reached user.now.grants total }
+{
+    user.grants.is_some_and(|most| u64::from(most) <= total)
 }

@@ -21,7 +21,7 @@ fn is_live(session: &Session, spans: Spans, now: u64) -> bool
     now < session.ends(&spans)
 }
 
-fn is_open(phase: Phase) -> bool
+pub(crate) fn is_open(phase: Phase) -> bool
     ensures { result ≡ is_open phase }
 {
     phase != Phase::Ended
@@ -36,15 +36,15 @@ pub(crate) fn has_address(session: &Session, address: u32) -> bool
     }
 }
 
-/// How many live sessions a user has.
-pub(crate) fn count(rows: &Rows<Session, Spans>, now: u64, user: u32) -> UserCounts
-    requires { now ≤ moment_max }
-    ensures { CountsUser user (live_sessions rows.now.spans now rows.now.rows) result }
+/// How many sessions a user has.
+pub(crate) fn count(rows: &Rows<Session, Spans>, user: u32) -> UserCounts
+    ensures counts { CountsUser user rows.now.rows result }
+    ensures user { result.user ≡ user }
 {
     let _len = rows.len();
     let (mut open_count, mut total): (u64, u64) = (0, 0);
     for row in rows.iter() {
-        if is_live(row, rows.spans(), now) && row.user == user {
+        if row.user == user {
             total += 1;
             open_count += u64::from(is_open(row.phase));
         }
@@ -78,6 +78,18 @@ fn is_held(rows: &Rows<Session, Spans>, now: u64, address: u32) -> bool
 {
     for row in rows.iter() {
         if is_live(row, rows.spans(), now) && has_address(row, address) {
+            return true;
+        }
+    }
+    false
+}
+
+/// Whether a session has this address, also one that isn't live.
+pub(crate) fn is_taken(rows: &Rows<Session, Spans>, address: u32) -> bool
+    ensures { result ≡ is_held rows.now.rows address }
+{
+    for row in rows.iter() {
+        if has_address(row, address) {
             return true;
         }
     }
