@@ -1,7 +1,8 @@
 -- Kept replies and challenges stay lawful: the proofs of `lawful_replies` and `lawful_challenges`.
-use Rattle.std.proofs.Common.{◌≡◌, ℕ, ◌+◌, ◌≤◌, ◌<◌, Bool, true, false, cond, not, ◌||◌, nat_le, List, length, filter, Ok, Err, arith, refl}
+use Rattle.std.proofs.Common.{◌≡◌, ℕ, ◌+◌, ◌≤◌, ◌<◌, Bool, true, false, cond, not, ◌||◌, nat_le, List, length, filter, Ok, Err, arith, refl, sym, ◌∙◌}
 use Rattle.std.specs.Prelude.{IsOk}
-use Rattle.std.proofs.lemmas.Bool.{both_ways, leb-false, leb-true, not-true}
+use Rattle.std.specs.List.{All}
+use Rattle.std.proofs.lemmas.Bool.{leb-false, leb-true, not-true}
 use Rattle.std.proofs.lemmas.List.{length_push}
 use Rattle.std.proofs.lemmas.List.Elements.{All-filter, All-nil, All-push, All-weaker, filter_passes}
 use Rattle.std.proofs.lemmas.List.Kept.{AllPairs-filter}
@@ -12,11 +13,12 @@ use Rattle.rad_recent.specs.Challenges as challenges
 use Rattle.rad_recent.specs.Lawful.{AreLawfulChallenges, AreLawfulReplies, HaveDifferentKeys, IsLawfulChallenge}
 use Rattle.rad_recent.specs.Recent.{Replies, cut_replies, is_full, is_reply_live, kept_max, same_key, with_reply, without_key}
 use Rattle.rad_recent.specs.Recent as replies
+use Rattle.rad_recent.specs.Restored.{with_challenge_row}
 use Rattle.rad_recent.specs.declared.challenge.Challenge.{Challenge}
 use Rattle.rad_recent.specs.declared.challenges.IssueFault.TheVariants.{Full}
 use Rattle.rad_recent.specs.declared.kept.Kept.{Kept}
 use Rattle.rad_recent.specs.declared.key.Key.{Key}
-use Rattle.rad_recent.proofs.NumberedLemmas.{key_turned}
+use Rattle.rad_recent.proofs.NumberedLemmas.{key_sym}
 
 -- ---- kept replies
 
@@ -49,27 +51,23 @@ live_replies clock now table later lawful = replies_left now (is_reply_live tabl
 pub other_replies : (clock : ℕ) (key : Key) (table : Replies) → AreLawfulReplies clock table → AreLawfulReplies clock (without_key key table)
 other_replies clock key = replies_left clock (λ reply. not (same_key key reply.key))
 
--- keys that differ do so in either order
-keys_apart : (key other : Key) → same_key key other ≡ false → same_key other key ≡ false
-keys_apart key other differ = at (same_key other key) refl
-  where
-    at : (b : Bool) → same_key other key ≡ b → b ≡ false
-    at true same = absurd (both_ways (same_key key other) differ (key_turned other key same))
-    at false apart = refl
+-- one more, where there is room for it and no other has its key
+pub one_more_reply : (clock : ℕ) (reply : Kept) (table : Replies) → is_full table ≡ false → reply.made ≤ clock
+    → All (λ kept. HaveDifferentKeys kept reply) table.kept → AreLawfulReplies clock table → AreLawfulReplies clock (with_reply reply table)
+one_more_reply clock reply table room made apart lawful = record {
+  few = omega (arith, leb-false kept_max (length table.kept) room, length_push table.kept reply);
+  keys = all_pairs_push HaveDifferentKeys table.kept reply lawful.keys apart;
+  made = All-push (λ kept. kept.made ≤ clock) table.kept reply lawful.made made;
+}
 
 -- a reply takes the place of the one with its key
 pub kept_replies : (clock : ℕ) (reply : Kept) (table : Replies) → is_full (without_key reply.key table) ≡ false → reply.made ≤ clock
     → AreLawfulReplies clock table → AreLawfulReplies clock (with_reply reply (without_key reply.key table))
 kept_replies clock reply table room made lawful =
-    let left : List Kept = (without_key reply.key table).kept in
     let other : Kept → Bool = λ kept. not (same_key reply.key kept.key) in
-    let known = other_replies clock reply.key table lawful in
-    record {
-      few = omega (arith, leb-false kept_max (length left) room, length_push left reply);
-      keys = all_pairs_push HaveDifferentKeys left reply known.keys
-          (λ k d within. keys_apart reply.key _ (not-true _ (filter_passes other table.kept k d within)));
-      made = All-push (λ kept. kept.made ≤ clock) left reply known.made made;
-    }
+    one_more_reply clock reply (without_key reply.key table) room made
+    (λ k d within. sym (key_sym reply.key _) ∙ not-true _ (filter_passes other table.kept k d within))
+    (other_replies clock reply.key table lawful)
 
 -- ---- challenges
 
@@ -93,7 +91,7 @@ challenges_left clock stays table lawful = record {
 }
 
 -- one stays lawful while the clock goes on and numbers are given
-challenge_later : (clock now next beyond : ℕ) → clock ≤ now → next ≤ beyond → (challenge : Challenge)
+pub challenge_later : (clock now next beyond : ℕ) → clock ≤ now → next ≤ beyond → (challenge : Challenge)
     → IsLawfulChallenge clock next challenge → IsLawfulChallenge now beyond challenge
 challenge_later clock now next beyond later further challenge known = record {
   number = (known.number.0, omega (arith, known.number.1, further));
@@ -115,6 +113,23 @@ live_challenges clock now table later lawful = challenges_left now (is_challenge
 pub other_challenges : (clock client : ℕ) (value : List ℕ) (table : Challenges) → AreLawfulChallenges clock table
     → AreLawfulChallenges clock (without_answered value client table)
 other_challenges clock client value = challenges_left clock (λ challenge. not (has_state value client challenge))
+
+-- one more, where there is room for it and its number was not given yet
+pub one_more_challenge : (clock : ℕ) (row : Challenge) (table : Challenges) → length table.challenges < challenges_max
+    → table.next ≤ row.number → row.number ≤ last_challenge → row.made ≤ clock → AreLawfulChallenges clock table
+    → AreLawfulChallenges clock (with_challenge_row row table)
+one_more_challenge clock row table room rises last made lawful =
+    let first : 1 ≤ table.next = lawful.next.0 in
+    record {
+      next = (omega arith, omega (arith, last));
+      few = omega (arith, length_push table.challenges row, room);
+      rising = all_pairs_push (λ (earlier later : Challenge). earlier.number < later.number) table.challenges row lawful.rising
+          (λ k d within. omega (arith, (lawful.each k d within).number.1, rises));
+      each = All-push (IsLawfulChallenge clock (row.number + 1)) table.challenges row
+          (All-weaker (IsLawfulChallenge clock table.next) (IsLawfulChallenge clock (row.number + 1))
+          (challenge_later clock clock table.next (row.number + 1) (omega arith) (omega (arith, rises))) table.challenges lawful.each)
+          (record { number = (omega (arith, first, rises), omega arith); made = made });
+    }
 
 -- one more may wait, and there is a number for it
 record HasRoom (table : Challenges) : Type 0 where
@@ -139,17 +154,6 @@ next_number_says table is = at (nat_le challenges_max (length table.challenges))
 pub more_challenges : (client user now : ℕ) (draw : List ℕ) (table : Challenges) → IsOk (next_number table) → AreLawfulChallenges now table
     → AreLawfulChallenges now (with_challenge client user draw now table)
 more_challenges client user now draw table given lawful =
-    let challenges : List Challenge = table.challenges in
-    let next : ℕ = table.next in
-    let new : Challenge = record { number = next; draw = draw; client = client; user = user; made = now } in
+    let new : Challenge = record { number = table.next; draw = draw; client = client; user = user; made = now } in
     let room : HasRoom table = next_number_says table given in
-    let first : 1 ≤ next = lawful.next.0 in
-    record {
-      next = (omega arith, omega (arith, room.last));
-      few = omega (arith, length_push challenges new, room.few);
-      rising = all_pairs_push (λ (earlier later : Challenge). earlier.number < later.number) challenges new lawful.rising (λ k d within. (lawful.each k d within).number.1);
-      each = All-push (IsLawfulChallenge now (next + 1)) challenges new
-          (All-weaker (IsLawfulChallenge now next) (IsLawfulChallenge now (next + 1))
-          (challenge_later now now next (next + 1) (omega arith) (omega arith)) challenges lawful.each)
-          (record { number = (first, omega arith); made = omega arith });
-    }
+    one_more_challenge now new table room.few (omega arith) room.last (omega arith) lawful

@@ -6,3 +6,4 @@ mod HoldLemmas
 mod FindLemmas
 mod ChallengeLemmas
 mod LawfulLemmas
+mod RestoreLemmas

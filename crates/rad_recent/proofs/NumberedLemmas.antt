@@ -1,5 +1,5 @@
-use Rattle.std.proofs.Common.{◌≡◌, ℕ, ◌+◌, ◌≤◌, Bool, true, false, cond, not, ◌&&◌, List, [], ◌∷◌, Some, None, refl, ap, ◌∙◌, sym, subst, eqb, filter, find, length, is_some, unwrap_or, true≢false, arith}
-use Rattle.std.specs.List.{All, AllPairs}
+use Rattle.std.proofs.Common.{◌≡◌, ℕ, ◌+◌, ◌≤◌, Bool, true, false, cond, not, ◌&&◌, ◌||◌, List, [], ◌∷◌, Option, Some, None, refl, ap, ◌∙◌, sym, subst, eqb, filter, find, length, is_some, unwrap_or, true≢false, arith}
+use Rattle.std.specs.List.{All, AllPairs, list_any}
 use Rattle.std.specs.Option.{option_map}
 use Rattle.std.proofs.lemmas.Bool.{eqb-true, eq-eqb}
 use Rattle.std.proofs.lemmas.List.{length-map}
@@ -56,6 +56,15 @@ key_same key = λ j. ((eq-eqb key.source key.source refl j && eq-eqb key.port ke
 pub key_turned : (key other : Key) → same_key key other ≡ true → same_key other key ≡ true
 key_turned key other h = subst (λ k. same_key k key ≡ true) (key_is key other h) (key_same key)
 
+-- in either order it is the same test
+pub key_sym : (key other : Key) → same_key key other ≡ same_key other key
+key_sym key other = at (same_key key other) (same_key other key) (key_turned key other) (key_turned other key)
+  where
+    at : (a b : Bool) → (a ≡ true → b ≡ true) → (b ≡ true → a ≡ true) → a ≡ b
+    at true b there back = sym (there refl)
+    at false true there back = back refl
+    at false false there back = refl
+
 -- ---- the number of a key's row
 
 -- the same number
@@ -81,6 +90,26 @@ no_row es key row at is = by_test (same_key key row.kept.key) refl
     by_test : (b : Bool) → same_key key row.kept.key ≡ b → same_key key row.kept.key ≡ false
     by_test true e = absurd (true≢false (ap is_some (sym (is.own key e) ∙ at)))
     by_test false e = e
+
+-- where a key has no number, no reply has it
+pub none_has_key : (es : List (Key × ℕ)) (key : Key) (rows : List Numbered) → number_at es key ≡ None → All (IsIndexed es) rows
+    → list_any (λ reply. same_key reply.key key) (replies_of rows) ≡ false
+none_has_key es key [] at h = refl
+none_has_key es key (row ∷ rows) at h =
+    rw (key_sym row.kept.key key, no_row es key row at (All-head (IsIndexed es) row rows h))
+    (none_has_key es key rows at (All-tail (IsIndexed es) row rows h))
+
+-- otherwise one has it exactly where there is a row of the number
+pub has_key_is : (es : List (Key × ℕ)) (key : Key) (n : ℕ) (rows : List Numbered) → number_at es key ≡ Some n → All (IsIndexed es) rows
+    → list_any (λ reply. same_key reply.key key) (replies_of rows) ≡ is_some (find (has_number number_of n) rows)
+has_key_is es key n [] at h = refl
+has_key_is es key n (row ∷ rows) at h =
+    rw (key_sym row.kept.key key, agrees es key n row at (All-head (IsIndexed es) row rows h))
+    (by_test (eqb row.number n) _ _ (has_key_is es key n rows at (All-tail (IsIndexed es) row rows h)))
+  where
+    by_test : (b held : Bool) (found : Option Numbered) → held ≡ is_some found → (b || held) ≡ is_some (cond b (Some row) found)
+    by_test true held found more = refl
+    by_test false held found more = more
 
 -- ---- replies and rows
 

@@ -1,11 +1,12 @@
 -- The laws of kept replies and of challenges: what holds of each table with no rows, and is kept when rows go and when one is added
 -- where there is room, while moments don't fall. `lawful_replies` and `lawful_challenges` say so.
-use Rattle.std.specs.Prelude.{◌≡◌, ℕ, ◌+◌, ◌≤◌, ◌<◌, false, List, length, All, AllPairs, IsOk}
+use Rattle.std.specs.Prelude.{◌≡◌, ◌↔◌, ℕ, ◌+◌, ◌≤◌, ◌<◌, false, List, length, All, AllPairs, IsOk, Ok}
 use Rattle.std.specs.Int.{IsInRange}
 use Rattle.rad_recent.specs.Challenges.{Challenges, challenges_max, cut_challenges, last_challenge, next_number, with_challenge, without_answered}
 use Rattle.rad_recent.specs.Challenges as challenges
 use Rattle.rad_recent.specs.Recent.{Replies, cut_replies, is_full, kept_max, same_key, with_reply, without_key}
 use Rattle.rad_recent.specs.Recent as replies
+use Rattle.rad_recent.specs.Restored.{challenge_restorable, challenges_rebuilt, last_challenge_restorable, replies_rebuilt, reply_restorable, with_challenge_row, with_last_challenge}
 use Rattle.rad_recent.specs.declared.challenge.Challenge.{Challenge}
 use Rattle.rad_recent.specs.declared.kept.Kept.{Kept}
 use Rattle.rad_recent.specs.declared.key.Key.{Key}
@@ -83,3 +84,30 @@ AnswerLeavesLawfulChallenges = (clock client : ℕ) (value : List ℕ) (table : 
 abbrev pub IssueLeavesLawfulChallenges : Type 0
 IssueLeavesLawfulChallenges = (client user now : ℕ) (draw : List ℕ) (table : Challenges) → IsOk (next_number table)
     → AreLawfulChallenges now table → AreLawfulChallenges now (with_challenge client user draw now table)
+
+-- ---- what is put back
+
+-- a reply is put back into a lawful table exactly where the table with it is lawful
+abbrev pub RestoredReplyIsTheLaw : Type 0
+RestoredReplyIsTheLaw = (clock : ℕ) (reply : Kept) (table : Replies) → AreLawfulReplies clock table
+    → (reply_restorable clock reply table ≡ Ok tt) ↔ AreLawfulReplies clock (with_reply reply table)
+
+-- no lawful table of replies is refused
+abbrev pub RestoreRebuildsReplies : Type 0
+RestoreRebuildsReplies = (clock : ℕ) (table : Replies) → AreLawfulReplies clock table → replies_rebuilt clock table ≡ Ok table
+
+-- a challenge is put back into a lawful table exactly where the table with it is lawful and its number was not given yet
+abbrev pub RestoredChallengeIsTheLaw : Type 0
+RestoredChallengeIsTheLaw = (clock : ℕ) (row : Challenge) (table : Challenges)
+    → row.number ≤ last_challenge → AreLawfulChallenges clock table
+    → (challenge_restorable clock row table ≡ Ok tt) ↔ ((table.next ≤ row.number) × AreLawfulChallenges clock (with_challenge_row row table))
+
+-- the last number that was given, too, where no greater one was
+abbrev pub RestoredLastChallengeIsTheLaw : Type 0
+RestoredLastChallengeIsTheLaw = (clock last : ℕ) (table : Challenges)
+    → last ≤ last_challenge → AreLawfulChallenges clock table
+    → (last_challenge_restorable last table ≡ Ok tt) ↔ ((table.next ≤ last + 1) × AreLawfulChallenges clock (with_last_challenge last table))
+
+-- no lawful table of challenges is refused
+abbrev pub RestoreRebuildsChallenges : Type 0
+RestoreRebuildsChallenges = (clock : ℕ) (table : Challenges) → AreLawfulChallenges clock table → challenges_rebuilt clock table ≡ Ok table

@@ -4,3 +4,4 @@ pub mod Lawful
 pub mod Notes
 pub mod Numbers
 pub mod Recent
+pub mod Restored

@@ -1,12 +1,15 @@
 //! The table of challenges.
-ghost use Rattle.std.specs.Prelude.{◌≡◌, ◌≤◌, ◌↔◌, IfOk, IsErrOf, IsOk, IsTrue, OnOk, false, option_map, true};
+ghost use Rattle.std.specs.Prelude.{◌≡◌, ◌≤◌, ◌+◌, ◌↔◌, IfOk, IsErrOf, IsOk, IsTrue, OnErr, OnOk, false, option_map, true};
 ghost use Rattle.std.specs.Iterator.{YieldsFirst, item_count};
 ghost use Rattle.rad_config.specs.Spans.{moment_max, spans_of};
 ghost use Rattle.rad_recent.specs.Challenges.{AreSame, IsIssued, answered, cut_challenges, next_number, opening, waiting_with, with_challenge, without_answered};
+ghost use Rattle.rad_recent.specs.Restored.{challenge_restorable, last_challenge_restorable, with_challenge_row, with_last_challenge};
+ghost use Rattle.rad_restore_fault.specs.Answers.{IsAnswer};
 
-use crate::answers;
 use crate::challenge::{Challenge, Nobody, Party};
+use crate::{answers, restore};
 use rad_config::Config;
+use rad_restore_fault::RestoreFault;
 use rad_rows::{Iter, Row, Rows};
 use std::alloc::{AllocError, Global};
 use std::marker::Model;
@@ -112,6 +115,27 @@ impl Challenges {
         count
     }
 
+    /// How many challenges of a party there are, live or not. It goes over all challenges.
+    pub fn len_with(&self, party: Party) -> u64
+        ensures { result ≡ waiting_with party self.now.table }
+    {
+        let _len = self.rows.len();
+        let mut count: u64 = 0;
+        for challenge in self.rows.iter() {
+            if challenge.is_with(party) {
+                count += 1;
+            }
+        }
+        count
+    }
+
+    /// The last number that was given, or 0.
+    pub fn last(&self) -> u64
+        ensures { self.now.table.next ≡ result + 1 }
+    {
+        self.rows.last()
+    }
+
     /// Makes memory ready for one more challenge.
     pub fn room(&mut self) -> Result<(), AllocError>
         ensures unchanged { self.new.table ≡ self.old.table }
@@ -191,6 +215,34 @@ impl Challenges {
     {
         let challenge = answers::find(&self.rows, state, client, now)?;
         Some(challenge.user)
+    }
+
+    /// Puts back a challenge that once waited, after the others; challenges are put back in the order of their numbers.
+    ///
+    /// The clock is in milliseconds. Refusals are reported in the order of `challenge_restorable`. After a refusal the table is as it
+    /// was. Source: RFC 2865, section 4.4.
+    pub fn restore(&mut self, row: Challenge, clock: u64) -> Result<(), RestoreFault>
+        ensures answer { IsAnswer (challenge_restorable clock row self.old.table) result }
+        ensures restored { OnOk result (self.new.table ≡ with_challenge_row row self.old.table) }
+        ensures unchanged { OnErr result (self.new.table ≡ self.old.table) }
+    {
+        restore::check_challenge(&self.rows, &row, clock)?;
+        self.rows.restore(row).map_err(|_| RestoreFault::NoMemory)
+    }
+
+    /// Puts back the last number that was given, after the challenges: they don't tell it, since later ones may have come and gone.
+    ///
+    /// No number up to it is given then. After a refusal the table is as it was.
+    pub fn restore_last(&mut self, last: u64) -> Result<(), RestoreFault>
+        ensures answer { result ≡ last_challenge_restorable last self.old.table }
+        ensures restored { OnOk result (self.new.table ≡ with_last_challenge last self.old.table) }
+        ensures unchanged { OnErr result (self.new.table ≡ self.old.table) }
+    {
+        if last < self.rows.last() {
+            return Err(RestoreFault::Number);
+        }
+        self.rows.skip(last);
+        Ok(())
     }
 
     /// An equal table. No memory is ready for one more.

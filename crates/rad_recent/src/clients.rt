@@ -1,10 +1,11 @@
 //! How many kept replies take the share of each client.
-ghost use Rattle.std.specs.Prelude.{◌≡◌, ◌≤◌, IfOk, filter, length, replicate};
+ghost use Rattle.std.specs.Prelude.{◌≡◌, ◌≤◌, IfOk, count_by, filter, length, replicate};
 ghost use Rattle.rad_config.specs.Spans.{moment_max};
+ghost use Rattle.rad_recent.specs.Index.{replies_of};
 ghost use Rattle.rad_recent.specs.Notes.{CountsClients, GainsClient, LosesClient, TakesOne, is_live_of};
-ghost use Rattle.rad_recent.specs.Recent.{is_client};
+ghost use Rattle.rad_recent.specs.Recent.{is_client, is_of};
 
-use crate::numbered::{self, Numbered};
+use crate::numbered::Numbered;
 use rad_rows::{Rows, Tally};
 use std::alloc::{AllocError, Global};
 
@@ -64,27 +65,34 @@ pub(crate) fn count_live(rows: &Rows<Numbered, u64>, counts: &[u64], now: u64, c
     requires counts { CountsClients rows.now.rows counts.now }
     ensures { result ≡ length (filter (is_live_of rows.now.spans now client) rows.now.rows) }
 {
-    let place = client as usize;
-    if counts.len() <= place {
-        return walk(rows, now, client);
-    }
     let mut live = LiveReplies {
         client,
-        count: counts[place],
+        count: count(rows, counts, client),
     };
     rows.tell_dead(&mut live, now);
     live.count
 }
 
+/// How many replies take a client's share, live or not.
+pub(crate) fn count(rows: &Rows<Numbered, u64>, counts: &[u64], client: u32) -> u64
+    requires { CountsClients rows.now.rows counts.now }
+    ensures { result ≡ count_by (is_of client) (replies_of rows.now.rows) }
+{
+    let place = client as usize;
+    if counts.len() <= place {
+        return walk(rows, client);
+    }
+    counts[place]
+}
+
 // The same, by a walk over all rows, for a client that has no count.
-fn walk(rows: &Rows<Numbered, u64>, now: u64, client: u32) -> u64
-    requires { now ≤ moment_max }
-    ensures { result ≡ length (filter (is_live_of rows.now.spans now client) rows.now.rows) }
+fn walk(rows: &Rows<Numbered, u64>, client: u32) -> u64
+    ensures { result ≡ count_by (is_of client) (replies_of rows.now.rows) }
 {
     let _len = rows.len();
     let mut count: u64 = 0;
     for row in rows.iter() {
-        if numbered::is_live(row, rows.spans(), now) && is_client(client, row.kept.client) {
+        if is_client(client, row.kept.client) {
             count += 1;
         }
     }

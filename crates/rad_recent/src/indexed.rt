@@ -1,5 +1,6 @@
 //! Rows of kept replies, and the index that finds them.
 ghost use Rattle.std.specs.Prelude.{◌≡◌, ℕ, ◌+◌, ◌≤◌, ◌&&◌, ◌++◌, ◌∷◌, [], All, count_by, false, filter, find, not, option_copied, option_map, IsOk, IsSome, None, OnErr, OnOk, Some};
+ghost use Rattle.std.specs.List.{list_any};
 ghost use Rattle.rad_config.specs.Spans.{moment_max};
 ghost use Rattle.rad_recent.specs.Index.{HoldsIndex, IsIndexed, is_row_live, replies_of};
 ghost use Rattle.rad_recent.specs.Numbers.{number_at};
@@ -55,6 +56,17 @@ pub(crate) fn client_of(rows: &Rows<Numbered, u64>, index: &Index, key: &Key) ->
         return None;
     };
     row.kept.client
+}
+
+/// Whether there is a reply to a request with this key, live or not.
+pub(crate) fn has_row(rows: &Rows<Numbered, u64>, index: &Index, key: &Key) -> bool
+    requires { All (IsIndexed index.now.map.entries) rows.now.rows }
+    ensures { result ≡ list_any (λ reply. same_key reply.key key.now) (replies_of rows.now.rows) }
+{
+    let Some(number) = index::find(&index.map, key) else {
+        return false;
+    };
+    rows.get(number).is_some()
 }
 
 // Whether this is the live reply to a request with this key and these octets.

@@ -3,7 +3,7 @@
 //!
 //! `Recent` and `Challenges` are two bounded tables of one shape: `expire` removes the rows that are no longer live, questions
 //! change nothing, and `room` makes memory ready, so that memory isn't refused when the row is added. They use `rad_packet`,
-//! `rad_auth`, `rad_config` and `rad_rows`.
+//! `rad_auth`, `rad_config`, `rad_restore_fault` and `rad_rows`.
 //!
 //! Both stand on `rad_rows`, which finds a row by its number. The number of a challenge is in its State. That of a kept reply is
 //! in an index by key, which `expire` tells of each row that goes.
@@ -25,10 +25,12 @@ mod notes;
 mod numbered;
 mod others;
 mod recent;
+mod restore;
 
 pub use challenge::{Challenge, Party, state_value};
 pub use challenges::{CHALLENGES_MAX, ChallengeRows, Challenges, IssueFault};
 pub use kept::Kept;
 pub use key::Key;
 pub use lawful::{lawful_challenges, lawful_replies};
+pub use rad_restore_fault::RestoreFault;
 pub use recent::{KEPT_MAX, KeepFault, KeptRows, Recent};

@@ -4,15 +4,18 @@ ghost use Rattle.std.specs.Iterator.{YieldsFirstBy, item_count};
 ghost use Rattle.rad_packet.specs.Ladders.{refuse_if};
 ghost use Rattle.rad_config.specs.Spans.{moment_max, spans_of};
 ghost use Rattle.rad_recent.specs.Recent.{IsKept, beside, cut_replies, is_full, opening, replies_for, reply_to, with_reply, without_key};
+ghost use Rattle.rad_recent.specs.Restored.{reply_restorable};
+ghost use Rattle.rad_restore_fault.specs.Answers.{IsAnswer};
 
 use crate::index::Index;
 use crate::kept::Kept;
 use crate::key::Key;
 use crate::notes::Notes;
 use crate::numbered::{self, Numbered};
-use crate::{clients, indexed, others};
+use crate::{clients, indexed, others, restore};
 use rad_config::Config;
 use rad_packet::{Body, Octets};
+use rad_restore_fault::RestoreFault;
 use rad_rows::{HashKey, Iter, Rows};
 use std::alloc::{AllocError, Global};
 use std::marker::Model;
@@ -123,6 +126,13 @@ impl Recent {
         others::count_of(&self.rows, &self.notes, now, client, key)
     }
 
+    /// How many kept replies take the share of the client at a place, live or not.
+    pub fn len_of(&self, client: u32) -> u64
+        ensures { result ≡ replies_for client self.now.table }
+    {
+        clients::count(&self.rows, &self.notes.clients, client)
+    }
+
     /// What `keep` would answer at this moment for a request with this key if there is memory.
     pub fn peek(&self, key: &Key, now: u64) -> Result<(), KeepFault>
         requires { now ≤ moment_max }
@@ -224,6 +234,23 @@ impl Recent {
             body,
             made: now,
         });
+        Ok(())
+    }
+
+    /// Puts back a reply that a table once kept, after the others; replies are put back in the order in which they were made.
+    ///
+    /// The clock is in milliseconds. Refusals are reported in the order of `reply_restorable`. After a refusal the table is as it was,
+    /// and the reply is dropped. Source: RFC 5080, section 2.2.2.
+    pub fn restore(&mut self, reply: Kept, clock: u64) -> Result<(), RestoreFault>
+        ensures answer { IsAnswer (reply_restorable clock reply self.old.table) result }
+        ensures restored { OnOk result (self.new.table ≡ with_reply reply self.old.table) }
+        ensures unchanged { OnErr result (self.new.table ≡ self.old.table) }
+    {
+        restore::check_reply(&self.rows, &self.notes.index, &reply, clock)?;
+        if self.make_ready(&reply.key).is_err() {
+            return Err(RestoreFault::NoMemory);
+        }
+        self.put(reply);
         Ok(())
     }
 

@@ -1,9 +1,11 @@
-use Rattle.std.proofs.Common.{◌≡◌, ◌≤◌, ◌+◌, filter, length}
-use Rattle.rad_recent.specs.Notes.{is_live_of}
+use Rattle.std.proofs.Common.{◌≡◌, ◌≤◌, ◌+◌, length}
+use Rattle.std.specs.Prelude.{count_by}
+use Rattle.rad_recent.specs.Index.{replies_of}
+use Rattle.rad_recent.specs.Recent.{is_of}
 use Rattle.rad_recent.proofs.clients.walk.Given as goal
 
 abbrev pub invariant-loop-row : goal.invariant-loop-row
 invariant-loop-row l = record {
   bound : l.count + length l.row-iterator ≤ length l.rows.rows;
-  rest : l.count + length (filter (is_live_of l.rows.spans l.now l.client) l.row-iterator) ≡ length (filter (is_live_of l.rows.spans l.now l.client) l.rows.rows);
+  rest : l.count + count_by (is_of l.client) (replies_of l.row-iterator) ≡ count_by (is_of l.client) (replies_of l.rows.rows);
 }
