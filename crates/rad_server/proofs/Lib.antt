@@ -2,11 +2,14 @@ mod AddressLemmas
 mod DecisionLemmas
 pub mod FreshLemmas
 mod LawfulLemmas
+mod NamedLemmas
 mod OccurrenceLemmas
 mod PassingLemmas
 mod PlanLemmas
 pub mod RepeatLemmas
 mod ReplyLemmas
+mod RebuildLemmas
 mod ReportLemmas
+mod RestoreLemmas
 pub mod RunLemmas
 mod ShareLemmas

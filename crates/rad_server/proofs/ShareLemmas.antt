@@ -1,13 +1,14 @@
 -- What one client or one user takes of a table stays within its limit.
 use Rattle.std.proofs.Common.{◌≡◌, ℕ, ◌+◌, Bool, true, false, not, cond, ◌==◌, List, [], ◌∷◌, ◌++◌, filter, Option, Some, None, arith, refl, ap, subst, ◌∙◌}
 use Rattle.std.specs.Prelude.{count_by}
-use Rattle.std.proofs.lemmas.Bool.{eqb-true, leb-false}
+use Rattle.std.proofs.lemmas.Bool.{eqb-true, leb-false, lt-leb}
 use Rattle.std.proofs.lemmas.List.Filters.{sum_by-filter_both}
 use Rattle.std.proofs.lemmas.List.Sums.{sum_by_push}
 use Rattle.std.proofs.lemmas.Option.{IfSome_then}
 use Rattle.rad_config.specs.Configurations.{Configuration, is_reached}
 use Rattle.rad_recent.specs.Challenges.{Challenges, is_with, waiting_with, with_challenge}
-use Rattle.rad_recent.specs.Recent.{Replies, is_of, replies_for, with_reply}
+use Rattle.rad_recent.specs.Recent.{Replies, is_client, is_of, replies_for, with_reply}
+use Rattle.rad_recent.specs.Restored.{with_challenge_row}
 use Rattle.rad_recent.specs.declared.challenge.Challenge.{Challenge}
 use Rattle.rad_recent.specs.declared.challenge.Party.TheVariants.{Client, User}
 use Rattle.rad_recent.specs.declared.kept.Kept.{Kept}
@@ -71,11 +72,33 @@ pub record MayWait (configuration : Configuration) (client user : ℕ) (table : 
   pub own : is_reached (challenges_limit configuration user) (waiting_with (User user) table) ≡ false
   pub shared : is_reached (challenges_share configuration client) (waiting_with (Client client) table) ≡ false
 
+-- a challenge of theirs, whatever its number
+pub waiting_with_row : (configuration : Configuration) (row : Challenge) (table : Challenges) → MayWait configuration row.client row.user table
+    → AreSharedChallenges configuration table → AreSharedChallenges configuration (with_challenge_row row table)
+waiting_with_row configuration row table may waiting = record {
+  clients = push_within (challenges_share configuration) (λ n. is_with (Client n)) row.client table.challenges row (λ n. refl) may.shared waiting.clients;
+  users = push_within (challenges_limit configuration) (λ n. is_with (User n)) row.user table.challenges row (λ n. refl) may.own waiting.users;
+}
+
 pub waiting_with_one : (configuration : Configuration) (client user : ℕ) (draw : List ℕ) (now : ℕ) (table : Challenges) → MayWait configuration client user table
     → AreSharedChallenges configuration table → AreSharedChallenges configuration (with_challenge client user draw now table)
 waiting_with_one configuration client user draw now table may waiting =
-    let new : Challenge = record { number = table.next; draw = draw; client = client; user = user; made = now } in
-    record {
-      clients = push_within (challenges_share configuration) (λ n. is_with (Client n)) client table.challenges new (λ n. refl) may.shared waiting.clients;
-      users = push_within (challenges_limit configuration) (λ n. is_with (User n)) user table.challenges new (λ n. refl) may.own waiting.users;
-    }
+    waiting_with_row configuration (record { number = table.next; draw = draw; client = client; user = user; made = now }) table may waiting
+
+-- a reply that takes nobody's share
+pub shares_with_nobodys : (configuration : Configuration) (reply : Kept) (table : Replies) → reply.client ≡ None → AreSharedReplies configuration table
+    → AreSharedReplies configuration (with_reply reply table)
+shares_with_nobodys configuration reply table own shares client =
+    let sum = sum_by_push (λ (y : Kept). cond {A = ℕ} (is_of client y) 1 0) table.kept reply in
+    let none : ◌≡◌ {A = ℕ} (cond (is_of client reply) 1 0) 0 = ap (λ o. cond {A = ℕ} (is_client client o) 1 0) own in
+    IfSome_then (replies_share configuration client) (shares client) (λ most few. omega (arith, few, sum, none))
+
+-- ---- a row that was there last
+
+-- where the rows with one of a party are within its limit, the others haven't reached it
+pub spare_before : {X : Type 0} (limit : Option ℕ) (test : X → Bool) (xs : List X) (x : X) → test x ≡ true → IsWithin limit (count_by test (xs ++ x ∷ []))
+    → is_reached limit (count_by test xs) ≡ false
+spare_before None test xs x own within = refl
+spare_before (Some most) test xs x own within =
+    let one : ◌≡◌ {A = ℕ} (cond (test x) 1 0) 1 = ap (λ b. cond {A = ℕ} b 1 0) own in
+    lt-leb most (count_by test xs) (omega (arith, within, sum_by_push (λ y. cond {A = ℕ} (test y) 1 0) xs x, one))

@@ -1,6 +1,6 @@
 -- The law of the state: what holds of it before the first request, and is kept by each step for a request that may be answered.
 -- `lawful_steps` says so. The laws of the tables are those of `rad_pool` and `rad_recent`.
-use Rattle.std.specs.Prelude.{◌≡◌, ℕ, ◌≤◌, ◌<◌, ◌==◌, false, true, is_some, List, length, slice_index_or, All, Contains, Some, option_map}
+use Rattle.std.specs.Prelude.{◌≡◌, ◌↔◌, ℕ, ◌≤◌, ◌<◌, ◌==◌, false, true, is_some, List, length, slice_index_or, All, Contains, Some, option_map, Ok}
 use Rattle.rad_packet.specs.Attributes.{first_value}
 use Rattle.rad_packet.specs.Bodies.{Body}
 use Rattle.rad_packet.specs.Codes.{code_access_accept, code_status_server}
@@ -20,10 +20,12 @@ use Rattle.rad_recent.specs.Lawful.{AreLawfulChallenges, AreLawfulReplies}
 use Rattle.rad_recent.specs.declared.challenge.Challenge.{Challenge}
 use Rattle.rad_recent.specs.declared.kept.Kept.{Kept}
 use Rattle.rad_server.specs.Replies.{class_value, four_octets}
+use Rattle.rad_server.specs.Restored.{IsNew, IsRow, rebuilt, restorable, with_row}
 use Rattle.rad_server.specs.Shares.{AreSharedChallenges, AreSharedReplies}
 use Rattle.rad_server.specs.States.{State, at_moment, opening}
 use Rattle.rad_server.specs.Steps.{step}
 use Rattle.rad_server.specs.Users.{user_at}
+use Rattle.rad_server.specs.declared.state_row.StateRow.{StateRow}
 
 -- ---- kept replies
 
@@ -106,3 +108,14 @@ StepKeepsTheLaw = (configuration : Configuration) (state : State) (request : Req
 abbrev pub PassingKeepsTheLaw : Type 0
 PassingKeepsTheLaw = (configuration : Configuration) (state : State) (moment : ℕ)
     → IsConfiguration configuration → moment ≤ moment_max → IsLawful configuration state → IsLawful configuration (at_moment moment state)
+
+-- ---- what is put back
+
+-- a row is put back into a lawful state exactly where the state with it is lawful and its number, if it has one, wasn't given yet
+abbrev pub RestoreIsTheLaw : Type 0
+RestoreIsTheLaw = (configuration : Configuration) (row : StateRow) (state : State) → IsRow row → IsLawful configuration state
+    → (restorable configuration row state ≡ Ok tt) ↔ (IsNew row state × IsLawful configuration (with_row row state))
+
+-- no lawful state is refused: its rows, put back into a server that remembers nothing, give that state
+abbrev pub RestoreRebuilds : Type 0
+RestoreRebuilds = (configuration : Configuration) (state : State) → IsLawful configuration state → rebuilt configuration state ≡ Ok state

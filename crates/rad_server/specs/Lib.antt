@@ -14,6 +14,7 @@ pub mod Prepared
 pub mod Replies
 pub mod ReplyBodies
 pub mod Reports
+pub mod Restored
 pub mod Runs
 pub mod SentCredentials
 pub mod Servers

@@ -1,5 +1,5 @@
 //! The law of the state.
-ghost use Rattle.rad_server.specs.Lawful.{OpeningIsLawful, PassingKeepsTheLaw, StepKeepsTheLaw};
+ghost use Rattle.rad_server.specs.Lawful.{OpeningIsLawful, PassingKeepsTheLaw, RestoreIsTheLaw, RestoreRebuilds, StepKeepsTheLaw};
 
 use rad_pool::lawful_sessions;
 use rad_recent::{lawful_challenges, lawful_replies};
@@ -12,6 +12,20 @@ pub fn lawful_steps()
     ensures opening { OpeningIsLawful }
     ensures step { StepKeepsTheLaw }
     ensures passing { PassingKeepsTheLaw }
+{
+    lawful_sessions();
+    lawful_replies();
+    lawful_challenges();
+}
+
+/// A row is put back into a lawful state just where the state with it is lawful and its number wasn't given yet; and the rows of a
+/// lawful state, put back in their order into a server that remembers nothing and whose clock is that state's, give that state.
+///
+/// So what is refused could never have been, and no state that a server can reach is refused, since `lawful_steps` says that each is
+/// lawful. The call costs nothing: it does nothing at run time.
+pub fn rows_rebuild()
+    ensures law { RestoreIsTheLaw }
+    ensures rebuilt { RestoreRebuilds }
 {
     lawful_sessions();
     lawful_replies();

@@ -29,10 +29,13 @@ mod occurrence;
 mod plan;
 mod prepared;
 mod reply;
+mod reply_rules;
+mod restore;
 mod rule;
 mod runs;
 mod server;
 mod shares;
+mod state_row;
 mod tables;
 
 pub use accounting::{
@@ -44,8 +47,10 @@ pub use book::Book;
 pub use denial::Denial;
 pub use entry::Entry;
 pub use history::exchange;
-pub use lawful::lawful_steps;
+pub use lawful::{lawful_steps, rows_rebuild};
 pub use prepared::{Prepared, prepare8};
+pub use rad_restore_fault::RestoreFault;
 pub use rad_rows::HashKey;
 pub use runs::{fresh_are_enough, runs_are_lawful, runs_repeat, time_passes_unseen};
 pub use server::Server;
+pub use state_row::StateRow;

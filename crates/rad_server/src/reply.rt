@@ -170,8 +170,8 @@ fn push_integer(body: &mut Body, kind: u8, number: Option<u32>) -> Result<(), Al
     }
 }
 
-// The Class of the session of this number.
-fn class_value(number: u64) -> [u8; 12]
+/// The Class of the session of this number.
+pub(crate) fn class_value(number: u64) -> [u8; 12]
     ensures { result ≡ class_value number }
 {
     let [a, b, c, d, e, f, g, h] = number.to_be_bytes();

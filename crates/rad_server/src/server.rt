@@ -1,24 +1,29 @@
 //! The server, and its step.
-ghost use Rattle.std.specs.Prelude.{◌≡◌, ◌≤◌, ◌↔◌, IfOk, IfSome, IsTrue, OnErr};
+ghost use Rattle.std.specs.Prelude.{◌≡◌, ◌≤◌, ◌↔◌, IfOk, IfSome, IsTrue, OnErr, OnOk};
 ghost use Rattle.rad_packet.specs.Packets.{packet_octets};
 ghost use Rattle.rad_auth.specs.Admission.{IsAdmitted};
 ghost use Rattle.rad_config.specs.Ranges.{IsConfiguration};
 ghost use Rattle.rad_config.specs.Spans.{moment_max};
+ghost use Rattle.rad_restore_fault.specs.Answers.{IsAnswer};
 ghost use Rattle.rad_server.specs.Lawful.{IsLawful};
+ghost use Rattle.rad_server.specs.Restored.{restorable, with_row};
 ghost use Rattle.rad_server.specs.States.{at_moment, opening};
 ghost use Rattle.rad_server.specs.Steps.{IsSealable, is_fresh, step};
 
 use crate::answer::Answer;
 use crate::commit::{commit, make_room};
-use crate::lawful::lawful_steps;
+use crate::lawful::{lawful_steps, rows_rebuild};
 use crate::plan::plan_step;
 use crate::prepared::Prepared;
+use crate::restore::restore;
+use crate::state_row::StateRow;
 use crate::tables::Tables;
 use rad_auth::Request;
 use rad_config::Config;
 use rad_packet::Octets;
 use rad_pool::Sessions;
 use rad_recent::{Challenges, Recent};
+use rad_restore_fault::RestoreFault;
 use rad_rows::HashKey;
 use std::alloc::{AllocError, Global};
 use std::marker::Model;
@@ -228,6 +233,30 @@ impl<'c> Server<'c> {
         let now = self.clock.max(moment);
         self.clock = now;
         self.tables.expire(now);
+    }
+
+    /// Puts back a row of what a server with this configuration once remembered.
+    ///
+    /// A server that `open` gave and that `pass` brought to the clock of the old one takes its sessions in the order of their numbers,
+    /// their last number, its kept replies in the order in which they were made, its challenges in the order of their numbers, and
+    /// their last number. `rows_rebuild` says that it is the old one then. The fault is the first rule that the row breaks, in the
+    /// order of `restorable` in `specs/Restored.antt`; after it the server is as it was, and the row is dropped.
+    pub fn restore(&mut self, row: StateRow) -> Result<(), RestoreFault>
+        ensures answer { IsAnswer
+            (restorable self.old.configuration row self.old.state) result }
+        ensures restored { OnOk result (self.new.state ≡ with_row row self.old.state) }
+        ensures configuration { self.new.configuration ≡ self.old.configuration }
+        ensures unchanged { OnErr result (self.new ≡ self.old) }
+    {
+        self.state_is_lawful();
+        rows_rebuild();
+        let Server {
+            config,
+            clock,
+            tables,
+            ..
+        } = self;
+        restore(config, *clock, tables, row)
     }
 
     /// An equal server over the same configuration.

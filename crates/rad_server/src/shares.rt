@@ -16,8 +16,8 @@ pub(crate) fn of_challenges(config: &Config, client: u32) -> Option<u64>
     part_of(CHALLENGES_MAX as u64, config, client)
 }
 
-// How many kept replies may be a client's, if it has a share.
-fn of_replies(config: &Config, client: u32) -> Option<u64>
+/// How many kept replies may be a client's, if it has a share.
+pub(crate) fn of_replies(config: &Config, client: u32) -> Option<u64>
     ensures { result ≡ replies_share config.now client }
 {
     part_of(KEPT_MAX as u64, config, client)

@@ -1,5 +1,5 @@
 //! A run of the server: requests are admitted, and answered in turn.
-ghost use Rattle.std.specs.Prelude.{◌≡◌};
+ghost use Rattle.std.specs.Prelude.{◌≡◌, IfSome};
 
 use super::requests::{Asked, CROWD, KAY, START, Sent};
 use super::texts::{CHALLENGED, RESPONSE};
@@ -10,7 +10,7 @@ use rad_packet::Body;
 use rad_packet::code::{ACCESS_ACCEPT, ACCESS_CHALLENGE, ACCESS_REJECT, ACCOUNTING_RESPONSE};
 use rad_pool::{Phase, Session, Sessions};
 use rad_recent::{Challenge, Challenges, Kept, Key, Recent};
-use rad_server::{Answer, Book, Server};
+use rad_server::{Answer, Book, RestoreFault, Server, StateRow};
 use std::alloc::{AllocError, Global};
 use test_common::{DRAW, PORT, admit};
 
@@ -115,6 +115,30 @@ impl<'c> Run<'c> {
         self.book.server().same(other.book.server())
     }
 
+    /// Whether this run and another answer a request alike and are at the same state then; the other is rebuilt from its rows.
+    pub fn goes_with(&mut self, twin: &mut Run, moment: u64, port: u16, asked: &Asked) -> bool {
+        let (Some(answer), Some(other)) = (
+            self.answer(moment, port, asked),
+            twin.answer(moment, port, asked),
+        ) else {
+            return false;
+        };
+        answer.same(&other) && twin.is_rebuilt() && twin.is_at(self)
+    }
+
+    /// Whether a server that is rebuilt from the rows of this one is the same. It takes this one's place.
+    pub fn is_rebuilt(&mut self) -> bool {
+        let Some(server) = rebuilt(self.alloc, self.config, self.book.server()) else {
+            return false;
+        };
+        let is_same = server.same(self.book.server());
+        let Ok(run) = Run::open_from(self.alloc, self.config, &server) else {
+            return false;
+        };
+        *self = run;
+        is_same
+    }
+
     // Whether a server that is opened with a configuration is the same as this one.
     fn is_like(&self, text: &str) -> bool {
         match Config::read(self.alloc, text) {
@@ -130,8 +154,8 @@ impl<'c> Run<'c> {
         }
     }
 
-    // Whether so many requests, each with a port or an Identifier of its own, are answered as they must be.
-    fn fills(&mut self, moment: u64, filling: Filling, count: u32) -> bool {
+    /// Whether so many requests, each with a port or an Identifier of its own, are answered as they must be.
+    pub fn fills(&mut self, moment: u64, filling: Filling, count: u32) -> bool {
         for place in 0..count {
             if !self.fills_one(moment, filling, place) {
                 return false;
@@ -185,6 +209,48 @@ impl<'c> Run<'c> {
             None
         }
     }
+}
+
+// A server with the rows of another one; none if a row is refused.
+fn rebuilt<'c>(alloc: Global, config: &'c Config, old: &Server) -> Option<Server<'c>>
+    ensures { IfSome result (λ server. server.configuration ≡ config.now) }
+{
+    let mut server = Server::open(alloc, config).ok()?;
+    server.pass(old.clock().min(MOMENT_MAX));
+    put_sessions(&mut server, old.sessions()).ok()?;
+    put_replies(&mut server, old.recent())?;
+    put_challenges(&mut server, old.challenges()).ok()?;
+    Some(server)
+}
+
+// Puts sessions back, and the last number that was given to one.
+fn put_sessions(server: &mut Server, old: &Sessions) -> Result<(), RestoreFault>
+    ensures { server.new.configuration ≡ server.old.configuration }
+{
+    for session in old.rows() {
+        server.restore(StateRow::Session(session))?;
+    }
+    server.restore(StateRow::LastSession(old.last()))
+}
+
+// Puts kept replies back; none if memory or a row is refused.
+fn put_replies(server: &mut Server, old: &Recent) -> Option<()>
+    ensures { server.new.configuration ≡ server.old.configuration }
+{
+    for reply in old.rows() {
+        server.restore(StateRow::Reply(reply.copy().ok()?)).ok()?;
+    }
+    Some(())
+}
+
+// Puts challenges back, and the last number that was given to one.
+fn put_challenges(server: &mut Server, old: &Challenges) -> Result<(), RestoreFault>
+    ensures { server.new.configuration ≡ server.old.configuration }
+{
+    for challenge in old.rows() {
+        server.restore(StateRow::Challenge(challenge))?;
+    }
+    server.restore(StateRow::LastChallenge(old.last()))
 }
 
 // The Class of the session of this number, as it is spelled.

@@ -1,0 +1,236 @@
+//! Rows that a server can't have had are refused, and it stays as it was.
+use super::campus::CAMPUS;
+use super::holds;
+use rad_auth::Door;
+use rad_config::Config;
+use rad_packet::attribute::{CLASS, FRAMED_IP_ADDRESS, MESSAGE_AUTHENTICATOR};
+use rad_packet::code::{
+    ACCESS_ACCEPT, ACCESS_REQUEST, ACCOUNTING_RESPONSE, STATUS_SERVER,
+};
+use rad_packet::{Body, Octets};
+use rad_pool::{Phase, Session};
+use rad_recent::{Challenge, Kept, Key};
+use rad_server::{RestoreFault, Server, StateRow};
+use std::alloc::{AllocError, Global};
+use std::test::Fail;
+use test_common::{CLIENT, DRAW, PORT, STRANGER};
+
+// The place of the user who has an answer.
+const KAY: u32 = 3;
+
+// What a kept reply says. Its request was made to the port for authentication.
+#[derive(Clone, Copy)]
+struct Reply {
+    source: u32,
+    client: Option<u32>,
+    id: u8,
+    request: u8,
+    code: u8,
+    attributes: &'static [(u8, &'static [u8])],
+    made: u64,
+}
+
+// A row that is planted.
+#[derive(Clone, Copy)]
+enum Planted {
+    Session(Session),
+    LastSession(u64),
+    Reply(Reply),
+    Challenge(Challenge),
+    LastChallenge(u64),
+}
+
+const SESSION: Session = Session {
+    number: 3,
+    client: 0,
+    source: CLIENT,
+    user: 0,
+    address: Some(0x0A00_0001),
+    phase: Phase::Ended,
+    made: 5,
+    seen: 6,
+};
+
+const ACCEPT: Reply = Reply {
+    source: CLIENT,
+    client: Some(0),
+    id: 1,
+    request: ACCESS_REQUEST,
+    code: ACCESS_ACCEPT,
+    attributes: &[
+        (MESSAGE_AUTHENTICATOR, &[0; 16]),
+        (FRAMED_IP_ADDRESS, &[10, 0, 0, 1]),
+        (CLASS, b"RAP1\0\0\0\0\0\0\0\x03"),
+    ],
+    made: 5,
+};
+
+const CHALLENGE: Challenge = Challenge {
+    number: 2,
+    draw: *DRAW,
+    client: 1,
+    user: KAY,
+    made: 10,
+};
+
+// The clock is at 10 when these are put back, one after the other.
+const TAKEN: &[Planted] = &[
+    Planted::Session(SESSION),
+    Planted::LastSession(4),
+    Planted::Reply(ACCEPT),
+    Planted::Challenge(CHALLENGE),
+    Planted::LastChallenge(2),
+];
+
+const REFUSED: &[(Planted, RestoreFault, &str)] = &[
+    (
+        Planted::Session(Session { number: 4, address: None, ..SESSION }),
+        RestoreFault::Number,
+        "a number that was given to one who is gone",
+    ),
+    (
+        Planted::Session(Session { number: 5, seen: 11, ..SESSION }),
+        RestoreFault::Moments,
+        "a session that is seen after the clock",
+    ),
+    (
+        Planted::Session(Session { number: 5, ..SESSION }),
+        RestoreFault::AddressHeld,
+        "an address that another session has",
+    ),
+    (Planted::LastSession(3), RestoreFault::Number, "a last number that is too small"),
+    (
+        Planted::Reply(Reply { id: 2, code: ACCOUNTING_RESPONSE, ..ACCEPT }),
+        RestoreFault::Body,
+        "an Accounting-Response with a Message-Authenticator",
+    ),
+    (
+        Planted::Reply(Reply { id: 2, attributes: &[], ..ACCEPT }),
+        RestoreFault::Body,
+        "an Access-Accept without one",
+    ),
+    (
+        Planted::Reply(Reply { id: 2, request: STATUS_SERVER, ..ACCEPT }),
+        RestoreFault::Request,
+        "the reply to a Status-Server",
+    ),
+    (
+        Planted::Reply(Reply { id: 2, client: Some(1), ..ACCEPT }),
+        RestoreFault::Client,
+        "a reply that takes another client's share",
+    ),
+    (
+        Planted::Reply(Reply { id: 2, source: STRANGER, ..ACCEPT }),
+        RestoreFault::Client,
+        "a reply to a source without a client",
+    ),
+    (
+        Planted::Reply(Reply { id: 2, made: 6, ..ACCEPT }),
+        RestoreFault::Session,
+        "an Access-Accept of another moment than its session",
+    ),
+    (
+        Planted::Reply(Reply {
+            id: 2,
+            attributes: &[
+                (MESSAGE_AUTHENTICATOR, &[0; 16]),
+                (FRAMED_IP_ADDRESS, &[10, 0, 0, 2]),
+                (CLASS, b"RAP1\0\0\0\0\0\0\0\x03"),
+            ],
+            ..ACCEPT
+        }),
+        RestoreFault::Session,
+        "one of another address",
+    ),
+    (
+        Planted::Reply(Reply {
+            id: 2,
+            attributes: &[
+                (MESSAGE_AUTHENTICATOR, &[0; 16]),
+                (FRAMED_IP_ADDRESS, &[10, 0, 0, 1]),
+                (CLASS, b"RAP1\0\0\0\0\0\0\0\x04"),
+            ],
+            ..ACCEPT
+        }),
+        RestoreFault::Session,
+        "one of a session that is gone",
+    ),
+    (Planted::Reply(ACCEPT), RestoreFault::Key, "a second reply to one request"),
+    (
+        Planted::Challenge(Challenge { number: 3, client: 2, ..CHALLENGE }),
+        RestoreFault::Client,
+        "a challenge of a client that isn't there",
+    ),
+    (
+        Planted::Challenge(Challenge { number: 3, user: 1_000, ..CHALLENGE }),
+        RestoreFault::User,
+        "a challenge of a user who isn't there",
+    ),
+    (
+        Planted::Challenge(Challenge { number: 3, user: 0, ..CHALLENGE }),
+        RestoreFault::Answer,
+        "a challenge of a user without an answer",
+    ),
+    (Planted::Challenge(CHALLENGE), RestoreFault::Number, "a challenge twice"),
+    (
+        Planted::Challenge(Challenge { number: 3, made: 11, ..CHALLENGE }),
+        RestoreFault::Moments,
+        "a challenge that was made after the clock",
+    ),
+    (Planted::LastChallenge(1), RestoreFault::Number, "a last number that is too small"),
+];
+
+#[test]
+fn rows_that_cannot_be_are_refused(rt: HostRuntime) -> Result<(), Fail> {
+    let config = Config::read(rt.alloc(), CAMPUS)?;
+    let mut server = Server::open(rt.alloc(), &config)?;
+    server.pass(10);
+    for planted in TAKEN.iter() {
+        let taken = server.restore(planted.row(rt.alloc())?);
+        holds(&rt, taken.is_ok(), "a row that could be");
+    }
+    is_refused_each(&rt, &mut server)
+}
+
+// Whether each row is refused for its rule, and leaves the server.
+fn is_refused_each(rt: &HostRuntime, server: &mut Server) -> Result<(), Fail> {
+    let before = server.copy()?;
+    for (planted, fault, what) in REFUSED.iter() {
+        let refused = server.restore(planted.row(rt.alloc())?);
+        holds(rt, refused == Err(*fault) && server.same(&before), what);
+    }
+    Ok(())
+}
+
+impl Planted {
+    fn row(&self, alloc: Global) -> Result<StateRow, AllocError> {
+        Ok(match self {
+            Planted::Session(session) => StateRow::Session(*session),
+            Planted::LastSession(last) => StateRow::LastSession(*last),
+            Planted::Reply(reply) => StateRow::Reply(reply.kept(alloc)?),
+            Planted::Challenge(challenge) => StateRow::Challenge(*challenge),
+            Planted::LastChallenge(last) => StateRow::LastChallenge(*last),
+        })
+    }
+}
+
+impl Reply {
+    fn kept(&self, alloc: Global) -> Result<Kept, AllocError> {
+        let mut body = Body::new(alloc, self.code);
+        for (kind, value) in self.attributes.iter() {
+            body.push(*kind, &value[..value.len().min(16)])?;
+        }
+        Ok(Kept {
+            client: self.client,
+            key: Key {
+                source: self.source,
+                port: PORT,
+                door: Door::Auth,
+                id: self.id,
+            },
+            octets: Octets::new(vec![in alloc; self.request; 1]?),
+            body,
+            made: self.made,
+        })
+    }
+}
