@@ -4,16 +4,15 @@ use super::holds;
 use rad_auth::Door;
 use rad_config::Config;
 use rad_packet::attribute::{CLASS, FRAMED_IP_ADDRESS, MESSAGE_AUTHENTICATOR};
-use rad_packet::code::{
-    ACCESS_ACCEPT, ACCESS_REQUEST, ACCOUNTING_RESPONSE, STATUS_SERVER,
-};
+use rad_packet::code::{ACCESS_ACCEPT, ACCESS_REQUEST, ACCOUNTING_RESPONSE, STATUS_SERVER};
 use rad_packet::{Body, Octets};
 use rad_pool::{Phase, Session};
 use rad_recent::{Challenge, Kept, Key};
 use rad_server::{RestoreFault, Server, StateRow};
 use std::alloc::{AllocError, Global};
+use std::process::Abort;
 use std::test::Fail;
-use test_common::{CLIENT, DRAW, PORT, STRANGER};
+use test_common::{CLIENT, PORT, STRANGER};
 
 // The place of the user who has an answer.
 const KAY: u32 = 3;
@@ -67,7 +66,7 @@ const ACCEPT: Reply = Reply {
 
 const CHALLENGE: Challenge = Challenge {
     number: 2,
-    draw: *DRAW,
+    draw: [0; 16],
     client: 1,
     user: KAY,
     made: 10,
@@ -84,48 +83,87 @@ const TAKEN: &[Planted] = &[
 
 const REFUSED: &[(Planted, RestoreFault, &str)] = &[
     (
-        Planted::Session(Session { number: 4, address: None, ..SESSION }),
+        Planted::Session(Session {
+            number: 4,
+            address: None,
+            ..SESSION
+        }),
         RestoreFault::Number,
         "a number that was given to one who is gone",
     ),
     (
-        Planted::Session(Session { number: 5, seen: 11, ..SESSION }),
+        Planted::Session(Session {
+            number: 5,
+            seen: 11,
+            ..SESSION
+        }),
         RestoreFault::Moments,
         "a session that is seen after the clock",
     ),
     (
-        Planted::Session(Session { number: 5, ..SESSION }),
+        Planted::Session(Session {
+            number: 5,
+            ..SESSION
+        }),
         RestoreFault::AddressHeld,
         "an address that another session has",
     ),
-    (Planted::LastSession(3), RestoreFault::Number, "a last number that is too small"),
     (
-        Planted::Reply(Reply { id: 2, code: ACCOUNTING_RESPONSE, ..ACCEPT }),
+        Planted::LastSession(3),
+        RestoreFault::Number,
+        "a last number that is too small",
+    ),
+    (
+        Planted::Reply(Reply {
+            id: 2,
+            code: ACCOUNTING_RESPONSE,
+            ..ACCEPT
+        }),
         RestoreFault::Body,
         "an Accounting-Response with a Message-Authenticator",
     ),
     (
-        Planted::Reply(Reply { id: 2, attributes: &[], ..ACCEPT }),
+        Planted::Reply(Reply {
+            id: 2,
+            attributes: &[],
+            ..ACCEPT
+        }),
         RestoreFault::Body,
         "an Access-Accept without one",
     ),
     (
-        Planted::Reply(Reply { id: 2, request: STATUS_SERVER, ..ACCEPT }),
+        Planted::Reply(Reply {
+            id: 2,
+            request: STATUS_SERVER,
+            ..ACCEPT
+        }),
         RestoreFault::Request,
         "the reply to a Status-Server",
     ),
     (
-        Planted::Reply(Reply { id: 2, client: Some(1), ..ACCEPT }),
+        Planted::Reply(Reply {
+            id: 2,
+            client: Some(1),
+            ..ACCEPT
+        }),
         RestoreFault::Client,
         "a reply that takes another client's share",
     ),
     (
-        Planted::Reply(Reply { id: 2, source: STRANGER, ..ACCEPT }),
+        Planted::Reply(Reply {
+            id: 2,
+            source: STRANGER,
+            ..ACCEPT
+        }),
         RestoreFault::Client,
         "a reply to a source without a client",
     ),
     (
-        Planted::Reply(Reply { id: 2, made: 6, ..ACCEPT }),
+        Planted::Reply(Reply {
+            id: 2,
+            made: 6,
+            ..ACCEPT
+        }),
         RestoreFault::Session,
         "an Access-Accept of another moment than its session",
     ),
@@ -155,29 +193,57 @@ const REFUSED: &[(Planted, RestoreFault, &str)] = &[
         RestoreFault::Session,
         "one of a session that is gone",
     ),
-    (Planted::Reply(ACCEPT), RestoreFault::Key, "a second reply to one request"),
     (
-        Planted::Challenge(Challenge { number: 3, client: 2, ..CHALLENGE }),
+        Planted::Reply(ACCEPT),
+        RestoreFault::Key,
+        "a second reply to one request",
+    ),
+    (
+        Planted::Challenge(Challenge {
+            number: 3,
+            client: 2,
+            ..CHALLENGE
+        }),
         RestoreFault::Client,
         "a challenge of a client that isn't there",
     ),
     (
-        Planted::Challenge(Challenge { number: 3, user: 1_000, ..CHALLENGE }),
+        Planted::Challenge(Challenge {
+            number: 3,
+            user: 1_000,
+            ..CHALLENGE
+        }),
         RestoreFault::User,
         "a challenge of a user who isn't there",
     ),
     (
-        Planted::Challenge(Challenge { number: 3, user: 0, ..CHALLENGE }),
+        Planted::Challenge(Challenge {
+            number: 3,
+            user: 0,
+            ..CHALLENGE
+        }),
         RestoreFault::Answer,
         "a challenge of a user without an answer",
     ),
-    (Planted::Challenge(CHALLENGE), RestoreFault::Number, "a challenge twice"),
     (
-        Planted::Challenge(Challenge { number: 3, made: 11, ..CHALLENGE }),
+        Planted::Challenge(CHALLENGE),
+        RestoreFault::Number,
+        "a challenge twice",
+    ),
+    (
+        Planted::Challenge(Challenge {
+            number: 3,
+            made: 11,
+            ..CHALLENGE
+        }),
         RestoreFault::Moments,
         "a challenge that was made after the clock",
     ),
-    (Planted::LastChallenge(1), RestoreFault::Number, "a last number that is too small"),
+    (
+        Planted::LastChallenge(1),
+        RestoreFault::Number,
+        "a last number that is too small",
+    ),
 ];
 
 #[test]
@@ -189,14 +255,14 @@ fn rows_that_cannot_be_are_refused(rt: HostRuntime) -> Result<(), Fail> {
         let taken = server.restore(planted.row(rt.alloc())?);
         holds(&rt, taken.is_ok(), "a row that could be");
     }
-    is_refused_each(&rt, &mut server)
+    each_is_refused(&rt, rt.alloc(), &mut server)
 }
 
-// Whether each row is refused for its rule, and leaves the server.
-fn is_refused_each(rt: &HostRuntime, server: &mut Server) -> Result<(), Fail> {
+// Each row is refused for its rule, and leaves the server as it was.
+fn each_is_refused(rt: &impl Abort, alloc: Global, server: &mut Server) -> Result<(), Fail> {
     let before = server.copy()?;
     for (planted, fault, what) in REFUSED.iter() {
-        let refused = server.restore(planted.row(rt.alloc())?);
+        let refused = server.restore(planted.row(alloc)?);
         holds(rt, refused == Err(*fault) && server.same(&before), what);
     }
     Ok(())

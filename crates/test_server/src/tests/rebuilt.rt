@@ -1,12 +1,11 @@
 //! A server that is taken apart into rows and rebuilt after each step of a walk is the same, and answers alike from then on.
-use super::Filling;
 use super::campus::CAMPUS;
-use super::holds;
 use super::playing::Run;
 use super::requests::{
     ACCOUNTING_ON, Asked, BRUCE, DORY, EXAMPLE, INTERIM_UPDATE, KAY, MANY, SIGNATURE, START, STOP,
     Sent,
 };
+use super::{Filling, holds};
 use rad_auth::Door;
 use rad_config::Config;
 use rad_packet::attribute::{FRAMED_IP_ADDRESS, STATE};
@@ -65,7 +64,11 @@ fn a_rebuilt_server_answers_alike(rt: HostRuntime) -> Result<(), Fail> {
     let config = Config::read(rt.alloc(), CAMPUS)?;
     let mut run = Run::open(rt.alloc(), &config)?;
     let mut twin = Run::open(rt.alloc(), &config)?;
-    holds(&rt, walks(&mut run, &mut twin, 1_500), "a walk of a server and of one that is rebuilt");
+    holds(
+        &rt,
+        walks(&mut run, &mut twin, 1_500),
+        "a walk of a server and of one that is rebuilt",
+    );
     Ok(())
 }
 
@@ -89,7 +92,11 @@ fn walks(run: &mut Run, twin: &mut Run, count: u32) -> bool {
 fn full_tables_are_rebuilt(rt: HostRuntime) -> Result<(), Fail> {
     let config = Config::read(rt.alloc(), CAMPUS)?;
     let mut run = Run::open(rt.alloc(), &config)?;
-    holds(&rt, run.fills(0, Filling::Challenges, 1_024), "each challenge is sent");
+    holds(
+        &rt,
+        run.fills(0, Filling::Challenges, 1_024),
+        "each challenge is sent",
+    );
     holds(&rt, run.is_rebuilt(), "a table that is full");
     Ok(())
 }
