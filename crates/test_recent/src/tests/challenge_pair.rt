@@ -2,8 +2,8 @@
 ghost use Rattle.std.specs.Prelude.{◌≤◌};
 ghost use Rattle.rad_config.specs.Spans.{moment_max};
 
-use rad_config::Config;
-use rad_recent::{CHALLENGES_MAX, Challenge, Challenges, IssueFault, state_value};
+use rad_config::{Config, MOMENT_MAX};
+use rad_recent::{CHALLENGES_MAX, Challenge, Challenges, IssueFault, RestoreFault, state_value};
 use std::alloc::Global;
 
 /// How long challenges wait, in milliseconds.
@@ -163,6 +163,23 @@ impl ChallengePair {
             }
         }
         rest.next().is_none()
+    }
+
+    /// Whether its rows and its last number, put back one after the other, make the same table.
+    pub fn is_rebuilt(&self, alloc: Global, config: &Config) -> bool {
+        let Ok(mut rebuilt) = Challenges::open(alloc, config) else {
+            return true;
+        };
+        for row in self.challenges.rows() {
+            match rebuilt.restore(row, MOMENT_MAX) {
+                Ok(()) => {}
+                Err(fault) => return fault == RestoreFault::NoMemory,
+            }
+        }
+        let last = self.challenges.last();
+        rebuilt.restore_last(last) == Ok(())
+            && rebuilt.last() == last
+            && rebuilt.same(&self.challenges)
     }
 }
 

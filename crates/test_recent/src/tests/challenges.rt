@@ -1,7 +1,7 @@
 use super::CAMPUS;
 use crate::tests::holds;
 use rad_config::{Config, MOMENT_MAX};
-use rad_recent::{Challenge, Challenges, IssueFault, Party, state_value};
+use rad_recent::{Challenge, Challenges, IssueFault, Party, RestoreFault, state_value};
 use std::alloc::Global;
 use std::process::Abort;
 use std::test::Fail;
@@ -16,6 +16,12 @@ enum Call {
     Take(u64, u8, usize, u32, Option<(u32, u64)>),
     /// So many live challenges of a party wait.
     Count(Party, u64),
+    /// So many challenges of a party are there.
+    Len(Party, u64),
+    /// A number and a moment, and what putting back their challenge answers. After a refusal nothing has changed.
+    Restore(u64, u64, Result<(), RestoreFault>),
+    /// A last number, and what putting it back answers, and the last number then. After a refusal nothing has changed.
+    RestoreLast(u64, Result<(), RestoreFault>, u64),
     Expire,
     /// The number of each challenge, oldest first.
     Rows(&'static [u64]),
@@ -25,7 +31,7 @@ enum Call {
     Fill,
 }
 
-use Call::{Copy, Count, Expire, Fill, Issue, Rows, Take};
+use Call::{Copy, Count, Expire, Fill, Issue, Len, Restore, RestoreLast, Rows, Take};
 
 /// The moment of a call in milliseconds, the call, and what is said if it has another outcome.
 type Row = (u64, Call, &'static str);
@@ -64,6 +70,11 @@ fn make(challenges: &mut Challenges, now: u64, call: &Call) -> bool {
             takes(challenges, state, *client, now, challenge)
         }
         Count(party, count) => counts(challenges, *party, now) == Some(*count),
+        Len(party, len) => challenges.len_with(*party) == *len,
+        Restore(number, made, restored) => restores(challenges, *number, *made, now, *restored),
+        RestoreLast(last, restored, then) => {
+            restores_last(challenges, *last, *restored) && challenges.last() == *then
+        }
         Expire => expire(challenges, now),
         Rows(wanted) => are_rows(challenges, wanted),
         Copy(number) => copies(challenges, *number, now),
@@ -152,6 +163,41 @@ fn fills(challenges: &mut Challenges, now: u64) -> bool {
         is_right = is_right && issue(challenges, 0, 3, 7, now) == Some(Ok(number));
     }
     is_right
+}
+
+// Whether putting back a challenge of the third client for the eighth user answers this, and changes nothing if it is refused.
+fn restores(
+    challenges: &mut Challenges,
+    number: u64,
+    made: u64,
+    clock: u64,
+    restored: Result<(), RestoreFault>,
+) -> bool {
+    let Ok(before) = challenges.copy() else {
+        return false;
+    };
+    let row = Challenge {
+        number,
+        draw: [7; 16],
+        client: 2,
+        user: 7,
+        made,
+    };
+    let answer = challenges.restore(row, clock);
+    (answer, challenges.same(&before)) == (restored, restored.is_err())
+}
+
+// The same of a last number, which is another one than before.
+fn restores_last(
+    challenges: &mut Challenges,
+    last: u64,
+    restored: Result<(), RestoreFault>,
+) -> bool {
+    let Ok(before) = challenges.copy() else {
+        return false;
+    };
+    let answer = challenges.restore_last(last);
+    (answer, challenges.same(&before)) == (restored, restored.is_err())
 }
 
 #[test]
@@ -248,11 +294,50 @@ fn a_copy_of_challenges_is_the_same_until_one_changes(rt: HostRuntime) -> Result
 }
 
 #[test]
+fn challenges_that_break_a_rule_stay_out(rt: HostRuntime) -> Result<(), Fail> {
+    const NUMBER: Result<(), RestoreFault> = Err(RestoreFault::Number);
+    const MOMENTS: Result<(), RestoreFault> = Err(RestoreFault::Moments);
+    const ROWS: &[Row] = &[
+        (9, Restore(0, 9, NUMBER), "no number"),
+        (9, Restore(5, 10, MOMENTS), "made after the clock"),
+        (9, Restore(5, 9, Ok(())), "made at the clock"),
+        (9, Restore(5, 8, NUMBER), "a number that is there"),
+        (9, Restore(4, 10, NUMBER), "the number is looked at first"),
+        (9, Restore(6, 1, Ok(())), "an earlier moment"),
+        (9, Rows(&[5, 6]), "both are back"),
+        (90_000, Len(Party::Client(2), 2), "two of the third client"),
+        (90_000, Len(Party::User(7), 2), "two of the eighth user"),
+        (90_000, Len(Party::User(2), 0), "none of the third user"),
+        (90_000, Count(Party::User(7), 0), "none is live"),
+        (9, RestoreLast(5, NUMBER, 6), "a last number below theirs"),
+        (9, RestoreLast(9, Ok(()), 9), "one above them"),
+        (9, Restore(9, 9, NUMBER), "it was given"),
+        (9, Issue(0, 3, 7, Ok(10)), "the next one"),
+        (
+            9,
+            Restore(u64::MAX, 9, Ok(())),
+            "the last number that there is",
+        ),
+        (
+            9,
+            Issue(0, 3, 7, Err(IssueFault::Full)),
+            "no number is left",
+        ),
+    ];
+    play(&rt, rt.alloc(), ROWS)
+}
+
+#[test]
 fn so_many_challenges_and_no_more(rt: HostRuntime) -> Result<(), Fail> {
     const FULL: Result<u64, IssueFault> = Err(IssueFault::Full);
     const ROWS: &[Row] = &[
         (0, Fill, "1,024 challenges"),
         (59_999, Issue(0, 3, 7, FULL), "no more in the hold"),
+        (
+            59_999,
+            Restore(1_025, 0, Err(RestoreFault::Full)),
+            "none is put back",
+        ),
         (60_000, Issue(0, 3, 7, Ok(1_025)), "the hold is over"),
         (60_000, Rows(&[1_025]), "the others are gone"),
     ];

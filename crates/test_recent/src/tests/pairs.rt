@@ -25,19 +25,12 @@ fn moment(call: u64, pace: u64, draw: u64) -> u64
     START + call.saturating_mul(pace).saturating_add((draw >> 56) * 8) % 10_000_000
 }
 
-fn reply_pair(alloc: Global) -> Option<ReplyPair> {
-    let config = Config::read(alloc, CAMPUS).ok()?;
-    ReplyPair::open(alloc, &config)
-}
-
-fn challenge_pair(alloc: Global) -> Option<ChallengePair> {
-    let config = Config::read(alloc, CAMPUS).ok()?;
-    ChallengePair::open(alloc, &config)
-}
-
-// Whether so many random calls answer as on a plain list, also where an allocation is refused.
+// Whether so many random calls answer as on a plain list, also where an allocation is refused, and the table is then rebuilt.
 fn replies_agree(alloc: Global, filled: u64, keys: u64, calls: u64) -> bool {
-    let Some(mut pair) = reply_pair(alloc) else {
+    let Ok(config) = Config::read(alloc, CAMPUS) else {
+        return false;
+    };
+    let Some(mut pair) = ReplyPair::open(alloc, &config) else {
         return false;
     };
     if !pair.fill(filled) {
@@ -52,12 +45,15 @@ fn replies_agree(alloc: Global, filled: u64, keys: u64, calls: u64) -> bool {
             return false;
         }
     }
-    pair.has_same_rows()
+    pair.has_same_rows() && pair.is_rebuilt(alloc, &config)
 }
 
-// Whether so many random calls answer as on a plain list, also where an allocation is refused.
+// Whether so many random calls answer as on a plain list, also where an allocation is refused, and the table is then rebuilt.
 fn challenges_agree(alloc: Global, pace: u64, calls: u64) -> bool {
-    let Some(mut pair) = challenge_pair(alloc) else {
+    let Ok(config) = Config::read(alloc, CAMPUS) else {
+        return false;
+    };
+    let Some(mut pair) = ChallengePair::open(alloc, &config) else {
         return false;
     };
     let mut draw = pace;
@@ -68,7 +64,7 @@ fn challenges_agree(alloc: Global, pace: u64, calls: u64) -> bool {
             return false;
         }
     }
-    pair.has_same_rows()
+    pair.has_same_rows() && pair.is_rebuilt(alloc, &config)
 }
 
 #[test]

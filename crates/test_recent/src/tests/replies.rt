@@ -1,9 +1,11 @@
+ghost use Rattle.std.specs.Prelude.{◌≡◌};
+
 use super::CAMPUS;
 use crate::tests::holds;
 use rad_auth::Door;
 use rad_config::{Config, MOMENT_MAX};
 use rad_packet::{Body, Octets};
-use rad_recent::{KeepFault, Kept, Key, Recent};
+use rad_recent::{KeepFault, Kept, Key, Recent, RestoreFault};
 use std::alloc::Global;
 use std::process::Abort;
 use std::test::Fail;
@@ -37,13 +39,19 @@ enum Call {
     Put(u32, u32),
     /// So many live replies take a client's share, that to the request of this place left out.
     Count(u32, u32, u64),
+    /// So many replies take a client's share.
+    Len(u32, u64),
+    /// A client and a moment, and what putting back a reply to the request of this place answers. After a refusal nothing has changed.
+    Restore(u32, u32, u64, Result<(), RestoreFault>),
     /// A reply to each of 65,536 requests is kept.
     Fill,
     /// A reply to the request of this place isn't kept, and nothing changes.
     Refuse(u32),
 }
 
-use Call::{Copy, Count, Expire, Fill, Keep, Look, Put, Refuse, Repeats, Rows, Share};
+use Call::{
+    Copy, Count, Expire, Fill, Keep, Len, Look, Put, Refuse, Repeats, Restore, Rows, Share,
+};
 
 /// The moment of a call in milliseconds, the call, and what is said if it has another outcome.
 type Row = (u64, Call, &'static str);
@@ -87,6 +95,11 @@ fn make(recent: &mut Recent, alloc: Global, now: u64, call: &Call) -> bool {
         Repeats => are_repeats(recent),
         Put(place, client) => puts(recent, alloc, *place, *client, now),
         Count(client, place, count) => counts(recent, *client, *place, now) == Some(*count),
+        Len(client, len) => recent.len_of(*client) == *len,
+        Restore(place, client, made, restored) => {
+            let reply = shared_reply(alloc, key_at(*place), *client, *made);
+            restores(recent, reply, now, *restored)
+        }
         Fill => fills(recent, alloc, now),
         Refuse(place) => refuses(recent, alloc, *place, now),
     }
@@ -188,14 +201,35 @@ fn puts(recent: &mut Recent, alloc: Global, place: u32, client: u32, now: u64) -
     if recent.make_ready(&key).is_err() {
         return false;
     }
-    recent.put(Kept {
+    recent.put(shared_reply(alloc, key, client, now));
+    true
+}
+
+// A reply that takes a client's share.
+fn shared_reply(alloc: Global, key: Key, client: u32, made: u64) -> Kept
+    ensures { result.key ≡ key }
+{
+    Kept {
         client: Some(client),
         key,
         octets: Octets::new(Vec::new(alloc)),
         body: Body::new(alloc, 2),
-        made: now,
-    });
-    true
+        made,
+    }
+}
+
+// Whether putting back a reply answers this, and changes nothing if it is refused.
+fn restores(
+    recent: &mut Recent,
+    reply: Kept,
+    clock: u64,
+    restored: Result<(), RestoreFault>,
+) -> bool {
+    let Ok(before) = recent.copy() else {
+        return false;
+    };
+    let answer = recent.restore(reply, clock);
+    (answer, recent.same(&before)) == (restored, restored.is_err())
 }
 
 // How many live replies take a client's share.
@@ -317,6 +351,35 @@ fn a_client_has_the_replies_that_take_its_share(rt: HostRuntime) -> Result<(), F
 }
 
 #[test]
+fn replies_that_break_a_rule_stay_out(rt: HostRuntime) -> Result<(), Fail> {
+    const MOMENTS: Result<(), RestoreFault> = Err(RestoreFault::Moments);
+    const KEY: Result<(), RestoreFault> = Err(RestoreFault::Key);
+    const ROWS: &[Row] = &[
+        (9, Restore(1, 0, 10, MOMENTS), "made after the clock"),
+        (9, Restore(1, 0, 9, Ok(())), "made at the clock"),
+        (9, Restore(1, 1, 8, KEY), "a key that is there"),
+        (
+            9,
+            Restore(1, 1, 10, MOMENTS),
+            "the moment is looked at first",
+        ),
+        (9, Restore(2, 0, 1, Ok(())), "an earlier moment"),
+        (9, Restore(3, 300, 1, Ok(())), "a client that isn't there"),
+        (9, Rows(&[(2, 9), (2, 1), (2, 1)]), "all are back"),
+        (90_000, Len(0, 2), "two of the first client"),
+        (90_000, Len(1, 0), "none of the second"),
+        (90_000, Len(300, 1), "one of the one that isn't there"),
+        (90_000, Count(0, 9, 0), "none is live"),
+        (
+            90_000,
+            Restore(1, 0, 90_000, KEY),
+            "nor is a row's key free",
+        ),
+    ];
+    play(&rt, rt.alloc(), ROWS)
+}
+
+#[test]
 fn a_reply_is_found_by_key_and_octets(rt: HostRuntime) -> Result<(), Fail> {
     const ROWS: &[Row] = &[
         (0, Keep(7, FIRST, 2, Ok(())), "a reply"),
@@ -342,6 +405,11 @@ fn so_many_replies_and_no_more(rt: HostRuntime) -> Result<(), Fail> {
     const ROWS: &[Row] = &[
         (0, Fill, "65,536 keys"),
         (29_999, Refuse(65_536), "one more key"),
+        (
+            29_999,
+            Restore(65_536, 0, 0, Err(RestoreFault::Full)),
+            "none is put back",
+        ),
         (29_999, Keep(77, SECOND, 11, Ok(())), "a key that is there"),
         (29_999, Look(77, SECOND, Some(11)), "its later reply"),
         (29_999, Look(77, FIRST, None), "its first reply is gone"),

@@ -3,9 +3,9 @@ ghost use Rattle.std.specs.Prelude.{◌≤◌};
 ghost use Rattle.rad_config.specs.Spans.{moment_max};
 
 use rad_auth::Door;
-use rad_config::Config;
+use rad_config::{Config, MOMENT_MAX};
 use rad_packet::Body;
-use rad_recent::{KEPT_MAX, KeepFault, Kept, Key, Recent};
+use rad_recent::{KEPT_MAX, KeepFault, Kept, Key, Recent, RestoreFault};
 use std::alloc::Global;
 
 /// How long replies live, in milliseconds.
@@ -155,6 +155,23 @@ impl ReplyPair {
             }
         }
         rest.next().is_none()
+    }
+
+    /// Whether its rows, put back one after the other, make the same table.
+    pub fn is_rebuilt(&self, alloc: Global, config: &Config) -> bool {
+        let Ok(mut rebuilt) = Recent::open(alloc, config) else {
+            return true;
+        };
+        for row in self.recent.rows() {
+            let Ok(reply) = row.copy() else {
+                return true;
+            };
+            match rebuilt.restore(reply, MOMENT_MAX) {
+                Ok(()) => {}
+                Err(fault) => return fault == RestoreFault::NoMemory,
+            }
+        }
+        rebuilt.same(&self.recent)
     }
 }
 
