@@ -12,8 +12,8 @@ use Rattle.rad_pool.specs.Grants.{grant_limit, has_address, is_held, last_number
 use Rattle.rad_pool.specs.Lawful.{HaveOwnAddresses, IsInPool, IsLawful, IsLawfulSession}
 use Rattle.rad_pool.specs.Restored.{exceeds_limits, has_address_of, is_astray, is_taken, last_restorable, rebuilt, restorable, restored, with_last, with_row}
 use Rattle.rad_pool.specs.Sessions.{Sessions, is_open, sessions_max}
-use Rattle.rad_restore_fault.specs.declared.restore_fault.RestoreFault.{RestoreFault}
-use Rattle.rad_restore_fault.specs.declared.restore_fault.RestoreFault.TheVariants.{AddressHeld, AddressOutside, Client, Full, Moments, Number, SessionLimit, User}
+use Rattle.rad_row_fault.specs.declared.row_fault.RowFault.{RowFault}
+use Rattle.rad_row_fault.specs.declared.row_fault.RowFault.TheVariants.{AddressHeld, AddressOutside, Client, Full, Moments, Number, SessionLimit, User}
 use Rattle.rad_pool.specs.declared.session.Session.{Session}
 use Rattle.rad_pool.proofs.LawfulLemmas.{lawful_below, past_refusal, with_row_is_lawful}
 use Rattle.rad_pool.proofs.PlaceLemmas.{has_is, is_at}
@@ -39,7 +39,7 @@ fits_says : (configuration : Configuration) (clock : ℕ) (row : Session) (table
     → restorable configuration clock row table ≡ Ok tt → Fits configuration clock row table
 unfolding restorable
 fits_says configuration clock row table is =
-    let Rung : Type 0 = Unit {0} → Result (Unit {0}) RestoreFault in
+    let Rung : Type 0 = Unit {0} → Result (Unit {0}) RowFault in
     let few : Bool = nat_le sessions_max (length table.sessions) in
     let many : Bool = exceeds_limits configuration row table.sessions in
     let taken : Bool = is_taken table.sessions row.address in
@@ -300,7 +300,7 @@ restored_rest : (configuration : Configuration) (clock : ℕ) (table : Sessions)
     ≡ Ok (record { sessions = table.sessions; next = reached; spans = table.spans }))
 restored_rest configuration clock table lawful [] before next split one most lower upper =
     let Table : List Session → Sessions = λ sessions. record { sessions = sessions; next = next; spans = table.spans } in
-    let done : List Session → Result Sessions RestoreFault = λ sessions. Ok (Table sessions) in
+    let done : List Session → Result Sessions RowFault = λ sessions. Ok (Table sessions) in
     (next, most, restored_none configuration clock (Table before) ∙ ap done (sym (split ∙ append-nil before)))
 restored_rest configuration clock table lawful (row ∷ rest) before next split one most lower upper =
     let Rises : List Session → Type 0 = AllPairs (λ (earlier later : Session). earlier.number < later.number) in
@@ -343,8 +343,8 @@ restore_rebuilds configuration clock table lawful =
     let back : Sessions = record { sessions = table.sessions; next = rows.0; spans = table.spans } in
     let next : table.next - 1 + 1 ≡ table.next = omega (arith, lawful.next.0) in
     let fits = last_fits (table.next - 1) back (omega (arith, next, rows.1)) in
-    let whole : ℕ → Result Sessions RestoreFault = λ n. Ok (record { sessions = table.sessions; next = n; spans = table.spans }) in
-    let lasts : Sessions → Result Sessions RestoreFault =
+    let whole : ℕ → Result Sessions RowFault = λ n. Ok (record { sessions = table.sessions; next = n; spans = table.spans }) in
+    let lasts : Sessions → Result Sessions RowFault =
     λ t. last_restorable (table.next - 1) t >>= (λ fits. Ok (with_last (table.next - 1) t)) in
-    let after : Result (Unit {0}) RestoreFault → Result Sessions RestoreFault = λ r. r >>= (λ fits. Ok (with_last (table.next - 1) back)) in
+    let after : Result (Unit {0}) RowFault → Result Sessions RowFault = λ r. r >>= (λ fits. Ok (with_last (table.next - 1) back)) in
     ap (λ r. r >>= lasts) rows.2 ∙ ap after fits ∙ ap whole next

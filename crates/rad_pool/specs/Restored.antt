@@ -6,8 +6,8 @@ use Rattle.rad_config.specs.declared.pool.Pool.{Pool}
 use Rattle.rad_pool.specs.Grants.{grant_limit, is_held, open_sessions, pool_of, session_limit, sessions_of}
 use Rattle.rad_pool.specs.Sessions.{Sessions, is_open, opening, sessions_max}
 use Rattle.rad_pool.specs.declared.session.Session.{Session}
-use Rattle.rad_restore_fault.specs.declared.restore_fault.RestoreFault.{RestoreFault}
-use Rattle.rad_restore_fault.specs.declared.restore_fault.RestoreFault.TheVariants.{AddressHeld, AddressOutside, Client, Full, Moments, Number, SessionLimit, User}
+use Rattle.rad_row_fault.specs.declared.row_fault.RowFault.{RowFault}
+use Rattle.rad_row_fault.specs.declared.row_fault.RowFault.TheVariants.{AddressHeld, AddressOutside, Client, Full, Moments, Number, SessionLimit, User}
 
 -- ---- one row
 
@@ -37,7 +37,7 @@ exceeds_limits configuration row sessions =
     || is_reached (grant_limit configuration row.user) (sessions_of row.user sessions)
 
 -- Whether a row can be put back when the clock shows a moment, or the first rule that it breaks.
-unfoldable pub restorable : Configuration → ℕ → Session → Sessions → Result (Unit {0}) RestoreFault
+unfoldable pub restorable : Configuration → ℕ → Session → Sessions → Result (Unit {0}) RowFault
 restorable configuration clock row table = do
   rises ← refuse_if (nat_lt row.number table.next) Number
   client ← refuse_if (nat_le (length configuration.clients) row.client) Client
@@ -55,20 +55,20 @@ abbrev pub with_last : ℕ → Sessions → Sessions
 with_last last table = record table { next = last + 1 }
 
 -- whether it can be put back: no greater number was given
-abbrev pub last_restorable : ℕ → Sessions → Result (Unit {0}) RestoreFault
+abbrev pub last_restorable : ℕ → Sessions → Result (Unit {0}) RowFault
 last_restorable last table = refuse_if (nat_lt (last + 1) table.next) Number
 
 -- ---- a table
 
 -- the table after rows that are put back in their order, or the first refusal
-unfoldable pub restored : Configuration → ℕ → List Session → Sessions → Result Sessions RestoreFault
+unfoldable pub restored : Configuration → ℕ → List Session → Sessions → Result Sessions RowFault
 restored configuration clock [] table = Ok table
 restored configuration clock (row ∷ rows) table = do
   fits ← restorable configuration clock row table
   restored configuration clock rows (with_row row table)
 
 -- a table of which the rows and then the last number are put back into one that has none
-unfoldable pub rebuilt : Configuration → ℕ → Sessions → Result Sessions RestoreFault
+unfoldable pub rebuilt : Configuration → ℕ → Sessions → Result Sessions RowFault
 rebuilt configuration clock table = do
   rows ← restored configuration clock table.sessions (opening table.spans)
   fits ← last_restorable (table.next - 1) rows

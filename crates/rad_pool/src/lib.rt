@@ -31,5 +31,6 @@ mod walk;
 
 pub use grant::{Grant, Refusal};
 pub use lawful::lawful_sessions;
+pub use rad_row_fault::RowFault;
 pub use session::{Phase, Session};
 pub use sessions::{Rows, SESSIONS_MAX, Sessions};

@@ -13,7 +13,7 @@ use crate::sessions::SESSIONS_MAX;
 use crate::users::UserCounts;
 use crate::{users, walk};
 use rad_config::{Config, Spans, User};
-use rad_restore_fault::RestoreFault;
+use rad_row_fault::RowFault;
 use rad_rows::Rows;
 use std::alloc::AllocError;
 
@@ -25,36 +25,36 @@ pub(crate) fn check(
     config: &Config,
     row: Session,
     clock: u64,
-) -> Result<(), RestoreFault>
+) -> Result<(), RowFault>
     requires { HoldsCounts rows.now.rows counts.now }
     ensures rules { result ≡ restorable config.now clock row
         (record { sessions = rows.now.rows; next = rows.now.last + 1; spans = rows.now.spans }) }
     ensures number { OnOk result (rows.now.last < row.number) }
 {
     if row.number <= rows.last() {
-        return Err(RestoreFault::Number);
+        return Err(RowFault::Number);
     }
     if config.clients().len() <= row.client as usize {
-        return Err(RestoreFault::Client);
+        return Err(RowFault::Client);
     }
     if config.users().len() <= row.user as usize {
-        return Err(RestoreFault::User);
+        return Err(RowFault::User);
     }
     if row.seen < row.made || clock < row.seen {
-        return Err(RestoreFault::Moments);
+        return Err(RowFault::Moments);
     }
     if is_astray(config, row.user, row.address) {
-        return Err(RestoreFault::AddressOutside);
+        return Err(RowFault::AddressOutside);
     }
     if is_taken(rows, counts, row.address) {
-        return Err(RestoreFault::AddressHeld);
+        return Err(RowFault::AddressHeld);
     }
     let held = users::count(rows, counts, row.user);
     if exceeds_limits(config.user_at(row.user), row.phase, held) {
-        return Err(RestoreFault::SessionLimit);
+        return Err(RowFault::SessionLimit);
     }
     if SESSIONS_MAX <= rows.len() {
-        return Err(RestoreFault::Full);
+        return Err(RowFault::Full);
     }
     Ok(())
 }
@@ -94,7 +94,7 @@ fn is_held(rows: &Rows<Session, Spans>, counts: &Counts, address: u32) -> bool
             return 0 < places.uses(place);
         }
     }
-    counts.outside && walk::is_taken(rows, address)
+    counts.outside && walk::is_any_ones(rows, address)
 }
 
 // Whether a user who has so many sessions may have no more like one in this phase.

@@ -3,7 +3,7 @@ ghost use Rattle.std.specs.Prelude.{◌≡◌, ◌≤◌, ◌<◌, ◌+◌, ◌�
 ghost use Rattle.std.specs.Iterator.{YieldsFirst, item_count};
 ghost use Rattle.rad_config.specs.Configurations.{is_reached};
 ghost use Rattle.rad_config.specs.Spans.{moment_max, spans_of};
-ghost use Rattle.rad_restore_fault.specs.Answers.{IsAnswer};
+ghost use Rattle.rad_row_fault.specs.Follows.{FollowsRules};
 ghost use Rattle.rad_pool.specs.Grants.{IsGranted, granted, with_session};
 ghost use Rattle.rad_pool.specs.Meant.{meant};
 ghost use Rattle.rad_pool.specs.Restored.{last_restorable, restorable, with_last, with_row};
@@ -16,7 +16,7 @@ use crate::session::{Phase, Session};
 use crate::users::UserCounts;
 use crate::{changes, found, free, restore, users};
 use rad_config::{Config, Spans, User};
-use rad_restore_fault::RestoreFault;
+use rad_row_fault::RowFault;
 use rad_rows::{HashKey, Iter};
 use std::alloc::{AllocError, Global};
 use std::marker::Model;
@@ -206,20 +206,18 @@ impl Sessions {
 
     /// Puts back a row that a table once held, after the others; rows are put back in the order of their numbers.
     ///
-    /// `row` is that of a session, live or ended, with the number that it had; the next number is the one after it. `clock` is the
-    /// moment that the clock shows, in milliseconds. Of a lawful table, it is done exactly where the table with the row is lawful
-    /// and the number wasn't given yet. The first of these that applies is refused: the number doesn't rise, the client or the user
-    /// is no place of the configuration, the session was seen before it was made or after the clock, its address isn't in its
-    /// user's pool, or is another session's, the user has as many sessions as allowed, and there are `SESSIONS_MAX` sessions;
-    /// `NoMemory` comes last. After a refusal the table is as it was.
-    pub fn restore(&mut self, config: &Config, row: Session, clock: u64) -> Result<(), RestoreFault>
-        ensures answer { IsAnswer (restorable config.now clock row self.old.table) result }
+    /// The session may be open or ended, expired or not, and keeps its number; the next number is the one after it. `clock` is the
+    /// moment that the clock shows, in milliseconds. Refusals are reported in the order of `restorable` in `specs/Restored.antt`;
+    /// `lawful_sessions` says that just those rows are refused which a lawful table can't have, or whose number was given. After a
+    /// refusal the table is as it was.
+    pub fn restore(&mut self, config: &Config, row: Session, clock: u64) -> Result<(), RowFault>
+        ensures answer { FollowsRules (restorable config.now clock row self.old.table) result }
         ensures restored { OnOk result (self.new.table ≡ with_row row self.old.table) }
         ensures unchanged { OnErr result (self.new.table ≡ self.old.table) }
     {
         restore::check(&self.rows, &self.counts, config, row, clock)?;
         if restore::restore(&mut self.rows, &mut self.counts, row).is_err() {
-            return Err(RestoreFault::NoMemory);
+            return Err(RowFault::NoMemory);
         }
         Ok(())
     }
@@ -228,13 +226,13 @@ impl Sessions {
     /// come and gone, and a number is given only once.
     ///
     /// A number that is less than the last is refused, and then nothing changes.
-    pub fn restore_last(&mut self, last: u64) -> Result<(), RestoreFault>
+    pub fn restore_last(&mut self, last: u64) -> Result<(), RowFault>
         ensures answer { result ≡ last_restorable last self.old.table }
         ensures restored { OnOk result (self.new.table ≡ with_last last self.old.table) }
         ensures unchanged { OnErr result (self.new.table ≡ self.old.table) }
     {
         if last < self.rows.last() {
-            return Err(RestoreFault::Number);
+            return Err(RowFault::Number);
         }
         self.rows.skip(last);
         Ok(())

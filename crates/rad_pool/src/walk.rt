@@ -84,8 +84,8 @@ fn is_held(rows: &Rows<Session, Spans>, now: u64, address: u32) -> bool
     false
 }
 
-/// Whether a session has this address, also one that isn't live.
-pub(crate) fn is_taken(rows: &Rows<Session, Spans>, address: u32) -> bool
+/// Whether any session has this address, also one that isn't live.
+pub(crate) fn is_any_ones(rows: &Rows<Session, Spans>, address: u32) -> bool
     ensures { result ≡ is_held rows.now.rows address }
 {
     for row in rows.iter() {

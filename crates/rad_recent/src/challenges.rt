@@ -4,12 +4,12 @@ ghost use Rattle.std.specs.Iterator.{YieldsFirst, item_count};
 ghost use Rattle.rad_config.specs.Spans.{moment_max, spans_of};
 ghost use Rattle.rad_recent.specs.Challenges.{AreSame, IsIssued, answered, cut_challenges, next_number, opening, waiting_with, with_challenge, without_answered};
 ghost use Rattle.rad_recent.specs.Restored.{challenge_restorable, last_challenge_restorable, with_challenge_row, with_last_challenge};
-ghost use Rattle.rad_restore_fault.specs.Answers.{IsAnswer};
+ghost use Rattle.rad_row_fault.specs.Follows.{FollowsRules};
 
 use crate::challenge::{Challenge, Nobody, Party};
 use crate::{answers, restore};
 use rad_config::Config;
-use rad_restore_fault::RestoreFault;
+use rad_row_fault::RowFault;
 use rad_rows::{Iter, Row, Rows};
 use std::alloc::{AllocError, Global};
 use std::marker::Model;
@@ -221,25 +221,25 @@ impl Challenges {
     ///
     /// The clock is in milliseconds. Refusals are reported in the order of `challenge_restorable`. After a refusal the table is as it
     /// was. Source: RFC 2865, section 4.4.
-    pub fn restore(&mut self, row: Challenge, clock: u64) -> Result<(), RestoreFault>
-        ensures answer { IsAnswer (challenge_restorable clock row self.old.table) result }
+    pub fn restore(&mut self, row: Challenge, clock: u64) -> Result<(), RowFault>
+        ensures answer { FollowsRules (challenge_restorable clock row self.old.table) result }
         ensures restored { OnOk result (self.new.table ≡ with_challenge_row row self.old.table) }
         ensures unchanged { OnErr result (self.new.table ≡ self.old.table) }
     {
         restore::check_challenge(&self.rows, &row, clock)?;
-        self.rows.restore(row).map_err(|_| RestoreFault::NoMemory)
+        self.rows.restore(row).map_err(|_| RowFault::NoMemory)
     }
 
     /// Puts back the last number that was given, after the challenges: they don't tell it, since later ones may have come and gone.
     ///
     /// No number up to it is given then. After a refusal the table is as it was.
-    pub fn restore_last(&mut self, last: u64) -> Result<(), RestoreFault>
+    pub fn restore_last(&mut self, last: u64) -> Result<(), RowFault>
         ensures answer { result ≡ last_challenge_restorable last self.old.table }
         ensures restored { OnOk result (self.new.table ≡ with_last_challenge last self.old.table) }
         ensures unchanged { OnErr result (self.new.table ≡ self.old.table) }
     {
         if last < self.rows.last() {
-            return Err(RestoreFault::Number);
+            return Err(RowFault::Number);
         }
         self.rows.skip(last);
         Ok(())

@@ -16,8 +16,8 @@ pub fn lawful_replies()
 {}
 
 /// A table without challenges is lawful, and expiry, removing the challenge that is answered, and adding one where there is room
-/// leave a lawful table so while moments don't fall. A challenge or a last number is put back exactly where it was not given yet and
-/// that leaves a lawful table so, and no lawful table is refused.
+/// leave a lawful table so while moments don't fall. A challenge, or a last number, is put back exactly where that leaves a
+/// lawful table so and no number is given twice, and no lawful table is refused.
 ///
 /// The call costs nothing: it does nothing at run time. Those who keep a table call it to rest on the law.
 pub fn lawful_challenges()

@@ -5,7 +5,7 @@ ghost use Rattle.rad_packet.specs.Ladders.{refuse_if};
 ghost use Rattle.rad_config.specs.Spans.{moment_max, spans_of};
 ghost use Rattle.rad_recent.specs.Recent.{IsKept, beside, cut_replies, is_full, opening, replies_for, reply_to, with_reply, without_key};
 ghost use Rattle.rad_recent.specs.Restored.{reply_restorable};
-ghost use Rattle.rad_restore_fault.specs.Answers.{IsAnswer};
+ghost use Rattle.rad_row_fault.specs.Follows.{FollowsRules};
 
 use crate::index::Index;
 use crate::kept::Kept;
@@ -15,7 +15,7 @@ use crate::numbered::{self, Numbered};
 use crate::{clients, indexed, others, restore};
 use rad_config::Config;
 use rad_packet::{Body, Octets};
-use rad_restore_fault::RestoreFault;
+use rad_row_fault::RowFault;
 use rad_rows::{HashKey, Iter, Rows};
 use std::alloc::{AllocError, Global};
 use std::marker::Model;
@@ -237,18 +237,19 @@ impl Recent {
         Ok(())
     }
 
-    /// Puts back a reply that a table once kept, after the others; replies are put back in the order in which they were made.
+    /// Puts back a reply that a table once kept, after the others; replies are put back in the order in which they were made, which
+    /// isn't looked at.
     ///
     /// The clock is in milliseconds. Refusals are reported in the order of `reply_restorable`. After a refusal the table is as it was,
     /// and the reply is dropped. Source: RFC 5080, section 2.2.2.
-    pub fn restore(&mut self, reply: Kept, clock: u64) -> Result<(), RestoreFault>
-        ensures answer { IsAnswer (reply_restorable clock reply self.old.table) result }
+    pub fn restore(&mut self, reply: Kept, clock: u64) -> Result<(), RowFault>
+        ensures answer { FollowsRules (reply_restorable clock reply self.old.table) result }
         ensures restored { OnOk result (self.new.table ≡ with_reply reply self.old.table) }
         ensures unchanged { OnErr result (self.new.table ≡ self.old.table) }
     {
         restore::check_reply(&self.rows, &self.notes.index, &reply, clock)?;
         if self.make_ready(&reply.key).is_err() {
-            return Err(RestoreFault::NoMemory);
+            return Err(RowFault::NoMemory);
         }
         self.put(reply);
         Ok(())

@@ -10,7 +10,7 @@ use crate::indexed;
 use crate::kept::Kept;
 use crate::numbered::Numbered;
 use crate::recent::KEPT_MAX;
-use rad_restore_fault::RestoreFault;
+use rad_row_fault::RowFault;
 use rad_rows::Rows;
 
 /// The first rule of the law that the kept replies wouldn't obey with this one.
@@ -20,19 +20,19 @@ pub(crate) fn check_reply(
     index: &Index,
     reply: &Kept,
     clock: u64,
-) -> Result<(), RestoreFault>
+) -> Result<(), RowFault>
     requires { All (IsIndexed index.now.map.entries) rows.now.rows }
     ensures { result ≡ reply_restorable clock reply.now
         (record { kept = replies_of rows.now.rows; window = rows.now.spans }) }
 {
     if clock < reply.made {
-        return Err(RestoreFault::Moments);
+        return Err(RowFault::Moments);
     }
     if indexed::has_row(rows, index, &reply.key) {
-        return Err(RestoreFault::Key);
+        return Err(RowFault::Key);
     }
     if KEPT_MAX <= rows.len() {
-        return Err(RestoreFault::Full);
+        return Err(RowFault::Full);
     }
     Ok(())
 }
@@ -43,7 +43,7 @@ pub(crate) fn check_challenge(
     rows: &Rows<Challenge, u64>,
     row: &Challenge,
     clock: u64,
-) -> Result<(), RestoreFault>
+) -> Result<(), RowFault>
     ensures answer { result ≡ challenge_restorable clock row.now (record {
       challenges = rows.now.rows;
       next = rows.now.last + 1;
@@ -52,13 +52,13 @@ pub(crate) fn check_challenge(
     ensures number { OnOk result (rows.now.last < row.now.number) }
 {
     if row.number <= rows.last() {
-        return Err(RestoreFault::Number);
+        return Err(RowFault::Number);
     }
     if clock < row.made {
-        return Err(RestoreFault::Moments);
+        return Err(RowFault::Moments);
     }
     if CHALLENGES_MAX <= rows.len() {
-        return Err(RestoreFault::Full);
+        return Err(RowFault::Full);
     }
     Ok(())
 }

@@ -10,7 +10,7 @@
 //! passes are found anew. `tell_dead` and `count_live` go the same way and leave all as it is. `change_all` goes over every row, and leaves the
 //! bounds of the groups to the next `expire`. Nothing rests on moments that rise.
 //!
-//! `room` and `copy` are the calls that take memory. `room` puts an empty block under the key of the next number, by the map's
+//! `room`, `restore` and `copy` are the calls that take memory. `room` puts an empty block under the key of the next number, by the map's
 //! insert, and `push` fills the block in place: nothing leans on a reserve of the map. Now and then, and where memory is refused, `room`
 //! takes out the blocks without rows.
 //!

@@ -307,7 +307,7 @@ impl<T: Row<S>, S: Copy> Rows<T, S> {
         Ok(copy)
     }
 
-    /// Gives the numbers up to this one to no row. No memory is ready then.
+    /// Gives no number up to this one from now on. No memory is ready then.
     pub fn skip(&mut self, last: u64)
         requires { self.old.last ≤ last }
         ensures rows { self.new.rows ≡ self.old.rows }

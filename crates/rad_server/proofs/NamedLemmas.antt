@@ -1,7 +1,6 @@
 -- The session that a reply's Class names is the only one that may have the address that the reply gives.
-use Rattle.std.proofs.Common.{◌≡◌, ℕ, suc, ◌+◌, ◌≤◌, ◌<◌, Bool, true, false, cond, ◌&&◌, ◌||◌, ◌==◌, List, [], ◌∷◌, find, All, AllPairs, Option, Some, None, arith, refl, ap, sym, subst, ◌∙◌}
+use Rattle.std.proofs.Common.{◌≡◌, ℕ, suc, ◌≤◌, ◌<◌, Bool, true, false, cond, ◌&&◌, ◌||◌, ◌==◌, List, [], ◌∷◌, find, All, AllPairs, Option, Some, None, arith, refl, ap, sym, subst, ◌∙◌}
 use Rattle.std.specs.Cmp.Lexicographic.{same_text}
-use Rattle.std.specs.Int.{from_be_bytes, to_be_bytes, w64}
 use Rattle.std.specs.List.{list_any}
 use Rattle.std.specs.Prelude.{option_and_then, unwrap_or}
 use Rattle.std.proofs.lemmas.Bool.{and_parts, both_ways, eq-eqb, eqb-true, false_from_ne_true}
@@ -13,9 +12,9 @@ use Rattle.rad_pool.specs.Grants.{last_number}
 use Rattle.rad_pool.specs.Sessions.{Sessions}
 use Rattle.rad_pool.specs.declared.session.Session.{Session}
 use Rattle.rad_recent.specs.declared.kept.Kept.{Kept}
-use Rattle.rad_server.specs.Replies.{class_prefix, class_value}
+use Rattle.rad_server.specs.Replies.{class_value}
 use Rattle.rad_server.specs.Reports.{class_number_of}
-use Rattle.rad_server.specs.Restored.{HaveNumbers, is_address_in, is_session_of, is_value}
+use Rattle.rad_server.specs.Restored.{HaveNumbers, is_address_in, is_its_session, is_value}
 
 -- the number of a Class
 class_back : (n : ℕ) → n ≤ last_number → class_number_of (class_value n) ≡ Some n
@@ -61,7 +60,7 @@ by_number p n (x ∷ xs) rising only = at (x.number == n) refl (by_number p n xs
 -- ---- the session of a reply
 
 -- a session passes only with the Class of its number
-class_of : (reply : Kept) (session : Session) → is_session_of reply session ≡ true → is_value (class_value session.number) (first_value 25 reply.body.attributes) ≡ true
+class_of : (reply : Kept) (session : Session) → is_its_session reply session ≡ true → is_value (class_value session.number) (first_value 25 reply.body.attributes) ≡ true
 class_of reply session passed =
     let class = is_value (class_value session.number) (first_value 25 reply.body.attributes) in
     let address = is_address_in (first_value 8 reply.body.attributes) session.address in
@@ -69,7 +68,7 @@ class_of reply session passed =
 
 -- so its number is the one in the Class, if there is one
 class_names : (reply : Kept) (session : Session) (number : Option ℕ) → session.number ≤ last_number
-    → option_and_then class_number_of (first_value 25 reply.body.attributes) ≡ number → is_session_of reply session ≡ true → number ≡ Some session.number
+    → option_and_then class_number_of (first_value 25 reply.body.attributes) ≡ number → is_its_session reply session ≡ true → number ≡ Some session.number
 class_names reply session number fits named passed = at (first_value 25 reply.body.attributes) (class_of reply session passed) named
   where
     at : (value : Option (List ℕ)) → is_value (class_value session.number) value ≡ true → option_and_then class_number_of value ≡ number → number ≡ Some session.number
@@ -81,22 +80,22 @@ some_same a b is = ap (λ (o : Option ℕ). unwrap_or o a) is
 
 -- without a Class of a session there is none
 pub unnamed : (reply : Kept) (table : Sessions) → HaveNumbers table → option_and_then class_number_of (first_value 25 reply.body.attributes) ≡ None
-    → list_any (is_session_of reply) table.sessions ≡ false
+    → list_any (is_its_session reply) table.sessions ≡ false
 unnamed reply table numbers named =
-    list_any_none (is_session_of reply) table.sessions (All-weaker (λ (session : Session). session.number ≤ last_number) (λ (session : Session). is_session_of reply session ≡ false)
-    (λ session fits. false_from_ne_true (is_session_of reply session) (λ passed. absurd (cc (class_names reply session None fits named passed)))) table.sessions numbers.within)
+    list_any_none (is_its_session reply) table.sessions (All-weaker (λ (session : Session). session.number ≤ last_number) (λ (session : Session). is_its_session reply session ≡ false)
+    (λ session fits. false_from_ne_true (is_its_session reply session) (λ passed. absurd (cc (class_names reply session None fits named passed)))) table.sessions numbers.within)
 
 only_named : (reply : Kept) (n : ℕ) (table : Sessions) → HaveNumbers table → option_and_then class_number_of (first_value 25 reply.body.attributes) ≡ Some n
-    → list_any (is_session_of reply) table.sessions ≡ passes (is_session_of reply) (find (λ (session : Session). session.number == n) table.sessions)
+    → list_any (is_its_session reply) table.sessions ≡ passes (is_its_session reply) (find (λ (session : Session). session.number == n) table.sessions)
 only_named reply n table numbers named =
-    by_number (is_session_of reply) n table.sessions numbers.rising
-    (All-weaker (λ (session : Session). session.number ≤ last_number) (λ (session : Session). is_session_of reply session ≡ true → session.number ≡ n)
+    by_number (is_its_session reply) n table.sessions numbers.rising
+    (All-weaker (λ (session : Session). session.number ≤ last_number) (λ (session : Session). is_its_session reply session ≡ true → session.number ≡ n)
     (λ session fits passed. some_same session.number n (sym (class_names reply session (Some n) fits named passed))) table.sessions numbers.within)
 
 pub named_found : (reply : Kept) (n : ℕ) (session : Session) (table : Sessions) → HaveNumbers table → option_and_then class_number_of (first_value 25 reply.body.attributes) ≡ Some n
-    → find (λ (s : Session). s.number == n) table.sessions ≡ Some session → is_session_of reply session ≡ list_any (is_session_of reply) table.sessions
-named_found reply n session table numbers named found = ap (passes (is_session_of reply)) (sym found) ∙ sym (only_named reply n table numbers named)
+    → find (λ (s : Session). s.number == n) table.sessions ≡ Some session → is_its_session reply session ≡ list_any (is_its_session reply) table.sessions
+named_found reply n session table numbers named found = ap (passes (is_its_session reply)) (sym found) ∙ sym (only_named reply n table numbers named)
 
 pub named_gone : (reply : Kept) (n : ℕ) (table : Sessions) → HaveNumbers table → option_and_then class_number_of (first_value 25 reply.body.attributes) ≡ Some n
-    → find (λ (s : Session). s.number == n) table.sessions ≡ None → list_any (is_session_of reply) table.sessions ≡ false
-named_gone reply n table numbers named gone = only_named reply n table numbers named ∙ ap (passes (is_session_of reply)) gone
+    → find (λ (s : Session). s.number == n) table.sessions ≡ None → list_any (is_its_session reply) table.sessions ≡ false
+named_gone reply n table numbers named gone = only_named reply n table numbers named ∙ ap (passes (is_its_session reply)) gone

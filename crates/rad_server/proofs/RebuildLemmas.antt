@@ -1,5 +1,5 @@
 -- A lawful state, put back row by row into a server that remembers nothing, is that state.
-use Rattle.std.proofs.Common.{◌≡◌, ℕ, ◌+◌, ◌-◌, ◌≤◌, Bool, cond, List, [], ◌∷◌, ◌++◌, map, All, Option, Result, Ok, Err, arith, refl, ap, sym, subst, ◌∙◌}
+use Rattle.std.proofs.Common.{◌≡◌, ℕ, ◌-◌, Bool, cond, List, [], ◌∷◌, ◌++◌, map, All, Option, Result, Ok, Err, arith, refl, ap, sym, subst, ◌∙◌}
 use Rattle.std.specs.Prelude.{count_by, max}
 use Rattle.std.proofs.lemmas.List.{append_assoc}
 use Rattle.std.proofs.lemmas.List.Elements.{All-head, All-tail}
@@ -7,7 +7,6 @@ use Rattle.std.proofs.lemmas.List.Sums.{sum_by-append}
 use Rattle.std.proofs.lemmas.Option.{IfSome_then}
 use Rattle.rad_packet.specs.Ladders.{◌>>=◌}
 use Rattle.rad_config.specs.Configurations.{Configuration}
-use Rattle.rad_config.specs.Spans.{spans_of}
 use Rattle.rad_pool.specs.Lawful.{RestoreRebuilds as SessionsRebuilt}
 use Rattle.rad_pool.specs.Restored.{last_restorable, with_last}
 use Rattle.rad_pool.specs.Restored as sessions
@@ -23,10 +22,9 @@ use Rattle.rad_recent.specs.Restored.{challenge_restorable, challenges_rebuilt, 
 use Rattle.rad_recent.specs.declared.challenge.Challenge.{Challenge}
 use Rattle.rad_recent.specs.declared.challenge.Party.TheVariants.{Client, User}
 use Rattle.rad_recent.specs.declared.kept.Kept.{Kept}
-use Rattle.rad_restore_fault.specs.declared.restore_fault.RestoreFault.{RestoreFault}
 use Rattle.rad_server.proofs.RestoreLemmas.{both_pass, joins_so, may_wait_so, shares_so, waits_so}
 use Rattle.rad_server.specs.Lawful.{HasItsSession, IsChallengeOf, IsLawful, IsOwned, IsRepeatable}
-use Rattle.rad_server.specs.Restored.{challenge_joins, rebuilt, reply_joins, restorable, restored, rows_of, with_row}
+use Rattle.rad_server.specs.Restored.{rebuilt, restorable, restored, rows_of, with_row}
 use Rattle.rad_server.specs.Shares.{AreSharedChallenges, AreSharedReplies, IsWithin, challenges_limit, challenges_share, replies_share}
 use Rattle.rad_server.specs.States.{State, at_moment, opening}
 use Rattle.rad_server.specs.declared.state_row.StateRow.{StateRow}

@@ -1,19 +1,17 @@
 -- What the rules ask of a row that is put back is what the law asks of the state with it.
-use Rattle.std.proofs.Common.{◌≡◌, ◌↔◌, ◌⊎◌, ℕ, ◌+◌, ◌-◌, ◌≤◌, ◌<◌, Bool, true, false, not, cond, ◌&&◌, ◌||◌, ◌==◌, eqb, List, [], ◌∷◌, ◌++◌, length, find, All, AllPairs, Contains, Option, Some, None, IfSome, option_map, Result, Ok, Err, arith, refl, ap, sym, subst, ◌∙◌, inl, inr}
+use Rattle.std.proofs.Common.{◌≡◌, ◌↔◌, ◌⊎◌, ℕ, ◌+◌, ◌-◌, ◌≤◌, ◌<◌, Bool, true, false, not, cond, ◌&&◌, ◌||◌, ◌==◌, eqb, List, [], ◌∷◌, ◌++◌, length, find, All, Option, Some, None, option_map, Result, Ok, Err, arith, refl, ap, sym, ◌∙◌, inl, inr}
 use Rattle.std.specs.Cmp.Lexicographic.{same_text}
 use Rattle.std.specs.List.{list_any}
-use Rattle.std.specs.Prelude.{count_by, is_some, nat_le, slice_index_or}
-use Rattle.std.proofs.lemmas.Bool.{and_from, and_parts, both_ways, eq-eqb, eqb-true, false_from_ne_true, le-leb, leb-false, leb-true, lt-leb, ne_eqb, not-false, not-true, not_from_false, not_from_true, or_from, or_left, or_parts, or_right}
+use Rattle.std.specs.Prelude.{is_some, nat_le, slice_index_or}
+use Rattle.std.proofs.lemmas.Bool.{and_from, and_parts, both_ways, eq-eqb, eqb-true, le-leb, leb-false, leb-true, lt-leb, not-false, not-true, not_from_false, not_from_true, or_parts}
 use Rattle.std.proofs.lemmas.Cmp.{nat_list_eq_equiv}
 use Rattle.std.proofs.lemmas.List.Elements.{All-contains, All-push, All-weaker, Contains-append_left, Contains-push}
 use Rattle.std.proofs.lemmas.List.Folds.{Any-from_list_any, list_any_at}
-use Rattle.std.proofs.lemmas.List.Sums.{sum_by-cons, sum_by_push}
-use Rattle.std.proofs.lemmas.Option.{IfSome_then}
+use Rattle.std.proofs.lemmas.List.Sums.{sum_by-cons}
 use Rattle.rad_packet.specs.Attributes.{Attribute, count, first_value, is_of, size}
 use Rattle.rad_packet.specs.Bodies.{Body}
 use Rattle.rad_packet.specs.Ladders.{◌>>=◌, refuse_if}
 use Rattle.rad_packet.specs.Packets.{header_size, length_max}
-use Rattle.rad_auth.specs.Authenticators.{sixteen_zeros}
 use Rattle.rad_auth.specs.Clients.{client_place}
 use Rattle.rad_auth.specs.Sealing.{BeginsWithMessageAuthenticator, IsAccessReply, IsAccountingResponse, IsReply}
 use Rattle.rad_config.specs.Configurations.{Configuration, is_reached}
@@ -23,21 +21,21 @@ use Rattle.rad_pool.specs.Restored.{last_restorable, with_last}
 use Rattle.rad_pool.specs.Restored as sessions
 use Rattle.rad_pool.specs.Sessions.{Sessions}
 use Rattle.rad_pool.specs.declared.session.Session.{Session}
-use Rattle.rad_recent.specs.Challenges.{Challenges, is_with, last_challenge, waiting_with}
+use Rattle.rad_recent.specs.Challenges.{Challenges, is_with, waiting_with}
 use Rattle.rad_recent.specs.Lawful.{RestoredChallengeIsTheLaw, RestoredLastChallengeIsTheLaw, RestoredReplyIsTheLaw}
-use Rattle.rad_recent.specs.Recent.{Replies, is_client, is_of as takes_share_of, replies_for, with_reply}
-use Rattle.rad_recent.specs.Restored.{challenge_restorable, last_challenge_restorable, reply_restorable, with_challenge_row, with_last_challenge}
+use Rattle.rad_recent.specs.Recent.{Replies, is_client, is_of as takes_share_of, with_reply}
+use Rattle.rad_recent.specs.Restored.{challenge_restorable, reply_restorable, with_challenge_row}
 use Rattle.rad_recent.specs.declared.challenge.Challenge.{Challenge}
 use Rattle.rad_recent.specs.declared.challenge.Party.TheVariants as parties
 use Rattle.rad_recent.specs.declared.kept.Kept.{Kept}
-use Rattle.rad_restore_fault.specs.declared.restore_fault.RestoreFault.{RestoreFault}
-use Rattle.rad_restore_fault.specs.declared.restore_fault.RestoreFault.TheVariants as faults
+use Rattle.rad_row_fault.specs.declared.row_fault.RowFault.{RowFault}
+use Rattle.rad_row_fault.specs.declared.row_fault.RowFault.TheVariants as faults
 use Rattle.rad_server.proofs.AddressLemmas.{KeepsSessions, still_has}
 use Rattle.rad_server.proofs.ShareLemmas.{MayWait, shares_with_nobodys, shares_with_one, spare_before, waiting_with_row}
 use Rattle.rad_server.specs.Lawful.{HasItsSession, IsChallengeOf, IsLawful, IsOwned, IsRepeatable, IsSessionOf}
 use Rattle.rad_server.specs.Replies.{class_value, four_octets}
-use Rattle.rad_server.specs.Restored.{HaveNumbers, IsNew, IsRow, begins_sealable, challenge_joins, has_used_challenges, has_used_share, is_address_in, is_reply_of, is_same_place, is_sealable, is_session_of, is_value, lacks_session, reply_joins, restorable, with_row}
-use Rattle.rad_server.specs.Shares.{AreSharedChallenges, AreSharedReplies, IsWithin, challenges_limit, challenges_share, replies_share}
+use Rattle.rad_server.specs.Restored.{HaveNumbers, IsNew, IsRow, begins_sealable, challenge_rules, has_used_challenges, has_used_share, is_address_in, is_reply_of, is_same_place, can_be_sealed, is_its_session, is_value, lacks_session, reply_rules, restorable, with_row}
+use Rattle.rad_server.specs.Shares.{AreSharedChallenges, AreSharedReplies, challenges_limit, challenges_share, replies_share}
 use Rattle.rad_server.specs.States.{State}
 use Rattle.rad_server.specs.Users.{user_at}
 use Rattle.rad_server.specs.declared.state_row.StateRow.{StateRow}
@@ -142,12 +140,12 @@ kind_so body (inr access) = by_code access.code
     by_code (inr (inl code)) = rw (code) begins
     by_code (inr (inr code)) = rw (code) begins
 
-sealable_says : (body : Body) → is_sealable body ≡ true → IsReply body
+sealable_says : (body : Body) → can_be_sealed body ≡ true → IsReply body
 sealable_says body is =
     let parts = and_parts (nat_le (size body.attributes) (length_max - header_size)) (is_reply_of body.code body.attributes) is in
     record { fits = omega (arith, leb-true (size body.attributes) (length_max - header_size) parts.0); kind = kind_says body parts.1 }
 
-sealable_so : (body : Body) → IsReply body → is_sealable body ≡ true
+sealable_so : (body : Body) → IsReply body → can_be_sealed body ≡ true
 sealable_so body is =
     and_from (nat_le (size body.attributes) (length_max - header_size)) (is_reply_of body.code body.attributes)
     (le-leb (size body.attributes) (length_max - header_size) (omega (arith, is.fits))) (kind_so body is.kind)
@@ -170,7 +168,7 @@ address_so value own None own_is is = absurd (cc)
 address_so value own (Some address) own_is is = value_so (four_octets address) own (own_is ∙ sym is)
 
 -- a session that has what a reply gives
-its_says : (reply : Kept) (session : Session) (value : List ℕ) → first_value 8 reply.body.attributes ≡ Some value → is_session_of reply session ≡ true
+its_says : (reply : Kept) (session : Session) (value : List ℕ) → first_value 8 reply.body.attributes ≡ Some value → is_its_session reply session ≡ true
     → IsSessionOf reply.body value session × (session.made ≡ reply.made)
 its_says reply session value gives is =
     let class = is_value (class_value session.number) (first_value 25 reply.body.attributes) in
@@ -185,7 +183,7 @@ its_says reply session value gives is =
     )
 
 its_so : (reply : Kept) (session : Session) (value : List ℕ) → first_value 8 reply.body.attributes ≡ Some value → IsSessionOf reply.body value session → session.made ≡ reply.made
-    → is_session_of reply session ≡ true
+    → is_its_session reply session ≡ true
 its_so reply session value gives is made =
     let class = is_value (class_value session.number) (first_value 25 reply.body.attributes) in
     let address = is_address_in (first_value 8 reply.body.attributes) session.address in
@@ -196,28 +194,28 @@ its_so reply session value gives is made =
 
 session_says : (table : Sessions) (reply : Kept) → lacks_session table reply ≡ false → HasItsSession table reply.body reply.made
 session_says table reply lacks accept value gives =
-    let there : list_any (is_session_of reply) table.sessions ≡ true = not-false (list_any (is_session_of reply) table.sessions) (given lacks) in
-    let found = Any-from_list_any (is_session_of reply) table.sessions there in
+    let there : list_any (is_its_session reply) table.sessions ≡ true = not-false (list_any (is_its_session reply) table.sessions) (given lacks) in
+    let found = Any-from_list_any (is_its_session reply) table.sessions there in
     let session : Session = found.1 in
     let its = its_says reply session value gives found.4 in
     (session, (found.0, found.2, found.3), its.0, its.1)
   where
-    given : lacks_session table reply ≡ false → not (list_any (is_session_of reply) table.sessions) ≡ false
-    given lacks = sym (λ j. (eq-eqb reply.body.code 2 accept j && is_some (gives j)) && not (list_any (is_session_of reply) table.sessions)) ∙ lacks
+    given : lacks_session table reply ≡ false → not (list_any (is_its_session reply) table.sessions) ≡ false
+    given lacks = sym (λ j. (eq-eqb reply.body.code 2 accept j && is_some (gives j)) && not (list_any (is_its_session reply) table.sessions)) ∙ lacks
 
 pub session_so : (table : Sessions) (reply : Kept) → HasItsSession table reply.body reply.made → lacks_session table reply ≡ false
 session_so table reply has = at (reply.body.code == 2) refl (first_value 8 reply.body.attributes) refl
   where
     at : (accept : Bool) → (reply.body.code == 2) ≡ accept → (value : Option (List ℕ)) → first_value 8 reply.body.attributes ≡ value
-        → (accept && is_some value && not (list_any (is_session_of reply) table.sessions)) ≡ false
+        → (accept && is_some value && not (list_any (is_its_session reply) table.sessions)) ≡ false
     at false is value gives = refl
     at true is None gives = refl
     at true is (Some value) gives =
         let its = has (eqb-true reply.body.code 2 is) value gives in
         let session : Session = its.0 in
         let passes = its_so reply session value gives its.2 its.3 in
-        not_from_true (list_any (is_session_of reply) table.sessions)
-        (list_any_at (is_session_of reply) table.sessions its.1.0 session its.1.1 (ap (is_session_of reply) (its.1.2) ∙ passes))
+        not_from_true (list_any (is_its_session reply) table.sessions)
+        (list_any_at (is_its_session reply) table.sessions its.1.0 session its.1.1 (ap (is_its_session reply) (its.1.2) ∙ passes))
 
 -- ---- what joins a reply
 
@@ -255,25 +253,25 @@ pub record Joins (configuration : Configuration) (table : Sessions) (replies : R
   pub shares : AreSharedReplies configuration replies → AreSharedReplies configuration (with_reply reply replies)
   pub address : HasItsSession table reply.body reply.made
 
-joins_says : (configuration : Configuration) (table : Sessions) (replies : Replies) (reply : Kept) → reply_joins configuration table replies reply ≡ Ok tt
+joins_says : (configuration : Configuration) (table : Sessions) (replies : Replies) (reply : Kept) → reply_rules configuration table replies reply ≡ Ok tt
     → Joins configuration table replies reply
-unfolding reply_joins
+unfolding reply_rules
 joins_says configuration table replies reply is =
-    let Rung : Type 0 = Unit {0} → Result (Unit {0}) RestoreFault in
+    let Rung : Type 0 = Unit {0} → Result (Unit {0}) RowFault in
     let lacks = lacks_session table reply in
     let used = has_used_share configuration replies reply.client in
     let other = not (is_same_place reply.client (client_place configuration.clients reply.key.source)) in
     let status = slice_index_or reply.octets 0 0 == 12 in
     let last : Rung = λ _. refuse_if lacks faults.Session in
     let fourth : Rung = λ _. refuse_if used faults.Share >>= last in
-    let third : Rung = λ _. refuse_if other faults.Client >>= fourth in
+    let third : Rung = λ _. refuse_if other faults.Owner >>= fourth in
     let second : Rung = λ _. refuse_if status faults.Request >>= third in
-    let a = past (not (is_sealable reply.body)) faults.Body second tt is in
+    let a = past (not (can_be_sealed reply.body)) faults.Body second tt is in
     let b = past status faults.Request third tt a.1 in
-    let c = past other faults.Client fourth tt b.1 in
+    let c = past other faults.Owner fourth tt b.1 in
     let d = past used faults.Share last tt c.1 in
     record {
-      repeatable = record { sealable = sealable_says reply.body (not-false (is_sealable reply.body) a.0); request = b.0 };
+      repeatable = record { sealable = sealable_says reply.body (not-false (can_be_sealed reply.body) a.0); request = b.0 };
       owned = same_says reply.client (client_place configuration.clients reply.key.source)
           (not-false (is_same_place reply.client (client_place configuration.clients reply.key.source)) c.0);
       shares = shares_say configuration reply replies d.0;
@@ -281,8 +279,8 @@ joins_says configuration table replies reply is =
     }
 
 pub joins_so : (configuration : Configuration) (table : Sessions) (replies : Replies) (reply : Kept) → IsRepeatable reply → IsOwned configuration reply
-    → has_used_share configuration replies reply.client ≡ false → HasItsSession table reply.body reply.made → reply_joins configuration table replies reply ≡ Ok tt
-unfolding reply_joins
+    → has_used_share configuration replies reply.client ≡ false → HasItsSession table reply.body reply.made → reply_rules configuration table replies reply ≡ Ok tt
+unfolding reply_rules
 joins_so configuration table replies reply repeatable owned spare its =
     rw (sealable_so reply.body repeatable.sealable, repeatable.request, same_so reply.client (client_place configuration.clients reply.key.source) owned, spare, session_so table reply its) refl
 
@@ -295,11 +293,11 @@ pub record Waits (configuration : Configuration) (challenges : Challenges) (row 
   pub answer : is_some (user_at configuration row.user).answer ≡ true
   pub may : MayWait configuration row.client row.user challenges
 
-waits_says : (configuration : Configuration) (challenges : Challenges) (row : Challenge) → challenge_joins configuration challenges row ≡ Ok tt
+waits_says : (configuration : Configuration) (challenges : Challenges) (row : Challenge) → challenge_rules configuration challenges row ≡ Ok tt
     → Waits configuration challenges row
-unfolding challenge_joins
+unfolding challenge_rules
 waits_says configuration challenges row is =
-    let Rung : Type 0 = Unit {0} → Result (Unit {0}) RestoreFault in
+    let Rung : Type 0 = Unit {0} → Result (Unit {0}) RowFault in
     let used = has_used_challenges configuration challenges row in
     let unanswered = not (is_some (user_at configuration row.user).answer) in
     let last : Rung = λ _. refuse_if used faults.Share in
@@ -318,8 +316,8 @@ waits_says configuration challenges row is =
     }
 
 pub waits_so : (configuration : Configuration) (challenges : Challenges) (row : Challenge) → Waits configuration challenges row
-    → challenge_joins configuration challenges row ≡ Ok tt
-unfolding challenge_joins
+    → challenge_rules configuration challenges row ≡ Ok tt
+unfolding challenge_rules
 waits_so configuration challenges row waits =
     rw (lt-leb (length configuration.clients) row.client waits.client, lt-leb (length configuration.users) row.user waits.user, waits.answer, waits.may.shared, waits.may.own) refl
 
@@ -396,7 +394,7 @@ restore_is_the_law laws configuration (rows.Reply reply) state is lawful =
     let law = laws.reply state.clock reply state.replies lawful.replies in
     let last = λ (P : Kept → Type 0) (each : All P (state.replies.kept ++ reply ∷ [])). All-contains P (state.replies.kept ++ reply ∷ []) reply each (Contains-push state.replies.kept reply) in (
       (λ fits.
-          let parts = both_pass (reply_joins configuration state.sessions state.replies reply) (reply_restorable state.clock reply state.replies) tt fits in
+          let parts = both_pass (reply_rules configuration state.sessions state.replies reply) (reply_restorable state.clock reply state.replies) tt fits in
           let joins = joins_says configuration state.sessions state.replies reply parts.0 in (
             tt,
             record {
@@ -424,7 +422,7 @@ restore_is_the_law laws configuration (rows.Reply reply) state is lawful =
 restore_is_the_law laws configuration (rows.Challenge row) state is lawful =
     let law = laws.challenge state.clock row state.challenges is.0 lawful.challenges in (
       (λ fits.
-          let parts = both_pass (challenge_joins configuration state.challenges row) (challenge_restorable state.clock row state.challenges) tt fits in
+          let parts = both_pass (challenge_rules configuration state.challenges row) (challenge_restorable state.clock row state.challenges) tt fits in
           let waits = waits_says configuration state.challenges row parts.0 in
           let new = law.0 parts.1 in (
             new.0,

@@ -9,7 +9,6 @@ use Rattle.rad_auth.specs.Clients.{secret_at}
 use Rattle.rad_auth.specs.Passwords.{password_right}
 use Rattle.rad_auth.specs.declared.arrival.Request.{Request}
 use Rattle.rad_config.specs.Configurations.{Configuration, is_reached, user_place}
-use Rattle.rad_config.specs.declared.user.User.{User}
 use Rattle.rad_pool.specs.Grants.{granted, with_session}
 use Rattle.rad_pool.specs.declared.grant.Grant.{Grant}
 use Rattle.rad_pool.specs.declared.grant.Refusal.{Refusal}

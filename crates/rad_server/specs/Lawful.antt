@@ -111,7 +111,7 @@ PassingKeepsTheLaw = (configuration : Configuration) (state : State) (moment : �
 
 -- ---- what is put back
 
--- a row is put back into a lawful state exactly where the state with it is lawful and its number, if it has one, wasn't given yet
+-- a row is put back into a lawful state exactly where the state with it is lawful and no number is given twice
 abbrev pub RestoreIsTheLaw : Type 0
 RestoreIsTheLaw = (configuration : Configuration) (row : StateRow) (state : State) → IsRow row → IsLawful configuration state
     → (restorable configuration row state ≡ Ok tt) ↔ (IsNew row state × IsLawful configuration (with_row row state))

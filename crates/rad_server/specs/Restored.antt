@@ -22,8 +22,8 @@ use Rattle.rad_recent.specs.Restored.{challenge_restorable, last_challenge_resto
 use Rattle.rad_recent.specs.declared.challenge.Challenge.{Challenge}
 use Rattle.rad_recent.specs.declared.challenge.Party.TheVariants as parties
 use Rattle.rad_recent.specs.declared.kept.Kept.{Kept}
-use Rattle.rad_restore_fault.specs.declared.restore_fault.RestoreFault.{RestoreFault}
-use Rattle.rad_restore_fault.specs.declared.restore_fault.RestoreFault.TheVariants as faults
+use Rattle.rad_row_fault.specs.declared.row_fault.RowFault.{RowFault}
+use Rattle.rad_row_fault.specs.declared.row_fault.RowFault.TheVariants as faults
 use Rattle.rad_server.specs.Replies.{class_value, four_octets}
 use Rattle.rad_server.specs.Shares.{challenges_limit, challenges_share, replies_share}
 use Rattle.rad_server.specs.States.{State, at_moment, opening}
@@ -46,8 +46,8 @@ is_reply_of code list =
     else ((code == code_access_accept) || (code == code_access_reject) || (code == code_access_challenge)) && begins_sealable list
 
 -- whether a body can be sealed
-abbrev pub is_sealable : Body → Bool
-is_sealable body = nat_le (size body.attributes) (length_max - header_size) && is_reply_of body.code body.attributes
+abbrev pub can_be_sealed : Body → Bool
+can_be_sealed body = nat_le (size body.attributes) (length_max - header_size) && is_reply_of body.code body.attributes
 
 -- whether there is a Value, and it is this one
 abbrev pub is_value : List ℕ → Option (List ℕ) → Bool
@@ -60,8 +60,8 @@ is_address_in value None = false
 is_address_in value (Some address) = is_value (four_octets address) value
 
 -- whether a session has the address that a reply gives, the reply has the session's Class, and both were made at one moment
-abbrev pub is_session_of : Kept → Session → Bool
-is_session_of reply session =
+abbrev pub is_its_session : Kept → Session → Bool
+is_its_session reply session =
     is_value (class_value session.number) (first_value type_class reply.body.attributes)
     && is_address_in (first_value type_framed_ip_address reply.body.attributes) session.address
     && (session.made == reply.made)
@@ -75,9 +75,9 @@ pub record HaveNumbers (table : Sessions) : Type 0 where
 abbrev pub lacks_session : Sessions → Kept → Bool
 lacks_session table reply =
     (reply.body.code == code_access_accept) && is_some (first_value type_framed_ip_address reply.body.attributes)
-    && not (list_any (is_session_of reply) table.sessions)
+    && not (list_any (is_its_session reply) table.sessions)
 
--- whether two places, if they are there, are the same
+-- whether both places are there and the same, or neither is there
 abbrev pub is_same_place : Option ℕ → Option ℕ → Bool
 is_same_place None None = true
 is_same_place None (Some other) = false
@@ -89,12 +89,12 @@ abbrev pub has_used_share : Configuration → Replies → Option ℕ → Bool
 has_used_share configuration replies None = false
 has_used_share configuration replies (Some client) = is_reached (replies_share configuration client) (replies_for client replies)
 
--- the first rule of a kept reply that joins it to the configuration and to the sessions, where it breaks one
-unfoldable pub reply_joins : Configuration → Sessions → Replies → Kept → Result (Unit {0}) RestoreFault
-reply_joins configuration table replies reply = do
-  sealable ← refuse_if (not (is_sealable reply.body)) faults.Body
+-- the rules of a kept reply beside those of its table: the first that it breaks, if it breaks one
+unfoldable pub reply_rules : Configuration → Sessions → Replies → Kept → Result (Unit {0}) RowFault
+reply_rules configuration table replies reply = do
+  sealable ← refuse_if (not (can_be_sealed reply.body)) faults.Body
   request ← refuse_if (slice_index_or reply.octets 0 0 == code_status_server) faults.Request
-  owned ← refuse_if (not (is_same_place reply.client (client_place configuration.clients reply.key.source))) faults.Client
+  owned ← refuse_if (not (is_same_place reply.client (client_place configuration.clients reply.key.source))) faults.Owner
   shared ← refuse_if (has_used_share configuration replies reply.client) faults.Share
   refuse_if (lacks_session table reply) faults.Session
 
@@ -106,9 +106,9 @@ has_used_challenges configuration challenges row =
     is_reached (challenges_share configuration row.client) (waiting_with (parties.Client row.client) challenges)
     || is_reached (challenges_limit configuration row.user) (waiting_with (parties.User row.user) challenges)
 
--- the first rule of a challenge that joins it to the configuration, where it breaks one
-unfoldable pub challenge_joins : Configuration → Challenges → Challenge → Result (Unit {0}) RestoreFault
-challenge_joins configuration challenges row = do
+-- the rules of a challenge beside those of its table: the first that it breaks, if it breaks one
+unfoldable pub challenge_rules : Configuration → Challenges → Challenge → Result (Unit {0}) RowFault
+challenge_rules configuration challenges row = do
   client ← refuse_if (nat_le (length configuration.clients) row.client) faults.Client
   user ← refuse_if (nat_le (length configuration.users) row.user) faults.User
   answer ← refuse_if (not (is_some (user_at configuration row.user).answer)) faults.Answer
@@ -116,14 +116,14 @@ challenge_joins configuration challenges row = do
 
 -- ---- one row
 
--- Whether a row can be put back into a state, or the first rule that it breaks: what joins tables comes before its own table's rules.
-unfoldable pub restorable : Configuration → StateRow → State → Result (Unit {0}) RestoreFault
+-- Whether a row can be put back into a state, or the first rule that it breaks. A table's own rules come last.
+unfoldable pub restorable : Configuration → StateRow → State → Result (Unit {0}) RowFault
 restorable configuration (rows.Session row) state = sessions.restorable configuration state.clock row state.sessions
 restorable configuration (rows.LastSession last) state = last_restorable last state.sessions
 restorable configuration (rows.Reply reply) state =
-    reply_joins configuration state.sessions state.replies reply >>= λ joins. reply_restorable state.clock reply state.replies
+    reply_rules configuration state.sessions state.replies reply >>= λ joins. reply_restorable state.clock reply state.replies
 restorable configuration (rows.Challenge row) state =
-    challenge_joins configuration state.challenges row >>= λ joins. challenge_restorable state.clock row state.challenges
+    challenge_rules configuration state.challenges row >>= λ joins. challenge_restorable state.clock row state.challenges
 restorable configuration (rows.LastChallenge last) state = last_challenge_restorable last state.challenges
 
 -- the state with a row more
@@ -142,7 +142,7 @@ IsRow (rows.Reply reply) = Unit {0}
 IsRow (rows.Challenge row) = (row.number ≤ last_challenge) × (length row.draw ≡ length sixteen_zeros)
 IsRow (rows.LastChallenge last) = last ≤ last_challenge
 
--- the number of a row, if it has one, wasn't given yet
+-- the number of a row, if it has one, is above those that were given; none was given that is above a last number
 abbrev pub IsNew : StateRow → State → Type 0
 IsNew (rows.Session row) state = state.sessions.next ≤ row.number
 IsNew (rows.LastSession last) state = state.sessions.next ≤ last + 1
@@ -153,7 +153,7 @@ IsNew (rows.LastChallenge last) state = state.challenges.next ≤ last + 1
 -- ---- a state
 
 -- the state after rows that are put back in their order, or the first refusal
-unfoldable pub restored : Configuration → List StateRow → State → Result State RestoreFault
+unfoldable pub restored : Configuration → List StateRow → State → Result State RowFault
 restored configuration [] state = Ok state
 restored configuration (row ∷ rest) state = do
   fits ← restorable configuration row state
@@ -166,5 +166,5 @@ rows_of state =
     ∷ (map rows.Reply state.replies.kept ++ (map rows.Challenge state.challenges.challenges ++ rows.LastChallenge (state.challenges.next - 1) ∷ []))
 
 -- the state before the first request, its clock at a state's, with the rows of that state
-abbrev pub rebuilt : Configuration → State → Result State RestoreFault
+abbrev pub rebuilt : Configuration → State → Result State RowFault
 rebuilt configuration state = restored configuration (rows_of state) (at_moment state.clock (opening configuration))

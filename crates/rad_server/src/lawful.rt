@@ -18,11 +18,11 @@ pub fn lawful_steps()
     lawful_challenges();
 }
 
-/// A row is put back into a lawful state just where the state with it is lawful and its number wasn't given yet; and the rows of a
-/// lawful state, put back in their order into a server that remembers nothing and whose clock is that state's, give that state.
+/// A row is put back into a lawful state just where the state with it is lawful and no number is given twice; and the rows of a lawful
+/// state, put back in their order into a server that remembers nothing and whose clock is that state's, give that state.
 ///
-/// So what is refused could never have been, and no state that a server can reach is refused, since `lawful_steps` says that each is
-/// lawful. The call costs nothing: it does nothing at run time.
+/// So no state that a server can reach is refused: `lawful_steps` says that each is lawful. The call costs nothing: it does nothing at
+/// run time.
 pub fn rows_rebuild()
     ensures law { RestoreIsTheLaw }
     ensures rebuilt { RestoreRebuilds }

@@ -5,10 +5,11 @@
 //! reply's body if it isn't there yet. Then memory is made ready, and then `commit`, which neither decides nor fails, changes the state.
 //! So if memory is refused, the state is unchanged. Nothing here reads a clock or a socket.
 //!
-//! `exchange` appends a step to a history, and `Book` keeps a server with its history.
+//! `exchange` appends a step to a history, and `Book` keeps a server with its history. `Server::restore` puts back what a server once
+//! remembered, a `StateRow` at a time.
 //!
-//! Other crates rest on this: an answer and the state after it are those of `specs/Steps.antt`, and an answer that is sent can be
-//! sealed.
+//! Other crates rest on this: an answer and the state after it are those of `specs/Steps.antt`, an answer that is sent can be sealed,
+//! and rows are put back as `specs/Restored.antt` says.
 #![tactic(auto)]
 
 mod access;
@@ -49,7 +50,7 @@ pub use entry::Entry;
 pub use history::exchange;
 pub use lawful::{lawful_steps, rows_rebuild};
 pub use prepared::{Prepared, prepare8};
-pub use rad_restore_fault::RestoreFault;
+pub use rad_row_fault::RowFault;
 pub use rad_rows::HashKey;
 pub use runs::{fresh_are_enough, runs_are_lawful, runs_repeat, time_passes_unseen};
 pub use server::Server;

@@ -2,7 +2,7 @@
 ghost use Rattle.std.specs.Prelude.{◌≡◌, option_copied, slice_index_or};
 ghost use Rattle.std.specs.List.{list_any};
 ghost use Rattle.rad_packet.specs.Attributes.{first_value};
-ghost use Rattle.rad_server.specs.Restored.{HaveNumbers, begins_sealable, has_used_share, is_address_in, is_reply_of, is_same_place, is_sealable, is_session_of, is_value, lacks_session, reply_joins};
+ghost use Rattle.rad_server.specs.Restored.{HaveNumbers, begins_sealable, has_used_share, is_address_in, is_reply_of, is_same_place, can_be_sealed, is_its_session, is_value, lacks_session, reply_rules};
 
 use crate::accounting::class_number_of;
 use crate::reply::class_value;
@@ -15,34 +15,34 @@ use rad_packet::code::{
 use rad_packet::{Attribute, Attributes, Body, HEADER_SIZE, LENGTH_MAX};
 use rad_pool::{Session, Sessions};
 use rad_recent::{Kept, Recent};
-use rad_restore_fault::RestoreFault;
+use rad_row_fault::RowFault;
 
-/// The first rule that joins a kept reply to the configuration and to the sessions, where it breaks one.
-#[tactic(auto, unfolding(crate::specs::Restored::reply_joins))]
+/// The rules of a kept reply beside those of its table: the first that it breaks, if it breaks one.
+#[tactic(auto, unfolding(crate::specs::Restored::reply_rules))]
 pub(crate) fn check(
     config: &Config,
     sessions: &Sessions,
     replies: &Recent,
     reply: &Kept,
-) -> Result<(), RestoreFault>
+) -> Result<(), RowFault>
     requires { HaveNumbers sessions.now.table }
-    ensures { result ≡ reply_joins config.now
+    ensures { result ≡ reply_rules config.now
         sessions.now.table replies.now.table reply.now }
 {
-    if !is_sealable(&reply.body) {
-        return Err(RestoreFault::Body);
+    if !can_be_sealed(&reply.body) {
+        return Err(RowFault::Body);
     }
     if first_octet(reply.octets.octets()) == STATUS_SERVER {
-        return Err(RestoreFault::Request);
+        return Err(RowFault::Request);
     }
     if !is_same_place(reply.client, config.clients().find(reply.key.source)) {
-        return Err(RestoreFault::Client);
+        return Err(RowFault::Owner);
     }
     if has_used_share(config, replies, reply.client) {
-        return Err(RestoreFault::Share);
+        return Err(RowFault::Share);
     }
     if lacks_session(sessions, reply) {
-        return Err(RestoreFault::Session);
+        return Err(RowFault::Session);
     }
     Ok(())
 }
@@ -57,7 +57,7 @@ fn first_octet(octets: &[u8]) -> u8
     }
 }
 
-// Whether two places, if they are there, are the same.
+// Whether both places are there and the same, or neither is there.
 fn is_same_place(place: Option<u32>, other: Option<u32>) -> bool
     ensures { result ≡ is_same_place place other }
 {
@@ -84,8 +84,8 @@ fn has_used_share(config: &Config, replies: &Recent, client: Option<u32>) -> boo
 // ---- bodies
 
 // Whether a body can be sealed.
-fn is_sealable(body: &Body) -> bool
-    ensures { result ≡ is_sealable body.now }
+fn can_be_sealed(body: &Body) -> bool
+    ensures { result ≡ can_be_sealed body.now }
 {
     body.size() <= LENGTH_MAX - HEADER_SIZE && is_reply_of(body.code(), body.attributes())
 }
@@ -147,7 +147,7 @@ fn lacks_session(sessions: &Sessions, reply: &Kept) -> bool
 // Whether the session that a reply's Class names has the address that the reply gives.
 fn has_session(sessions: &Sessions, reply: &Kept) -> bool
     requires { HaveNumbers sessions.now.table }
-    ensures { result ≡ list_any (is_session_of reply.now) sessions.now.table.sessions }
+    ensures { result ≡ list_any (is_its_session reply.now) sessions.now.table.sessions }
 {
     let Some(class) = first_value(reply.body.attributes(), CLASS) else {
         return false;
@@ -156,14 +156,14 @@ fn has_session(sessions: &Sessions, reply: &Kept) -> bool
         return false;
     };
     match sessions.get(number) {
-        Some(session) => is_session_of(reply, &session),
+        Some(session) => is_its_session(reply, &session),
         None => false,
     }
 }
 
 // Whether a session has the address that a reply gives, the reply has the session's Class, and both were made at one moment.
-fn is_session_of(reply: &Kept, session: &Session) -> bool
-    ensures { result ≡ is_session_of reply.now session.now }
+fn is_its_session(reply: &Kept, session: &Session) -> bool
+    ensures { result ≡ is_its_session reply.now session.now }
 {
     let class = first_value(reply.body.attributes(), CLASS);
     let address = first_value(reply.body.attributes(), FRAMED_IP_ADDRESS);

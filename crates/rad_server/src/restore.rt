@@ -2,9 +2,9 @@
 ghost use Rattle.std.specs.Prelude.{◌≡◌, ◌<◌, OnErr, OnOk, length};
 ghost use Rattle.rad_config.specs.Configurations.{is_reached};
 ghost use Rattle.rad_recent.specs.Challenges.{waiting_with};
-ghost use Rattle.rad_restore_fault.specs.Answers.{IsAnswer};
+ghost use Rattle.rad_row_fault.specs.Follows.{FollowsRules};
 ghost use Rattle.rad_server.specs.Lawful.{IsLawful};
-ghost use Rattle.rad_server.specs.Restored.{challenge_joins, has_used_challenges, restorable, with_row};
+ghost use Rattle.rad_server.specs.Restored.{challenge_rules, has_used_challenges, restorable, with_row};
 ghost use Rattle.rad_server.specs.Servers.{state_with};
 
 use crate::state_row::StateRow;
@@ -12,7 +12,7 @@ use crate::tables::Tables;
 use crate::{reply_rules, shares};
 use rad_config::Config;
 use rad_recent::{Challenge, Challenges, Party};
-use rad_restore_fault::RestoreFault;
+use rad_row_fault::RowFault;
 
 /// Puts a row back into its table.
 #[tactic(auto, unfolding(crate::specs::Restored::restorable))]
@@ -21,9 +21,9 @@ pub(crate) fn restore(
     clock: u64,
     tables: &mut Tables,
     row: StateRow,
-) -> Result<(), RestoreFault>
+) -> Result<(), RowFault>
     requires { IsLawful config.now (state_with clock tables.old) }
-    ensures answer { IsAnswer (restorable config.now row (state_with clock tables.old)) result }
+    ensures answer { FollowsRules (restorable config.now row (state_with clock tables.old)) result }
     ensures restored { OnOk result
         (state_with clock tables.new ≡ with_row row (state_with clock tables.old)) }
     ensures unchanged { OnErr result
@@ -49,26 +49,26 @@ pub(crate) fn restore(
     }
 }
 
-// The first rule that joins a challenge to the configuration, where it breaks one.
-#[tactic(auto, unfolding(crate::specs::Restored::challenge_joins))]
+// The rules of a challenge beside those of its table: the first that it breaks, if it breaks one.
+#[tactic(auto, unfolding(crate::specs::Restored::challenge_rules))]
 fn check_challenge(
     config: &Config,
     challenges: &Challenges,
     row: &Challenge,
-) -> Result<(), RestoreFault>
-    ensures { result ≡ challenge_joins config.now challenges.now.table row.now }
+) -> Result<(), RowFault>
+    ensures { result ≡ challenge_rules config.now challenges.now.table row.now }
 {
     if config.clients().len() <= row.client as usize {
-        return Err(RestoreFault::Client);
+        return Err(RowFault::Client);
     }
     if config.users().len() <= row.user as usize {
-        return Err(RestoreFault::User);
+        return Err(RowFault::User);
     }
     if config.user_at(row.user).answer.is_none() {
-        return Err(RestoreFault::Answer);
+        return Err(RowFault::Answer);
     }
     if has_used_challenges(config, challenges, row) {
-        return Err(RestoreFault::Share);
+        return Err(RowFault::Share);
     }
     Ok(())
 }

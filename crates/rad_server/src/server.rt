@@ -4,7 +4,7 @@ ghost use Rattle.rad_packet.specs.Packets.{packet_octets};
 ghost use Rattle.rad_auth.specs.Admission.{IsAdmitted};
 ghost use Rattle.rad_config.specs.Ranges.{IsConfiguration};
 ghost use Rattle.rad_config.specs.Spans.{moment_max};
-ghost use Rattle.rad_restore_fault.specs.Answers.{IsAnswer};
+ghost use Rattle.rad_row_fault.specs.Follows.{FollowsRules};
 ghost use Rattle.rad_server.specs.Lawful.{IsLawful};
 ghost use Rattle.rad_server.specs.Restored.{restorable, with_row};
 ghost use Rattle.rad_server.specs.States.{at_moment, opening};
@@ -23,7 +23,7 @@ use rad_config::Config;
 use rad_packet::Octets;
 use rad_pool::Sessions;
 use rad_recent::{Challenges, Recent};
-use rad_restore_fault::RestoreFault;
+use rad_row_fault::RowFault;
 use rad_rows::HashKey;
 use std::alloc::{AllocError, Global};
 use std::marker::Model;
@@ -237,12 +237,12 @@ impl<'c> Server<'c> {
 
     /// Puts back a row of what a server with this configuration once remembered.
     ///
-    /// A server that `open` gave and that `pass` brought to the clock of the old one takes its sessions in the order of their numbers,
-    /// their last number, its kept replies in the order in which they were made, its challenges in the order of their numbers, and
-    /// their last number. `rows_rebuild` says that it is the old one then. The fault is the first rule that the row breaks, in the
-    /// order of `restorable` in `specs/Restored.antt`; after it the server is as it was, and the row is dropped.
-    pub fn restore(&mut self, row: StateRow) -> Result<(), RestoreFault>
-        ensures answer { IsAnswer
+    /// To rebuild a server, open one, let `pass` bring its clock to the old one's, and put back the sessions in the order of their
+    /// numbers and their last number, the kept replies in the order in which they were made, and the challenges in the order of their
+    /// numbers and their last number: then it is the old one (`rows_rebuild`). The fault is the first rule that the row breaks, in the
+    /// order of `restorable` in `specs/Restored.antt`. After a fault nothing has changed, and the row is dropped.
+    pub fn restore(&mut self, row: StateRow) -> Result<(), RowFault>
+        ensures answer { FollowsRules
             (restorable self.old.configuration row self.old.state) result }
         ensures restored { OnOk result (self.new.state ≡ with_row row self.old.state) }
         ensures configuration { self.new.configuration ≡ self.old.configuration }

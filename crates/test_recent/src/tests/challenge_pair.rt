@@ -3,7 +3,7 @@ ghost use Rattle.std.specs.Prelude.{◌≤◌};
 ghost use Rattle.rad_config.specs.Spans.{moment_max};
 
 use rad_config::{Config, MOMENT_MAX};
-use rad_recent::{CHALLENGES_MAX, Challenge, Challenges, IssueFault, RestoreFault, state_value};
+use rad_recent::{CHALLENGES_MAX, Challenge, Challenges, IssueFault, RowFault, state_value};
 use std::alloc::Global;
 
 /// How long challenges wait, in milliseconds.
@@ -173,7 +173,7 @@ impl ChallengePair {
         for row in self.challenges.rows() {
             match rebuilt.restore(row, MOMENT_MAX) {
                 Ok(()) => {}
-                Err(fault) => return fault == RestoreFault::NoMemory,
+                Err(fault) => return fault == RowFault::NoMemory,
             }
         }
         let last = self.challenges.last();

@@ -1,7 +1,7 @@
 use super::CAMPUS;
 use crate::tests::holds;
 use rad_config::{Config, MOMENT_MAX};
-use rad_recent::{Challenge, Challenges, IssueFault, Party, RestoreFault, state_value};
+use rad_recent::{Challenge, Challenges, IssueFault, Party, RowFault, state_value};
 use std::alloc::Global;
 use std::process::Abort;
 use std::test::Fail;
@@ -19,9 +19,9 @@ enum Call {
     /// So many challenges of a party are there.
     Len(Party, u64),
     /// A number and a moment, and what putting back their challenge answers. After a refusal nothing has changed.
-    Restore(u64, u64, Result<(), RestoreFault>),
+    Restore(u64, u64, Result<(), RowFault>),
     /// A last number, and what putting it back answers, and the last number then. After a refusal nothing has changed.
-    RestoreLast(u64, Result<(), RestoreFault>, u64),
+    RestoreLast(u64, Result<(), RowFault>, u64),
     Expire,
     /// The number of each challenge, oldest first.
     Rows(&'static [u64]),
@@ -171,7 +171,7 @@ fn restores(
     number: u64,
     made: u64,
     clock: u64,
-    restored: Result<(), RestoreFault>,
+    restored: Result<(), RowFault>,
 ) -> bool {
     let Ok(before) = challenges.copy() else {
         return false;
@@ -188,11 +188,7 @@ fn restores(
 }
 
 // The same of a last number, which is another one than before.
-fn restores_last(
-    challenges: &mut Challenges,
-    last: u64,
-    restored: Result<(), RestoreFault>,
-) -> bool {
+fn restores_last(challenges: &mut Challenges, last: u64, restored: Result<(), RowFault>) -> bool {
     let Ok(before) = challenges.copy() else {
         return false;
     };
@@ -295,8 +291,8 @@ fn a_copy_of_challenges_is_the_same_until_one_changes(rt: HostRuntime) -> Result
 
 #[test]
 fn challenges_that_break_a_rule_stay_out(rt: HostRuntime) -> Result<(), Fail> {
-    const NUMBER: Result<(), RestoreFault> = Err(RestoreFault::Number);
-    const MOMENTS: Result<(), RestoreFault> = Err(RestoreFault::Moments);
+    const NUMBER: Result<(), RowFault> = Err(RowFault::Number);
+    const MOMENTS: Result<(), RowFault> = Err(RowFault::Moments);
     const ROWS: &[Row] = &[
         (9, Restore(0, 9, NUMBER), "no number"),
         (9, Restore(5, 10, MOMENTS), "made after the clock"),
@@ -335,7 +331,7 @@ fn so_many_challenges_and_no_more(rt: HostRuntime) -> Result<(), Fail> {
         (59_999, Issue(0, 3, 7, FULL), "no more in the hold"),
         (
             59_999,
-            Restore(1_025, 0, Err(RestoreFault::Full)),
+            Restore(1_025, 0, Err(RowFault::Full)),
             "none is put back",
         ),
         (60_000, Issue(0, 3, 7, Ok(1_025)), "the hold is over"),

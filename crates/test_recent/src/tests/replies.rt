@@ -5,7 +5,7 @@ use crate::tests::holds;
 use rad_auth::Door;
 use rad_config::{Config, MOMENT_MAX};
 use rad_packet::{Body, Octets};
-use rad_recent::{KeepFault, Kept, Key, Recent, RestoreFault};
+use rad_recent::{KeepFault, Kept, Key, Recent, RowFault};
 use std::alloc::Global;
 use std::process::Abort;
 use std::test::Fail;
@@ -42,7 +42,7 @@ enum Call {
     /// So many replies take a client's share.
     Len(u32, u64),
     /// A client and a moment, and what putting back a reply to the request of this place answers. After a refusal nothing has changed.
-    Restore(u32, u32, u64, Result<(), RestoreFault>),
+    Restore(u32, u32, u64, Result<(), RowFault>),
     /// A reply to each of 65,536 requests is kept.
     Fill,
     /// A reply to the request of this place isn't kept, and nothing changes.
@@ -219,12 +219,7 @@ fn shared_reply(alloc: Global, key: Key, client: u32, made: u64) -> Kept
 }
 
 // Whether putting back a reply answers this, and changes nothing if it is refused.
-fn restores(
-    recent: &mut Recent,
-    reply: Kept,
-    clock: u64,
-    restored: Result<(), RestoreFault>,
-) -> bool {
+fn restores(recent: &mut Recent, reply: Kept, clock: u64, restored: Result<(), RowFault>) -> bool {
     let Ok(before) = recent.copy() else {
         return false;
     };
@@ -352,8 +347,8 @@ fn a_client_has_the_replies_that_take_its_share(rt: HostRuntime) -> Result<(), F
 
 #[test]
 fn replies_that_break_a_rule_stay_out(rt: HostRuntime) -> Result<(), Fail> {
-    const MOMENTS: Result<(), RestoreFault> = Err(RestoreFault::Moments);
-    const KEY: Result<(), RestoreFault> = Err(RestoreFault::Key);
+    const MOMENTS: Result<(), RowFault> = Err(RowFault::Moments);
+    const KEY: Result<(), RowFault> = Err(RowFault::Key);
     const ROWS: &[Row] = &[
         (9, Restore(1, 0, 10, MOMENTS), "made after the clock"),
         (9, Restore(1, 0, 9, Ok(())), "made at the clock"),
@@ -407,7 +402,7 @@ fn so_many_replies_and_no_more(rt: HostRuntime) -> Result<(), Fail> {
         (29_999, Refuse(65_536), "one more key"),
         (
             29_999,
-            Restore(65_536, 0, 0, Err(RestoreFault::Full)),
+            Restore(65_536, 0, 0, Err(RowFault::Full)),
             "none is put back",
         ),
         (29_999, Keep(77, SECOND, 11, Ok(())), "a key that is there"),

@@ -5,7 +5,7 @@ ghost use Rattle.rad_config.specs.Spans.{moment_max};
 use rad_auth::Door;
 use rad_config::{Config, MOMENT_MAX};
 use rad_packet::Body;
-use rad_recent::{KEPT_MAX, KeepFault, Kept, Key, Recent, RestoreFault};
+use rad_recent::{KEPT_MAX, KeepFault, Kept, Key, Recent, RowFault};
 use std::alloc::Global;
 
 /// How long replies live, in milliseconds.
@@ -168,7 +168,7 @@ impl ReplyPair {
             };
             match rebuilt.restore(reply, MOMENT_MAX) {
                 Ok(()) => {}
-                Err(fault) => return fault == RestoreFault::NoMemory,
+                Err(fault) => return fault == RowFault::NoMemory,
             }
         }
         rebuilt.same(&self.recent)

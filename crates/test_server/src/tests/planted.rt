@@ -8,7 +8,7 @@ use rad_packet::code::{ACCESS_ACCEPT, ACCESS_REQUEST, ACCOUNTING_RESPONSE, STATU
 use rad_packet::{Body, Octets};
 use rad_pool::{Phase, Session};
 use rad_recent::{Challenge, Kept, Key};
-use rad_server::{RestoreFault, Server, StateRow};
+use rad_server::{RowFault, Server, StateRow};
 use std::alloc::{AllocError, Global};
 use std::process::Abort;
 use std::test::Fail;
@@ -81,14 +81,14 @@ const TAKEN: &[Planted] = &[
     Planted::LastChallenge(2),
 ];
 
-const REFUSED: &[(Planted, RestoreFault, &str)] = &[
+const REFUSED: &[(Planted, RowFault, &str)] = &[
     (
         Planted::Session(Session {
             number: 4,
             address: None,
             ..SESSION
         }),
-        RestoreFault::Number,
+        RowFault::Number,
         "a number that was given to one who is gone",
     ),
     (
@@ -97,7 +97,7 @@ const REFUSED: &[(Planted, RestoreFault, &str)] = &[
             seen: 11,
             ..SESSION
         }),
-        RestoreFault::Moments,
+        RowFault::Moments,
         "a session that is seen after the clock",
     ),
     (
@@ -105,12 +105,12 @@ const REFUSED: &[(Planted, RestoreFault, &str)] = &[
             number: 5,
             ..SESSION
         }),
-        RestoreFault::AddressHeld,
+        RowFault::AddressHeld,
         "an address that another session has",
     ),
     (
         Planted::LastSession(3),
-        RestoreFault::Number,
+        RowFault::Number,
         "a last number that is too small",
     ),
     (
@@ -119,7 +119,7 @@ const REFUSED: &[(Planted, RestoreFault, &str)] = &[
             code: ACCOUNTING_RESPONSE,
             ..ACCEPT
         }),
-        RestoreFault::Body,
+        RowFault::Body,
         "an Accounting-Response with a Message-Authenticator",
     ),
     (
@@ -128,7 +128,7 @@ const REFUSED: &[(Planted, RestoreFault, &str)] = &[
             attributes: &[],
             ..ACCEPT
         }),
-        RestoreFault::Body,
+        RowFault::Body,
         "an Access-Accept without one",
     ),
     (
@@ -137,7 +137,7 @@ const REFUSED: &[(Planted, RestoreFault, &str)] = &[
             request: STATUS_SERVER,
             ..ACCEPT
         }),
-        RestoreFault::Request,
+        RowFault::Request,
         "the reply to a Status-Server",
     ),
     (
@@ -146,7 +146,7 @@ const REFUSED: &[(Planted, RestoreFault, &str)] = &[
             client: Some(1),
             ..ACCEPT
         }),
-        RestoreFault::Client,
+        RowFault::Owner,
         "a reply that takes another client's share",
     ),
     (
@@ -155,7 +155,7 @@ const REFUSED: &[(Planted, RestoreFault, &str)] = &[
             source: STRANGER,
             ..ACCEPT
         }),
-        RestoreFault::Client,
+        RowFault::Owner,
         "a reply to a source without a client",
     ),
     (
@@ -164,7 +164,7 @@ const REFUSED: &[(Planted, RestoreFault, &str)] = &[
             made: 6,
             ..ACCEPT
         }),
-        RestoreFault::Session,
+        RowFault::Session,
         "an Access-Accept of another moment than its session",
     ),
     (
@@ -177,7 +177,7 @@ const REFUSED: &[(Planted, RestoreFault, &str)] = &[
             ],
             ..ACCEPT
         }),
-        RestoreFault::Session,
+        RowFault::Session,
         "one of another address",
     ),
     (
@@ -190,12 +190,12 @@ const REFUSED: &[(Planted, RestoreFault, &str)] = &[
             ],
             ..ACCEPT
         }),
-        RestoreFault::Session,
+        RowFault::Session,
         "one of a session that is gone",
     ),
     (
         Planted::Reply(ACCEPT),
-        RestoreFault::Key,
+        RowFault::Key,
         "a second reply to one request",
     ),
     (
@@ -204,7 +204,7 @@ const REFUSED: &[(Planted, RestoreFault, &str)] = &[
             client: 2,
             ..CHALLENGE
         }),
-        RestoreFault::Client,
+        RowFault::Client,
         "a challenge of a client that isn't there",
     ),
     (
@@ -213,7 +213,7 @@ const REFUSED: &[(Planted, RestoreFault, &str)] = &[
             user: 1_000,
             ..CHALLENGE
         }),
-        RestoreFault::User,
+        RowFault::User,
         "a challenge of a user who isn't there",
     ),
     (
@@ -222,12 +222,12 @@ const REFUSED: &[(Planted, RestoreFault, &str)] = &[
             user: 0,
             ..CHALLENGE
         }),
-        RestoreFault::Answer,
+        RowFault::Answer,
         "a challenge of a user without an answer",
     ),
     (
         Planted::Challenge(CHALLENGE),
-        RestoreFault::Number,
+        RowFault::Number,
         "a challenge twice",
     ),
     (
@@ -236,12 +236,12 @@ const REFUSED: &[(Planted, RestoreFault, &str)] = &[
             made: 11,
             ..CHALLENGE
         }),
-        RestoreFault::Moments,
+        RowFault::Moments,
         "a challenge that was made after the clock",
     ),
     (
         Planted::LastChallenge(1),
-        RestoreFault::Number,
+        RowFault::Number,
         "a last number that is too small",
     ),
 ];
@@ -266,6 +266,69 @@ fn each_is_refused(rt: &impl Abort, alloc: Global, server: &mut Server) -> Resul
         holds(rt, refused == Err(*fault) && server.same(&before), what);
     }
     Ok(())
+}
+
+// A client has 1 % of the kept replies, and a user one challenge.
+const LIMITED: &str = r#"
+window = 30
+hold = 60
+
+[[client]]
+address = "192.168.1.16"
+secret = "xyzzy5461"
+share = 1
+
+[[user]]
+name = "kay"
+password = "pw"
+challenge = "code?"
+answer = "4711"
+challenges = 1
+"#;
+
+const LIMITED_REPLY: Reply = Reply {
+    code: ACCOUNTING_RESPONSE,
+    attributes: &[],
+    made: 0,
+    ..ACCEPT
+};
+
+const LIMITED_CHALLENGE: Challenge = Challenge {
+    client: 0,
+    user: 0,
+    made: 0,
+    ..CHALLENGE
+};
+
+#[test]
+fn no_more_rows_are_put_back_than_allowed(rt: HostRuntime) -> Result<(), Fail> {
+    let config = Config::read(rt.alloc(), LIMITED)?;
+    let mut server = Server::open(rt.alloc(), &config)?;
+    for place in 0..655 {
+        let row = reply_at(rt.alloc(), place)?;
+        holds(&rt, server.restore(row).is_ok(), "a reply of the share");
+    }
+    let beyond = server.restore(reply_at(rt.alloc(), 655)?);
+    holds(&rt, beyond == Err(RowFault::Share), "one more reply");
+    let first = server.restore(StateRow::Challenge(LIMITED_CHALLENGE));
+    holds(&rt, first.is_ok(), "the user's challenge");
+    let second = StateRow::Challenge(Challenge {
+        number: 3,
+        ..LIMITED_CHALLENGE
+    });
+    holds(
+        &rt,
+        server.restore(second) == Err(RowFault::Share),
+        "one more challenge",
+    );
+    Ok(())
+}
+
+// A reply to a request from the port of a place.
+fn reply_at(alloc: Global, place: u16) -> Result<StateRow, AllocError> {
+    let mut kept = LIMITED_REPLY.kept(alloc)?;
+    kept.key.port = PORT.wrapping_add(place);
+    Ok(StateRow::Reply(kept))
 }
 
 impl Planted {

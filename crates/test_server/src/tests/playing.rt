@@ -10,7 +10,7 @@ use rad_packet::Body;
 use rad_packet::code::{ACCESS_ACCEPT, ACCESS_CHALLENGE, ACCESS_REJECT, ACCOUNTING_RESPONSE};
 use rad_pool::{Phase, Session, Sessions};
 use rad_recent::{Challenge, Challenges, Kept, Key, Recent};
-use rad_server::{Answer, Book, RestoreFault, Server, StateRow};
+use rad_server::{Answer, Book, RowFault, Server, StateRow};
 use std::alloc::{AllocError, Global};
 use test_common::{DRAW, PORT, admit};
 
@@ -224,7 +224,7 @@ fn rebuilt<'c>(alloc: Global, config: &'c Config, old: &Server) -> Option<Server
 }
 
 // Puts sessions back, and the last number that was given to one.
-fn put_sessions(server: &mut Server, old: &Sessions) -> Result<(), RestoreFault>
+fn put_sessions(server: &mut Server, old: &Sessions) -> Result<(), RowFault>
     ensures { server.new.configuration ≡ server.old.configuration }
 {
     for session in old.rows() {
@@ -244,7 +244,7 @@ fn put_replies(server: &mut Server, old: &Recent) -> Option<()>
 }
 
 // Puts challenges back, and the last number that was given to one.
-fn put_challenges(server: &mut Server, old: &Challenges) -> Result<(), RestoreFault>
+fn put_challenges(server: &mut Server, old: &Challenges) -> Result<(), RowFault>
     ensures { server.new.configuration ≡ server.old.configuration }
 {
     for challenge in old.rows() {

@@ -1,4 +1,4 @@
-use Rattle.std.proofs.Common.{◌≡◌, Option, Some, None, ap, sym, ◌∙◌}
+use Rattle.std.proofs.Common.{ap, sym, ◌∙◌}
 use Rattle.std.specs.Prelude.{option_and_then, option_copied}
 use Rattle.rad_packet.specs.Attributes.{first_value}
 use Rattle.rad_server.specs.Reports.{class_number_of}
@@ -20,7 +20,7 @@ pub returns-in-Some-get : goal.returns-in-Some-get
 returns-in-Some-get c =
     let class = sym (ap (first_value 25) c.attributes.ensures) ∙ sym c.first_value.ensures ∙ ap option_copied c.in-Some.is in
     let named = ap (option_and_then class_number_of) class ∙ sym c.class_number_of.ensures ∙ c.in-Some-class_number_of.is in
-    c.is_session_of.ensures
+    c.is_its_session.ensures
     ∙ named_found c.args.reply.now c.in-Some-class_number_of.number c.in-Some-get.session c.args.sessions.now.table c.requires named (sym c.get.ensures ∙ c.in-Some-get.is)
 
 pub returns-in-None : goal.returns-in-None
