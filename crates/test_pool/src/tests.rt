@@ -6,6 +6,7 @@ mod pair;
 mod pairs;
 mod plain;
 mod resets;
+mod restored;
 mod silent;
 mod wide;
 

@@ -1,7 +1,8 @@
+use super::restored::{FIRST, fault_of};
 use super::{CAMPUS, Call, DORY, ONE, SOLO, ask, make};
 use crate::tests::holds;
 use rad_config::Config;
-use rad_pool::{Grant, Refusal, SESSIONS_MAX, Sessions};
+use rad_pool::{Grant, Refusal, RowFault, SESSIONS_MAX, Session, Sessions};
 use std::alloc::{AllocError, Global};
 use std::test::Fail;
 
@@ -39,7 +40,7 @@ fn so_many_sessions_and_no_more(rt: HostRuntime) -> Result<(), Fail> {
     holds(
         &rt,
         is_limit == Ok(true),
-        "all are granted, then none, and then the next number",
+        "all are granted, then none and none is put back, and then the next number",
     );
     Ok(())
 }
@@ -47,7 +48,12 @@ fn so_many_sessions_and_no_more(rt: HostRuntime) -> Result<(), Fail> {
 fn is_limit(alloc: Global, config: &Config) -> Result<bool, AllocError> {
     let mut sessions = Sessions::open(alloc, config)?;
     let are_granted = fill(&mut sessions, config);
-    Ok(are_granted && is_full_until_the_hold(&mut sessions, config))
+    let next = Session {
+        number: 65_537,
+        ..FIRST
+    };
+    let is_refused = fault_of(&mut sessions, config, next) == Some(RowFault::Full);
+    Ok(are_granted && is_refused && is_full_until_the_hold(&mut sessions, config))
 }
 
 fn is_full_until_the_hold(sessions: &mut Sessions, config: &Config) -> bool {

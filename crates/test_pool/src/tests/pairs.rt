@@ -8,7 +8,7 @@ use std::alloc::Global;
 use test_common::next_draw;
 
 /// A pool of few addresses and one of many, and users with few sessions and with many.
-const TABLE: &str = r#"
+pub const TABLE: &str = r#"
 [[client]]
 address = "192.168.1.16"
 secret = "xyzzy5461"
