@@ -13,6 +13,7 @@ mod prepared;
 mod replays;
 mod requests;
 mod rounds;
+mod rows;
 mod servers;
 mod states;
 mod stores;
@@ -38,6 +39,8 @@ enum Run {
     Table(tables::Call),
     /// A call that prepares a request.
     Prepared(prepared::Call),
+    /// A call that puts a row back.
+    Row(rows::Call),
     /// A call on a server or a book.
     Server(servers::Call),
     /// A call on claims or a desk.
@@ -97,6 +100,11 @@ const RUNS: &[(&str, Run)] = &[
         Run::Table(tables::Call::GrantAfterRoom),
     ),
     ("Sessions::copy", Run::Table(tables::Call::SessionsCopy)),
+    ("Sessions::restore", Run::Row(rows::Call::Session)),
+    (
+        "Sessions::restore_last, without memory",
+        Run::Row(rows::Call::LastSession),
+    ),
     ("Recent::open", Run::Table(tables::Call::RecentOpen)),
     (
         "Recent::open_keyed",
@@ -115,6 +123,7 @@ const RUNS: &[(&str, Run)] = &[
     ),
     ("Recent::keep_shared", Run::Table(tables::Call::KeepShared)),
     ("Recent::copy", Run::Table(tables::Call::RecentCopy)),
+    ("Recent::restore", Run::Row(rows::Call::Reply)),
     ("Kept::copy", Run::Table(tables::Call::KeptCopy)),
     (
         "Challenges::open, without memory",
@@ -131,6 +140,11 @@ const RUNS: &[(&str, Run)] = &[
         Run::Table(tables::Call::IssueAfterRoom),
     ),
     ("Challenges::copy", Run::Table(tables::Call::ChallengesCopy)),
+    ("Challenges::restore", Run::Row(rows::Call::Challenge)),
+    (
+        "Challenges::restore_last, without memory",
+        Run::Row(rows::Call::LastChallenge),
+    ),
     (
         "prepare8 of a log-in, without memory",
         Run::Prepared(prepared::Call::LogIn),
@@ -193,6 +207,26 @@ const RUNS: &[(&str, Run)] = &[
     (
         "Server::pass when all expires, without memory",
         Run::Server(servers::Call::Pass),
+    ),
+    (
+        "Server::restore of a session",
+        Run::Row(rows::Call::ServerSession),
+    ),
+    (
+        "Server::restore of a session's last number, without memory",
+        Run::Row(rows::Call::ServerLastSession),
+    ),
+    (
+        "Server::restore of a kept reply",
+        Run::Row(rows::Call::ServerReply),
+    ),
+    (
+        "Server::restore of a challenge",
+        Run::Row(rows::Call::ServerChallenge),
+    ),
+    (
+        "Server::restore of a challenge's last number, without memory",
+        Run::Row(rows::Call::ServerLastChallenge),
     ),
     ("Answer::copy", Run::Server(servers::Call::AnswerCopy)),
     ("Entry::copy", Run::Server(servers::Call::EntryCopy)),
@@ -268,6 +302,7 @@ fn judge<R: Threads + Wait + Sync + AllocGlobal>(rt: &R, run: Run) -> Verdict {
         Run::Client(call) => clients::judge_call(rt.alloc(), call),
         Run::Table(call) => tables::judge_call(rt.alloc(), call),
         Run::Prepared(call) => prepared::judge_call(rt.alloc(), call),
+        Run::Row(call) => rows::judge_call(rt.alloc(), call),
         Run::Server(call) => servers::judge_call(rt.alloc(), call),
         Run::Desk(call) => desks::judge_call(rt, call),
         Run::Round(call) => rounds::judge_call(rt, call),
