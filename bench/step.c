@@ -24,6 +24,10 @@ size_t radpool_step(const char *text, size_t text_len, const struct work *work, 
 // Fills the tables, and puts down the nanoseconds of the step that each row took. Returns how many rows there are.
 size_t radpool_fill(const char *text, size_t text_len, const struct work *work, uint64_t *times, size_t rows);
 
+// Fills the tables, rebuilds the server from its rows as often as there are times, and puts down the nanoseconds of each. Returns how many
+// rows there are.
+size_t radpool_rebuild(const char *text, size_t text_len, const struct work *work, uint64_t *times, size_t count);
+
 // The kinds of crates/bench_c, in its order.
 enum { ACCEPT, POOLED, NO_ADDRESS, REJECT, START, STOP, STATUS, REPEAT, CHALLENGE, ANSWER };
 
@@ -139,9 +143,22 @@ static double longest_step(void) {
     return longest;
 }
 
+// The best time of a server with full tables, where each session has an address. Copies of the rows are included.
+static double rebuild_time(void) {
+    static char text[8192];
+    static uint64_t times[PASSES];
+    const struct work work = {.kind = POOLED, .rows = FULL, .challenges = 1024, .life = LIFE * 1000};
+    size_t len = lay_out(FREE, SIZES - 1, text, sizeof text);
+    double best = 1e18;
+    if (radpool_rebuild(text, len, &work, times, PASSES) != FULL) end("A server isn't rebuilt.");
+    for (int pass = 0; pass < PASSES; pass++)
+        if ((double)times[pass] < best) best = (double)times[pass];
+    return best;
+}
+
 // The rows take turns, so that what else the machine does for a while disturbs none of them alone.
 int main(void) {
-    double longest = longest_step();
+    double longest = longest_step(), rebuild = rebuild_time();
     for (int kind = 0; kind < KINDS; kind++)
         for (int size = 0; size < SIZES; size++) cells[kind][size] = 1e18;
     for (int pass = 0; pass < PASSES; pass++)
@@ -151,5 +168,6 @@ int main(void) {
     puts("| request | 16 rows ns | 256 rows ns | full ns | full/16 | full/256 |\n|---|---|---|---|---|---|");
     for (int kind = 0; kind < KINDS; kind++) print_row(kind, clock);
     printf("The longest step while the tables grow takes %.0f µs.\n", longest / 1e3);
+    printf("A server with full tables is rebuilt from its rows in %.0f ms.\n", rebuild / 1e6);
     return 0;
 }

@@ -9,12 +9,14 @@ ghost use Rattle.rad_auth.specs.Admission.{IsAdmitted};
 
 mod datagrams;
 mod filling;
+mod rebuilding;
 mod requests;
 mod work;
 
 use crate::clock;
 use crate::step::datagrams::{admit_each, datagrams};
 use crate::step::filling::full_server;
+use crate::step::rebuilding::time_rebuilding;
 use crate::step::requests::Kind;
 use crate::step::work::{DRAW, Work};
 use rad_auth::Request;
@@ -44,6 +46,24 @@ fn read_and_fill(alloc: Global, text: &[u8], work: Work, times: &mut [u64]) -> O
 
 fn open_and_fill(alloc: Global, config: &Config, work: Work, times: &mut [u64]) -> Option<()> {
     full_server(alloc, config, work, times)?;
+    Some(())
+}
+
+fn read_and_rebuild(alloc: Global, text: &[u8], work: Work, times: &mut [u64]) -> Option<()> {
+    let text = str::from_utf8(text).ok()?;
+    let config = Config::read(alloc, text).ok()?;
+    open_and_rebuild(alloc, &config, work, times)
+}
+
+fn open_and_rebuild(alloc: Global, config: &Config, work: Work, times: &mut [u64]) -> Option<()> {
+    let server = full_server(alloc, config, work, &mut [])?;
+    rebuild_again(alloc, config, &server, times)
+}
+
+fn rebuild_again(alloc: Global, config: &Config, server: &Server, times: &mut [u64]) -> Option<()> {
+    for time in times.iter_mut() {
+        *time = time_rebuilding(alloc, config, server)?;
+    }
     Some(())
 }
 
@@ -147,6 +167,21 @@ pub extern "C" fn radpool_fill(
     times: &mut [u64],
 ) -> usize {
     match read_and_fill(alloc, text, *work, times) {
+        Some(()) => work.rows,
+        None => 0,
+    }
+}
+
+/// Fills the tables of a server, rebuilds it from its rows as often as there are times, and puts down the nanoseconds of each. Returns how
+/// many rows there are; 0 without memory, or if a rebuilt server isn't the same.
+#[unsafe(no_mangle)]
+pub extern "C" fn radpool_rebuild(
+    alloc: Global,
+    text: &[u8],
+    work: &Work,
+    times: &mut [u64],
+) -> usize {
+    match read_and_rebuild(alloc, text, *work, times) {
         Some(()) => work.rows,
         None => 0,
     }
