@@ -78,7 +78,7 @@ fn walks(run: &mut Run, twin: &mut Run, count: u32) -> bool {
     let mut moment: u64 = 0;
     for _ in 0..count {
         draw = next_draw(draw);
-        moment += (draw >> 40) % 9_000;
+        moment = moment.saturating_add((draw >> 40) % 9_000);
         let port = PORT + ((draw >> 32) % 32) as u16;
         let asked = &WALK[((draw >> 24) % 16) as usize];
         if !run.goes_with(twin, moment, port, asked) {
