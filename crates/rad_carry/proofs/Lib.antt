@@ -1,0 +1,4 @@
+mod LawLemmas
+mod PlaceLemmas
+mod RowLemmas
+mod SameLemmas
