@@ -1,11 +1,9 @@
 -- What is carried of a lawful state is lawful under the new configuration.
-use Rattle.std.proofs.Common.{◌≡◌, ◌<◌, ◌≤◌, ℕ, ◌-◌, ◌++◌, [], ◌∷◌, List, map, length, All, Bool, true, false, ◌&&◌, cond, Option, Some, None, Result, Ok, Err, arith, refl}
+use Rattle.std.proofs.Common.{◌≡◌, ◌≤◌, ℕ, ◌-◌, [], ◌∷◌, List, map, All, Bool, true, false, ◌&&◌, cond, Option, Some, None, Result, Ok, Err, arith, refl}
 use Rattle.std.specs.Prelude.{IfSome, not, option_map, option_and_then}
 use Rattle.std.specs.Result.{is_ok}
-use Rattle.std.proofs.lemmas.List.Elements.{All-append, All-cons, All-head, All-map, All-nil, All-tail, All-weaker}
-use Rattle.rad_auth.specs.Authenticators.{sixteen_zeros}
+use Rattle.std.proofs.lemmas.List.Elements.{All-append, All-cons, All-head, All-map, All-nil, All-tail}
 use Rattle.rad_config.specs.Configurations.{Configuration}
-use Rattle.rad_config.specs.Ranges.{IsConfiguration}
 use Rattle.rad_pool.specs.Grants.{last_number}
 use Rattle.rad_pool.specs.Sessions.{Sessions}
 use Rattle.rad_pool.specs.declared.session.Session.{Session}
@@ -17,7 +15,7 @@ use Rattle.rad_server.specs.Restored.{IsRow, restorable, rows_of, with_row}
 use Rattle.rad_server.specs.States.{State, at_moment, opening}
 use Rattle.rad_server.specs.declared.state_row.StateRow.{StateRow}
 use Rattle.rad_server.specs.declared.state_row.StateRow.TheVariants as rows
-use Rattle.rad_carry.specs.Carried.{and_moved, and_rows, carried_by, gives_lost, moved, moved_client}
+use Rattle.rad_carry.specs.Carried.{and_moved, and_rows, gives_lost, moved, moved_client}
 use Rattle.rad_carry.specs.Laws.{CarriedIsLawful}
 use Rattle.rad_carry.specs.Places.{Places, moved_place}
 

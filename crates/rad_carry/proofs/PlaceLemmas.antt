@@ -1,5 +1,5 @@
 -- In the same configuration each place is its own new place.
-use Rattle.std.proofs.Common.{◌≡◌, ◌<◌, ◌≤◌, ℕ, ◌+◌, suc, zero, [], ◌∷◌, List, map, length, Bool, true, ◌&&◌, ◌==◌, cond, Option, Some, None, arith, refl, ap, sym, subst, ◌∙◌}
+use Rattle.std.proofs.Common.{◌≡◌, ◌<◌, ℕ, ◌+◌, suc, zero, [], ◌∷◌, List, map, length, true, ◌&&◌, ◌==◌, cond, Option, Some, arith, refl, ap, sym, subst, ◌∙◌}
 use Rattle.std.specs.Prelude.{option_and_then, option_map, position, slice_get}
 use Rattle.std.proofs.lemmas.Bool.{eq-eqb}
 use Rattle.std.proofs.lemmas.List.{length-map}

@@ -1,12 +1,12 @@
 -- All is carried to the same configuration.
-use Rattle.std.proofs.Common.{◌≡◌, ◌<◌, ◌≤◌, ℕ, ◌-◌, ◌++◌, suc, zero, [], ◌∷◌, List, map, length, All, Bool, true, false, ◌&&◌, ◌==◌, cond, find, Option, Some, None, Result, Ok, Err, arith, refl, ap, sym, subst, ◌∙◌}
+use Rattle.std.proofs.Common.{◌≡◌, ◌<◌, ℕ, ◌-◌, ◌++◌, suc, zero, [], ◌∷◌, List, map, length, All, Bool, true, false, ◌&&◌, ◌==◌, cond, find, Option, Some, None, Result, Ok, Err, refl, ap, sym, subst, ◌∙◌}
 use Rattle.std.specs.Prelude.{IfSome, filter, is_some, not, option_and_then, option_map, position, slice_get}
 use Rattle.std.specs.Result.{is_ok}
 use Rattle.std.proofs.lemmas.Bool.{eq-eqb}
 use Rattle.std.proofs.lemmas.List.Elements.{All-append, All-cons, All-head, All-map, All-nil, All-tail}
 use Rattle.std.proofs.lemmas.List.Quantifiers.{position-Some}
 use Rattle.rad_packet.specs.Ladders.{◌>>=◌}
-use Rattle.rad_auth.specs.Clients.{Client, client_at, client_place}
+use Rattle.rad_auth.specs.Clients.{Client, client_at}
 use Rattle.rad_config.specs.Configurations.{Configuration}
 use Rattle.rad_config.specs.Ranges.{IsConfiguration}
 use Rattle.rad_pool.specs.Sessions.{Sessions}
@@ -14,13 +14,13 @@ use Rattle.rad_pool.specs.declared.session.Session.{Session}
 use Rattle.rad_recent.specs.declared.challenge.Challenge.{Challenge}
 use Rattle.rad_recent.specs.declared.kept.Kept.{Kept}
 use Rattle.rad_server.specs.Lawful.{IsLawful, RestoreRebuilds}
-use Rattle.rad_server.specs.Restored.{restorable, restored, rows_of, with_row}
+use Rattle.rad_server.specs.Restored.{restorable, restored, with_row}
 use Rattle.rad_server.specs.States.{State, at_moment, opening}
 use Rattle.rad_server.specs.declared.state_row.StateRow.{StateRow}
 use Rattle.rad_server.specs.declared.state_row.StateRow.TheVariants as rows
 use Rattle.rad_carry.proofs.PlaceLemmas.{client_stays, user_stays}
 use Rattle.rad_carry.proofs.RowLemmas.{and_rows-append}
-use Rattle.rad_carry.specs.Carried.{and_moved, and_row, and_rows, carried, gives_lost, has_number, is_lost, left_out, moved, moved_client, session_given}
+use Rattle.rad_carry.specs.Carried.{and_moved, and_row, and_rows, gives_lost, has_number, is_lost, left_out, moved, moved_client, session_given}
 use Rattle.rad_carry.specs.Laws.{CarriedIsTheSame, NoneIsLeftOut}
 use Rattle.rad_carry.specs.Places.{Places, moved_place, places}
 

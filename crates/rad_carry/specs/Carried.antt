@@ -15,7 +15,7 @@ use Rattle.rad_server.specs.Restored.{restorable, rows_of, with_row}
 use Rattle.rad_server.specs.States.{State, at_moment, opening}
 use Rattle.rad_server.specs.declared.state_row.StateRow.{StateRow}
 use Rattle.rad_server.specs.declared.state_row.StateRow.TheVariants as rows
-use Rattle.rad_carry.specs.Places.{Places, moved_place, places, places_with}
+use Rattle.rad_carry.specs.Places.{Places, moved_place, places, places_by}
 
 -- ---- a row at its new places
 
@@ -94,18 +94,18 @@ and_rows places new old (row ∷ rest) state = and_rows places new old rest (and
 
 -- ---- the whole
 
--- What a server of the new configuration remembers by these places: it begins at the clock of the old one with nothing, and the rows
--- of the old one follow in their order.
-abbrev pub carried_by : Places → Configuration → State → State
-carried_by places new state = and_rows places new state.sessions (rows_of state) (at_moment state.clock (opening new))
+-- What a server of the new configuration remembers, by these places: it begins with nothing, at the clock of the old state, and takes
+-- over the rows of the old state in their order.
+abbrev pub carried_at : Places → Configuration → State → State
+carried_at places new state = and_rows places new state.sessions (rows_of state) (at_moment state.clock (opening new))
 
--- the same, with clients by their places in a list and users by name
-abbrev pub carried_with : List (Option ℕ) → Configuration → Configuration → State → State
-carried_with clients old new state = carried_by (places_with clients old new) new state
+-- the same with users by their names, and clients by the new places that a list has
+abbrev pub carried_by : List (Option ℕ) → Configuration → Configuration → State → State
+carried_by clients old new state = carried_at (places_by clients old new) new state
 
--- the same, with clients by network and users by name
+-- the same with users by their names, and clients by their networks
 abbrev pub carried : Configuration → Configuration → State → State
-carried old new state = carried_by (places old new) new state
+carried old new state = carried_at (places old new) new state
 
 -- the sessions of an old table that a new one hasn't, in their order and with their old places
 abbrev pub left_out : Sessions → Sessions → List Session

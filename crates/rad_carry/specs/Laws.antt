@@ -4,13 +4,13 @@ use Rattle.rad_config.specs.Configurations.{Configuration}
 use Rattle.rad_config.specs.Ranges.{IsConfiguration}
 use Rattle.rad_server.specs.Lawful.{IsLawful}
 use Rattle.rad_server.specs.States.{State}
-use Rattle.rad_carry.specs.Carried.{carried, carried_by, left_out}
+use Rattle.rad_carry.specs.Carried.{carried, carried_at, left_out}
 use Rattle.rad_carry.specs.Places.{Places}
 
 -- what is carried of a lawful state is lawful under the new configuration, whatever the places
 abbrev pub CarriedIsLawful : Type 0
 CarriedIsLawful = (places : Places) (old new : Configuration) (state : State)
-    → IsConfiguration new → IsLawful old state → IsLawful new (carried_by places new state)
+    → IsConfiguration new → IsLawful old state → IsLawful new (carried_at places new state)
 
 -- of a lawful state all is carried to the same configuration
 abbrev pub CarriedIsTheSame : Type 0

@@ -54,10 +54,10 @@ client_places old new = network_places (map network_of old) (map network_of new)
 
 -- ---- both
 
--- the places of all users by their names, and of all clients as a list says
-abbrev pub places_with : List (Option ℕ) → Configuration → Configuration → Places
-places_with clients old new = record { clients = clients; users = user_places old.users new.users }
+-- the places of the users by their names, and of the clients as a list says
+abbrev pub places_by : List (Option ℕ) → Configuration → Configuration → Places
+places_by clients old new = record { clients = clients; users = user_places old.users new.users }
 
--- the places of all clients by their networks, and of all users by their names
+-- the places of the users by their names, and of the clients by their networks
 abbrev pub places : Configuration → Configuration → Places
-places old new = places_with (client_places old.clients new.clients) old new
+places old new = places_by (client_places old.clients new.clients) old new

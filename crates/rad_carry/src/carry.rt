@@ -1,13 +1,13 @@
 //! What a server remembers is carried to a server of another configuration.
-ghost use Rattle.std.specs.Prelude.{◌≡◌, ◌∷◌, [], IfOk, OnOk};
+ghost use Rattle.std.specs.Prelude.{◌≡◌, IfOk, OnOk};
 ghost use Rattle.rad_server.specs.Restored.{rows_of};
-ghost use Rattle.rad_carry.specs.Carried.{and_rows, carried_with, left_out};
+ghost use Rattle.rad_carry.specs.Carried.{and_rows, carried_by, left_out};
 
 use crate::places::Places;
 use crate::put::{put, put_challenges, put_replies, put_sessions};
 use rad_config::Config;
 use rad_pool::{Session, Sessions};
-use rad_server::{HashKey, Server, StateRow, lawful_steps};
+use rad_server::{HashKey, Server, StateRow};
 use std::alloc::{AllocError, Global};
 
 /// A server of the new configuration, and what was left out.
@@ -21,8 +21,9 @@ pub struct Carried<'n> {
 
 /// A server of another configuration that remembers what this one does, as far as it fits.
 ///
-/// `clients` has the new place of each client, as `network_places` gives it, or None where it is gone. Users are found by name. The
-/// clock goes on from the old one. Memory alone ends the call: a row that breaks a rule is left out. The key is that of the hashes.
+/// `clients` has the new place of each client, or None where it is gone; `network_places` makes it of the clients' networks. Users are
+/// found by their names. The new server goes on at the clock of the old one, which stays as it is. A row that the new configuration
+/// refuses is left out; only memory ends the call. The key is that of the hashes.
 pub fn carry_by<'n>(
     alloc: Global,
     server: &Server,
@@ -32,11 +33,11 @@ pub fn carry_by<'n>(
 ) -> Result<Carried<'n>, AllocError>
     ensures configuration { IfOk result (λ carried. carried.server.configuration ≡ config.now) }
     ensures state { IfOk result (λ carried. carried.server.state
-        ≡ carried_with clients.now server.now.configuration config.now server.now.state) }
+        ≡ carried_by clients.now server.now.configuration config.now server.now.state) }
     ensures left_out { IfOk result (λ carried. carried.left_out.items
         ≡ left_out server.now.state.sessions carried.server.state.sessions) }
 {
-    let places = Places::with(alloc, clients, server.config(), config)?;
+    let places = Places::by(alloc, clients, server.config(), config)?;
     let mut new = Server::open_keyed(alloc, config, key)?;
     server.state_is_lawful();
     new.pass(server.clock());

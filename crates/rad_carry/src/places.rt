@@ -1,7 +1,7 @@
 //! Where the clients and the users of one configuration are in another.
 ghost use Rattle.std.specs.Prelude.{◌≡◌, IfOk};
 ghost use Rattle.rad_carry.specs.Carried.{moved_challenge, moved_client, moved_reply, moved_session};
-ghost use Rattle.rad_carry.specs.Places.{moved_place, places_with, user_places};
+ghost use Rattle.rad_carry.specs.Places.{moved_place, places_by, user_places};
 
 use rad_config::Config;
 use rad_pool::Session;
@@ -25,14 +25,14 @@ impl<'a> Model for Places<'a> {
 }
 
 impl<'a> Places<'a> {
-    /// The places of all users by their names, and of all clients as a list says.
-    pub fn with(
+    /// The places of the users by their names, and of the clients as a list says.
+    pub fn by(
         alloc: Global,
         clients: &'a [Option<u32>],
         old: &Config,
         new: &Config,
     ) -> Result<Places<'a>, AllocError>
-        ensures { IfOk result (λ places. places ≡ places_with clients.now old.now new.now) }
+        ensures { IfOk result (λ places. places ≡ places_by clients.now old.now new.now) }
     {
         let users = user_places(alloc, old, new)?;
         Ok(Places { clients, users })

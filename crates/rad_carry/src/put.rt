@@ -1,9 +1,8 @@
 //! Rows of an old server are put into a new one, at their new places.
-ghost use Rattle.std.specs.Prelude.{◌≡◌, ◌∷◌, [], OnOk, map, option_and_then, option_copied};
+ghost use Rattle.std.specs.Prelude.{◌≡◌, OnOk, map, option_copied};
 ghost use Rattle.rad_packet.specs.Attributes.{first_value};
-ghost use Rattle.rad_server.specs.Reports.{class_number_of};
 ghost use Rattle.rad_server.specs.declared.state_row.StateRow.TheVariants as rows;
-ghost use Rattle.rad_carry.specs.Carried.{and_moved, and_row, and_rows, gives_lost, has_number, is_lost, moved, session_given};
+ghost use Rattle.rad_carry.specs.Carried.{and_row, and_rows, gives_lost, is_lost, session_given};
 
 use crate::places::Places;
 use rad_packet::Attributes;
