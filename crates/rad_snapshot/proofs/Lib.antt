@@ -1,0 +1,6 @@
+mod RowLemmas
+mod RestoreLemmas
+mod SnapshotLemmas
+mod WriteLemmas
+mod StoreLemmas
+mod BodyLemmas

@@ -1,0 +1,4 @@
+pub mod Faults
+pub mod Restoring
+pub mod Rows
+pub mod Snapshots
