@@ -1,11 +1,11 @@
 -- Rows come back as what they are of.
-use Rattle.std.proofs.Common.{◌≡◌, ℕ, suc, ◌+◌, List, [], ◌∷◌, ◌++◌, map, length, Option, Some, None, true, false, pos, refl, sym, ap, subst, ◌∙◌, arith}
+use Rattle.std.proofs.Common.{◌≡◌, ℕ, suc, ◌+◌, List, [], ◌∷◌, ◌++◌, length, Option, Some, None, true, false, refl, sym, ap, ◌∙◌, arith}
 use Rattle.std.specs.Prelude.{is_some}
 use Rattle.std.specs.List.{AllByRecursion}
 use Rattle.rad_packet.specs.Attributes.{Attribute, attributes_octets, attributes_of}
 use Rattle.rad_packet.proofs.AttributeLemmas.{in-spelled, of-spelled}
 use Rattle.rad_auth.specs.declared.arrival.Door.{Door}
-use Rattle.rad_journal.specs.Rows.{door_back, number_of}
+use Rattle.rad_journal.specs.Rows.{door_back}
 use Rattle.rad_pool.specs.declared.session.Phase.{Phase}
 use Rattle.rad_pool.specs.declared.session.Phase.TheVariants.{Pending, Active, Ended}
 use Rattle.rad_pool.specs.declared.session.Session.{Session}

@@ -1,26 +1,22 @@
 -- The rows of four tables, and the state that they are the snapshot of.
-use Rattle.std.proofs.Common.{◌≡◌, ℕ, ◌+◌, ◌-◌, ◌<◌, ◌≤◌, List, [], ◌∷◌, ◌++◌, map, Result, Ok, Err, refl, sym, ap, subst, ◌∙◌, arith}
-use Rattle.std.specs.List.{AllByRecursion}
+use Rattle.std.proofs.Common.{◌≡◌, ℕ, ◌+◌, ◌-◌, ◌<◌, List, [], ◌∷◌, ◌++◌, map, Result, Ok, sym, ap, subst, ◌∙◌, arith}
 use Rattle.rad_config.specs.Configurations.{Configuration}
 use Rattle.rad_config.specs.Spans.{moment_max}
-use Rattle.rad_pool.specs.declared.session.Session.{Session}
-use Rattle.rad_recent.specs.declared.challenge.Challenge.{Challenge}
-use Rattle.rad_recent.specs.declared.kept.Kept.{Kept}
 use Rattle.rad_row_fault.specs.declared.row_fault.RowFault.{RowFault}
-use Rattle.rad_server.specs.Lawful.{IsLawful, RestoreRebuilds}
-use Rattle.rad_server.specs.Restored.{rebuilt, restored, rows_of, with_row}
+use Rattle.rad_server.specs.Lawful.{RestoreRebuilds}
+use Rattle.rad_server.specs.Restored.{rebuilt, restored, with_row}
 use Rattle.rad_server.specs.States.{State, at_moment, opening}
 use Rattle.rad_server.specs.declared.state_row.StateRow.{StateRow}
 use Rattle.rad_server.specs.declared.state_row.StateRow.TheVariants as rows
 use Rattle.sqlite_trees.specs.Tree.{Trees}
 use Rattle.sqlite_value.specs.Order.{Row, column}
 use Rattle.rad_journal.specs.Rows.{number_of}
-use Rattle.rad_snapshot.specs.Restoring.{AreAllPutBack, AreAllWithin, ArePutBack, CannotAllPutBack, CannotPutBack, IsOf, numbers_rows}
-use Rattle.rad_snapshot.specs.Rows.{IsWithin, numbers_row, rows_from}
-use Rattle.rad_snapshot.specs.Snapshots.{AreWithin, IsNoSnapshot, IsSnapshotOf, OneSnapshotOneState, tree_of}
+use Rattle.rad_snapshot.specs.Restoring.{AreAllPutBack, ArePutBack, CannotAllPutBack, CannotPutBack, numbers_rows}
+use Rattle.rad_snapshot.specs.Rows.{numbers_row, rows_from}
+use Rattle.rad_snapshot.specs.Snapshots.{IsNoSnapshot, IsSnapshotOf, OneSnapshotOneState, tree_of}
 use Rattle.rad_snapshot.specs.declared.numbers.Numbers.{Numbers}
 use Rattle.rad_snapshot.specs.declared.snapshot_table.SnapshotTable.TheVariants as tables
-use Rattle.rad_snapshot.proofs.RestoreLemmas.{challenges_as, challenges_of, challenges_put, join, leads_to_one, ok_has, one_put, put_back_same, replies_as, replies_of, replies_put, sessions_as, sessions_of, sessions_put, split}
+use Rattle.rad_snapshot.proofs.RestoreLemmas.{challenges_as, challenges_of, challenges_put, leads_to_one, ok_has, one_put, put_back_same, replies_as, replies_of, replies_put, sessions_as, sessions_of, sessions_put, split}
 use Rattle.rad_snapshot.proofs.RowLemmas.{rows_same}
 
 -- ---- the row of numbers

@@ -1,5 +1,5 @@
 -- The rows of one table, put back into a server; and those of all four.
-use Rattle.std.specs.Prelude.{◌≡◌, ℕ, List, [], ◌∷◌, ◌++◌, map, Ok, length, pos}
+use Rattle.std.specs.Prelude.{◌≡◌, ℕ, List, [], ◌∷◌, map, Ok, pos}
 use Rattle.std.specs.List.{AllByRecursion}
 use Rattle.rad_config.specs.Configurations.{Configuration}
 use Rattle.rad_pool.specs.declared.session.Session.{Session}

@@ -1,5 +1,5 @@
 -- Snapshots: a server's state as the rows of four tables.
-use Rattle.std.specs.Prelude.{◌≡◌, ℕ, ◌-◌, List, [], ◌∷◌, map}
+use Rattle.std.specs.Prelude.{◌≡◌, ℕ, ◌-◌, [], ◌∷◌, map}
 use Rattle.std.specs.List.{AllByRecursion}
 use Rattle.rad_config.specs.Configurations.{Configuration}
 use Rattle.rad_server.specs.Lawful.{IsLawful}

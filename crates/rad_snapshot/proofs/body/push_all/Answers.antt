@@ -1,4 +1,4 @@
-use Rattle.std.proofs.Common.{◌≡◌, ◌∙◌, ◌++◌, ap, sym, arith, inl, inr, List, ℕ}
+use Rattle.std.proofs.Common.{◌∙◌, ◌++◌, ap, sym, arith, inl, inr, List, ℕ}
 use Rattle.std.specs.Prelude.{is_some}
 use Rattle.rad_packet.specs.Bodies.{Body}
 use Rattle.rad_packet.specs.Attributes.{attributes_octets, attributes_of}

@@ -1,12 +1,8 @@
-use Rattle.std.proofs.Common.{◌≡◌, ◌⊎◌, inl, inr, ⊎_elim, Err, IfErr, ◌∙◌, ap, arith, rules, subst, sym}
+use Rattle.std.proofs.Common.{◌≡◌, ◌⊎◌, inl, inr, ⊎_elim, Err, IfErr, ap, arith, rules, subst, sym}
 use Rattle.sqlite_disk.specs.Disk.{MoreFaults}
-use Rattle.sqlite_trees.specs.Tree.{Trees}
 use Rattle.sqlite_trees.specs.View.{IsClean, View}
-use Rattle.rad_config.specs.Configurations.{Configuration}
-use Rattle.rad_server.specs.States.{State, at_moment, opening}
 use Rattle.rad_snapshot.specs.Faults.{IsOfRows}
-use Rattle.rad_snapshot.specs.Restoring.{AreAllPutBack, CannotAllPutBack, numbers_rows}
-use Rattle.rad_snapshot.specs.Snapshots.{IsNoSnapshot, tree_of}
+use Rattle.rad_snapshot.specs.Snapshots.{IsNoSnapshot}
 use Rattle.rad_snapshot.specs.declared.snapshot_table.SnapshotTable.TheVariants as tables
 use Rattle.rad_snapshot.proofs.SnapshotLemmas.{all_put_there, cannot_all_there, lead_to, no_numbers, no_rows, too_late}
 use Rattle.rad_snapshot.proofs.StoreLemmas.{more_later}

@@ -1,4 +1,4 @@
-use Rattle.std.proofs.Common.{◌≡◌, ◌≢◌, ◌⊎◌, inr, Err, IfErr, Some, [], ◌∷◌, ◌∙◌, true, false, arith, rules, subst, sym}
+use Rattle.std.proofs.Common.{◌≡◌, ◌≢◌, ◌⊎◌, inr, Err, IfErr, Some, ◌∙◌, true, false, arith, rules, subst, sym}
 use Rattle.sqlite_disk.specs.Disk.{MoreFaults}
 use Rattle.sqlite_trees.specs.View.{Advances, IsClean}
 use Rattle.rad_snapshot.specs.Faults.{IsOfRows, reported}

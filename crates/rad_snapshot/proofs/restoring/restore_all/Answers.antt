@@ -1,17 +1,16 @@
-use Rattle.std.proofs.Common.{◌≡◌, ◌≢◌, ◌≤◌, ◌⊎◌, inl, inr, ⊎_elim, Ok, Err, IfErr, List, [], ◌∷◌, ◌∙◌, ℕ, ap, arith, refl, rules, subst, sym}
+use Rattle.std.proofs.Common.{◌≡◌, ◌≢◌, ◌≤◌, ◌⊎◌, inl, inr, ⊎_elim, Ok, Err, IfErr, [], ◌∷◌, ◌∙◌, ap, arith, rules, subst, sym}
 use Rattle.sqlite_disk.specs.Disk.{MoreFaults}
 use Rattle.sqlite_trees.specs.View.{IsClean, View}
 use Rattle.rad_config.specs.Configurations.{Configuration}
-use Rattle.rad_journal.specs.Stores.{OnlyReads}
 use Rattle.rad_server.specs.Restored.{restored}
 use Rattle.rad_server.specs.States.{State}
 use Rattle.rad_server.specs.declared.state_row.StateRow.TheVariants as rows
 use Rattle.rad_snapshot.specs.Faults.{IsOfRows}
-use Rattle.rad_snapshot.specs.Restoring.{ArePutBack, CannotAllPutBack}
+use Rattle.rad_snapshot.specs.Restoring.{CannotAllPutBack}
 use Rattle.rad_snapshot.specs.Snapshots.{tree_of}
 use Rattle.rad_snapshot.specs.declared.snapshot_table.SnapshotTable.TheVariants as tables
 use Rattle.rad_snapshot.proofs.SnapshotLemmas.{no_challenges, no_last_challenge, no_last_session, no_replies, no_sessions}
-use Rattle.rad_snapshot.proofs.StoreLemmas.{cannot_there, more_later, put_there, reads_on}
+use Rattle.rad_snapshot.proofs.StoreLemmas.{cannot_there, more_later, put_there}
 use Rattle.rad_snapshot.proofs.restoring.restore_all.Goals as goal
 
 pub restore_table-requires : goal.restore_table-requires

@@ -1,4 +1,4 @@
-use Rattle.std.proofs.Common.{◌≡◌, ◌≢◌, ◌⊎◌, inr, Ok, Some, Err, IfErr, [], ◌∷◌, ◌+◌, ℕ, true, refl, rules, arith, subst, sym, ◌∙◌}
+use Rattle.std.proofs.Common.{◌≡◌, ◌≢◌, ◌⊎◌, inr, Ok, Some, Err, IfErr, [], ◌∷◌, true, refl, rules, arith, subst, sym, ◌∙◌}
 use Rattle.sqlite_disk.specs.Disk.{MoreFaults}
 use Rattle.sqlite_trees.specs.View.{Advances, IsClean}
 use Rattle.rad_config.specs.Configurations.{Configuration}

@@ -1,7 +1,6 @@
 use Rattle.std.proofs.Common.{Err, IfErr, ◌≡◌, ℕ, subst, sym, rules}
 use Rattle.rad_journal.specs.declared.journal.JournalFault.TheVariants.{Damaged}
 use Rattle.rad_snapshot.specs.Restoring.{IsRowAt}
-use Rattle.rad_snapshot.specs.declared.snapshot_table.SnapshotTable.TheVariants as tables
 use Rattle.rad_snapshot.proofs.RowLemmas.{no_reply}
 use Rattle.rad_snapshot.proofs.rows.item_in.Goals as goal
 

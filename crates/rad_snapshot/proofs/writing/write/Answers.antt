@@ -1,4 +1,4 @@
-use Rattle.std.proofs.Common.{◌≡◌, ◌∙◌, ap, arith, ℕ}
+use Rattle.std.proofs.Common.{◌∙◌, ap, arith, ℕ}
 use Rattle.sqlite_trees.specs.View.{IsClean}
 use Rattle.sqlite_trees.specs.declared.store.Shape.{Shape}
 use Rattle.rad_snapshot.specs.declared.snapshot_table.SnapshotTable.TheVariants as tables
