@@ -2,8 +2,7 @@
 use Rattle.std.proofs.Common.{◌≡◌, List, [], ◌∷◌, ◌++◌, refl, sym, subst, ◌∙◌}
 use Rattle.std.proofs.lemmas.List.Elements.{All-append}
 use Rattle.rad_packet.specs.Bodies.{Body}
-use Rattle.rad_config.specs.Configurations.{Configuration}
-use Rattle.rad_server.specs.Runs.{FreshAreEnough, IsLikeFromNow, LeadsAlike, LikeAfterTime, Run, fresh_of}
+use Rattle.rad_server.specs.Runs.{FreshAreEnough, IsLikeFromNow, LeadsAlike, LikeAfterTime, fresh_of}
 use Rattle.rad_server.specs.States.{State}
 use Rattle.rad_server.specs.declared.answer.Answer.TheVariants.{Send}
 use Rattle.rad_server.specs.declared.entry.Entry.{Entry}

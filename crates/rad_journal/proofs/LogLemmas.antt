@@ -1,5 +1,6 @@
 -- What calls do to a store with a log.
-use Rattle.std.proofs.Common.{◌≡◌, ◌<◌, ◌⊎◌, inl, inr, ⊎_elim, ℕ, suc, ◌+◌, Bool, true, false, IsTrue, List, [], ◌∷◌, ◌++◌, length, take, get_or, Some, None, refl, sym, ap, subst, ◌∙◌, arith, append_assoc, length-append}
+use Rattle.std.proofs.Common.{◌≡◌, ◌<◌, ◌⊎◌, inl, inr, ⊎_elim, ℕ, suc, ◌+◌, Bool, true, false, IsTrue, List, [], ◌∷◌, ◌++◌, length, take, get_or, cond, ne_eqb, Some, None, refl, sym, ap, subst, ◌∙◌, arith, append_assoc, length-append}
+use mathlib.Core.Path.{fun_ext}
 use Rattle.std.proofs.Math.Seq.{take-suc}
 use Rattle.std.proofs.lemmas.List.{length-map, length-take-le, map-append}
 use Rattle.sqlite_trees.specs.Tree.{Trees, from_key, order_of, put_row, sought}
@@ -8,7 +9,7 @@ use Rattle.sqlite_value.specs.declared.keys.Order.{Order}
 use Rattle.sqlite_trees.specs.View.{Advances, Commits, IsRolledBack, KeepsSchema, OnlyWrites, SetsTree, View, with_cursor}
 use Rattle.sqlite_value.specs.Order.{Row}
 use Rattle.rad_journal.specs.Rows.{IsCounted, IsLog, entries_of, entry_of, row_of, rows_from, table}
-use Rattle.rad_journal.specs.Stores.{IsAdded, IsSound, LeavesAdded, OnlyReads}
+use Rattle.rad_journal.specs.Stores.{IsAdded, IsSound, KeepsOthers, LeavesAdded, OnlyReads, others}
 use Rattle.rad_journal.proofs.RowLemmas.{entries_back, put_last, rows_push}
 use Rattle.rad_journal.specs.declared.kept.Kept.{Kept}
 
@@ -51,6 +52,12 @@ put_so_far old new before entries i count m x it lt sets is was counted =
     ∙ ap (λ (l : List Kept). rows_from 1 (l ++ x ∷ [])) stands
     ∙ ap (λ (l : List Kept). rows_from 1 l) (append_assoc before (take i entries) (x ∷ []) ∙ ap (λ (l : List Kept). before ++ l) (sym (take_next entries i x it lt)))
 
+-- a write of the journal's table leaves the others
+pub set_beside : (old new : View) (edit : List Row → List Row) → SetsTree old new table edit → others new.trees ≡ others old.trees
+set_beside old new edit sets =
+    ap (λ (v : View). others v.trees) sets.is
+    ∙ fun_ext (λ tree. ap (λ (b : Bool). cond b (edit (old.trees table)) (old.trees (suc tree))) (ne_eqb (suc tree) 0 (λ is. omega (arith, is))))
+
 -- ---- a commit
 
 module _ (old mid new : View) (recovers_old recovers_mid recovers_new : Trees → Type 0) (count : ℕ) (entries : List Kept)
@@ -72,6 +79,15 @@ module _ (old mid new : View) (recovers_old recovers_mid recovers_new : Trees �
 
   pub commit_leaves : Puts → Leaves → LeavesAdded old recovers_old recovers_new entries
   commit_leaves puts leaves db left = ⊎_elim (λ now. inr (ap (λ (t : Trees). entries_of (t table)) now.1 ∙ mid_entries puts)) (λ before. inl (outcomes db before)) (leaves db left)
+
+  -- what is beside the table stays, also where the commit fails
+  pub commit_keeps : others mid.trees ≡ others old.trees → Leaves → (mid.is_broken ≡ false → recovers_old old.committed)
+      → KeepsOthers recovers_old recovers_new
+  commit_keeps same leaves stays beside were db left =
+      ⊎_elim
+      (λ now. ap (λ (t : Trees). others t) now.1 ∙ same ∙ ap (λ (t : Trees). others t) (was.settled refl) ∙ were old.committed (stays now.0))
+      (λ before. were db (outcomes db before))
+      (leaves db left)
 
   pub commit_sound : Puts → Leaves → OnlyWrites old mid → Commits mid new → IsSound new recovers_new true (Some (count + length entries))
   commit_sound puts leaves frame commits =

@@ -1,5 +1,5 @@
 -- What a store with the table of a journal shows.
-use Rattle.std.specs.Prelude.{◌≡◌, ◌⊎◌, ℕ, List, ◌++◌, length, Bool, Option, Some, IsTrue, IsSome}
+use Rattle.std.specs.Prelude.{◌≡◌, ◌⊎◌, ℕ, suc, List, ◌++◌, length, Bool, Option, Some, IsTrue, IsSome}
 use Rattle.sqlite_trees.specs.Tree.{Trees}
 use Rattle.sqlite_trees.specs.View.{View}
 use Rattle.sqlite_trees.specs.declared.store.Shape.TheVariants.{Table}
@@ -13,6 +13,21 @@ kept_in view = entries_of (view.committed table)
 -- a crash may leave these entries
 abbrev pub MayLeave : (Trees → Type 0) → List Kept → Type 0
 MayLeave recovers left = (db : Trees) × recovers db × (left ≡ entries_of (db table))
+
+-- what a database has beside the journal's table: its other tables
+abbrev pub Beside : Type 0
+Beside = Trees
+
+abbrev pub others : Trees → Beside
+others db tree = db (suc tree)
+
+-- each outcome of a crash has these other trees
+abbrev pub LeavesOthers : (Trees → Type 0) → Beside → Type 0
+LeavesOthers recovers beside = (db : Trees) → recovers db → others db ≡ beside
+
+-- whatever each outcome of a crash has beside the journal's table, each has it later
+abbrev pub KeepsOthers : (old new : Trees → Type 0) → Type 0
+KeepsOthers old new = (beside : Beside) → LeavesOthers old beside → LeavesOthers new beside
 
 -- Each outcome of a crash is a log. A store that is usable may be opened again. Where the count is known, nothing is pending, and it
 -- counts the entries.

@@ -4,7 +4,7 @@ ghost use Rattle.sqlite_trees.specs.Tree.{Trees, put_row};
 ghost use Rattle.sqlite_trees.specs.View.{IsClean, IsQuiet, KeepsSchema, OnlyWrites, SetsTree, doubt};
 ghost use Rattle.sqlite_trees.specs.declared.store.Shape.TheVariants.{Table};
 ghost use Rattle.rad_journal.specs.Rows.{IsCounted, door_number, entries_of, row_of, rows_from, table};
-ghost use Rattle.rad_journal.specs.Stores.{IsAdded, IsSound, LeavesAdded};
+ghost use Rattle.rad_journal.specs.Stores.{IsAdded, IsSound, KeepsOthers, LeavesAdded, others};
 
 use crate::journal::JournalFault;
 use crate::kept::Kept;
@@ -42,6 +42,8 @@ pub(crate) fn add<S: Store>(
         → IsAdded (S.view store.old) (S.view store.new) entries.now) }
     ensures crash { IsClean (S.view store.new) → LeavesAdded (S.view store.old)
         (S.recovers store.old) (S.recovers store.new) entries.now }
+    ensures others { IsClean (S.view store.new)
+        → KeepsOthers (S.recovers store.old) (S.recovers store.new) }
 {
     if entries.len() >= (u32::MAX - count) as usize {
         return Err(JournalFault::Full);
@@ -68,6 +70,8 @@ fn append<S: Store>(
         → IsAdded (S.view store.old) (S.view store.new) entries.now) }
     ensures crash { IsClean (S.view store.new) → LeavesAdded (S.view store.old)
         (S.recovers store.old) (S.recovers store.new) entries.now }
+    ensures others { IsClean (S.view store.new)
+        → KeepsOthers (S.recovers store.old) (S.recovers store.new) }
 {
     let number = put_all(store, row, count, entries)?;
     store.commit()?;
@@ -92,6 +96,8 @@ fn put_all<S: Store>(
         → OnlyWrites (S.view store.old) (S.view store.new)) }
     ensures put { OnOk result (IsClean (S.view store.new) → (S.view store.new).trees table
         ≡ rows_from 1 (entries_of ((S.view store.old).trees table) ++ entries.now)) }
+    ensures others { OnOk result (IsClean (S.view store.new)
+        → others (S.view store.new).trees ≡ others (S.view store.old).trees) }
     ensures number { IfOk result (λ n. n ≡ count + length entries.now) }
 {
     let mut number = count;

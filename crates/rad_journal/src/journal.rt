@@ -3,6 +3,7 @@ ghost use Rattle.std.specs.Prelude.{◌≡◌, ◌⊎◌, ◌++◌, List, Bool, 
 ghost use Rattle.rad_journal.specs.Journals.{added};
 ghost use Rattle.rad_journal.specs.Faults.{fault_of};
 ghost use Rattle.rad_journal.specs.Rows.{IsWithin};
+ghost use Rattle.rad_journal.specs.Stores.{Beside};
 ghost use Rattle.rad_journal.specs.declared.journal.JournalFault.TheVariants.{Damaged, NoMemory};
 ghost use Rattle.rad_journal.specs.declared.kept.Kept.{Kept};
 
@@ -72,6 +73,9 @@ pub trait Journal {
     /// What the next open may find after a crash at this moment.
     ghost may_leave: { Self → List Kept → Type 0 };
 
+    /// What a crash leaves beside them, which no call changes.
+    ghost leaves_beside: { Self → Beside → Type 0 };
+
     /// No wrong answer of the disk has been taken as true so far.
     ghost is_clean: { Self → Type 0 };
 
@@ -85,7 +89,7 @@ pub trait Journal {
     fn keeps(&self) -> bool
         ensures { result ≡ keeps };
 
-    /// Adds the entries in their order, all or none. A journal that keeps nothing does so.
+    /// Adds the entries in their order, all or none. A journal that keeps nothing adds nothing, and succeeds.
     ///
     /// At `Ok` each crash from then on leaves them. At `Err` a crash may leave them or not. `NoRoom`: the disk or the database has
     /// none. `Full`: there would be more than `ENTRIES_MAX` entries, or a time is 2 ^ 63 or more. `Disk`: the disk failed, or an
@@ -97,6 +101,8 @@ pub trait Journal {
         ensures open { OnOk result (is_clean self.new → is_open self.old → is_open self.new) }
         ensures crash { is_clean self.new → (left : List Kept) → may_leave self.new left
             → may_leave self.old left ⊎ (left ≡ kept self.old ++ added keeps entries.now) }
+        ensures beside { is_clean self.new → (beside : Beside) → leaves_beside self.old beside
+            → leaves_beside self.new beside }
         ensures fault { OnErr result (IsTrue keeps) };
 
     /// The entry at a place, counted from 0, if there is one.
@@ -112,11 +118,17 @@ pub trait Journal {
         ensures kept { OnOk result (is_clean self.new → kept self.new ≡ kept self.old) }
         ensures open { OnOk result (is_clean self.new → is_open self.old → is_open self.new) }
         ensures crash { is_clean self.new → (left : List Kept) → may_leave self.new left
-            → may_leave self.old left };
+            → may_leave self.old left }
+        ensures beside { is_clean self.new → (beside : Beside) → leaves_beside self.old beside
+            → leaves_beside self.new beside };
 
     /// While it is open, a crash leaves what was kept and nothing else.
     ghost settled: { (journal : Self) → is_open journal
         → (left : List Kept) → may_leave journal left → left ≡ kept journal };
+
+    /// While it is open, a crash does leave what was kept.
+    ghost stays: { (journal : Self) → is_clean journal → is_open journal
+        → may_leave journal (kept journal) };
 }
 
 /// A journal that can be made to crash, and is then opened again.
@@ -131,5 +143,8 @@ pub trait Reopen: Journal {
         ensures open { OnOk result (Self.Journal.is_clean self.new
             → Self.Journal.is_open self.new) }
         ensures crash { Self.Journal.is_clean self.new → (left : List Kept)
-            → Self.Journal.may_leave self.new left → Self.Journal.may_leave self.old left };
+            → Self.Journal.may_leave self.new left → Self.Journal.may_leave self.old left }
+        ensures beside { Self.Journal.is_clean self.new → (beside : Beside)
+            → Self.Journal.leaves_beside self.old beside
+            → Self.Journal.leaves_beside self.new beside };
 }

@@ -1,5 +1,5 @@
 //! A journal that keeps nothing.
-ghost use Rattle.std.specs.Prelude.{◌≡◌, [], false};
+ghost use Rattle.std.specs.Prelude.{◌≡◌, [], false, refl};
 
 use crate::journal::{Journal, JournalFault, Reopen};
 use crate::kept::Kept;
@@ -16,6 +16,8 @@ impl Journal for NoJournal {
 
     ghost may_leave = { λ _ left. left ≡ [] };
 
+    ghost leaves_beside = { λ _ _. Unit {0} };
+
     ghost is_clean = { λ _. Unit {0} };
 
     ghost is_open = { λ _. Unit {0} };
@@ -23,6 +25,8 @@ impl Journal for NoJournal {
     ghost has_failed = { λ _ _. ⊥ };
 
     ghost settled = { λ _ _ left is. is };
+
+    ghost stays = { λ _ _ _. refl };
 
     fn keeps(&self) -> bool {
         false

@@ -4,6 +4,7 @@ ghost use Rattle.rad_auth.specs.Admission.{IsAdmitted, admission, own_datagram};
 ghost use Rattle.rad_auth.specs.Datagrams.{datagram_of};
 ghost use Rattle.rad_journal.specs.Kept.{answer_octets};
 ghost use Rattle.rad_journal.specs.Restores.{CannotRestore, HasReason, IsBegun, IsNoRequest, IsOfEntry, IsRestored, IsStep, StopsAt, datagram_of_kept, place_of};
+ghost use Rattle.rad_journal.specs.Stores.{Beside};
 ghost use Rattle.rad_journal.specs.declared.kept.Kept.{Kept};
 
 use crate::journal::{Journal, JournalFault};
@@ -40,6 +41,8 @@ pub fn restore<J: Journal>(
         → J.is_open journal.old → J.is_open journal.new) }
     ensures crash { J.is_clean journal.new → (left : List Kept) → J.may_leave journal.new left
         → J.may_leave journal.old left }
+    ensures beside { J.is_clean journal.new → (beside : Beside)
+        → J.leaves_beside journal.old beside → J.leaves_beside journal.new beside }
 {
     for place in 0..u32::MAX {
         let Some(kept) = journal.entry(alloc, place)? else {

@@ -1,11 +1,11 @@
 //! A journal in a table of a store.
-ghost use Rattle.std.specs.Prelude.{◌≡◌, ◌≤◌, true, length, IfSome, IsTrue, IsSome, None, Some};
+ghost use Rattle.std.specs.Prelude.{◌≡◌, ◌≤◌, true, length, refl, IfSome, IsTrue, IsSome, None, Some};
 ghost use Rattle.std.proofs.Common.{◌∙◌, ap};
 ghost use Rattle.sqlite_disk.specs.Disk.{MoreFaults};
 ghost use Rattle.sqlite_trees.specs.Tree.{Trees};
 ghost use Rattle.sqlite_trees.specs.View.{IsClean, doubt};
 ghost use Rattle.rad_journal.specs.Rows.{IsCounted, entries_of, table};
-ghost use Rattle.rad_journal.specs.Stores.{IsSound, MayLeave, kept_in};
+ghost use Rattle.rad_journal.specs.Stores.{IsSound, LeavesOthers, MayLeave, kept_in};
 
 use crate::append::add;
 use crate::checking::check;
@@ -107,6 +107,8 @@ impl<S: Store> Journal for StoreJournal<S> {
 
     ghost may_leave = { λ journal. MayLeave (S.recovers journal.store) };
 
+    ghost leaves_beside = { λ journal. LeavesOthers (S.recovers journal.store) };
+
     ghost is_clean = { λ journal. IsClean (S.view journal.store) };
 
     ghost is_open = { λ journal. IsTrue (S.view journal.store).is_open × IsSome journal.count };
@@ -115,6 +117,12 @@ impl<S: Store> Journal for StoreJournal<S> {
 
     ghost settled = { λ journal is_open left is. is.2
         ∙ ap (λ (t : Trees). entries_of (t table)) (S.settled journal.store is.0 is_open.0 is.1) };
+
+    ghost stays = { λ journal _ is_open. (
+      (S.view journal.store).committed,
+      S.stays journal.store is_open.0,
+      refl,
+    ) };
 
     fn keeps(&self) -> bool {
         true

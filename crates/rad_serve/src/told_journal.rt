@@ -63,6 +63,8 @@ impl<'r, R: Clock + Eprint, J: Journal + Drop> Journal for ToldJournal<'r, R, J>
 
     ghost may_leave = { λ told. J.may_leave told.journal };
 
+    ghost leaves_beside = { λ told. J.leaves_beside told.journal };
+
     ghost is_clean = { λ told. J.is_clean told.journal };
 
     ghost is_open = { λ told. J.is_open told.journal };
@@ -70,6 +72,8 @@ impl<'r, R: Clock + Eprint, J: Journal + Drop> Journal for ToldJournal<'r, R, J>
     ghost has_failed = { λ old new. J.has_failed old.journal new.journal };
 
     ghost settled = { λ told. J.settled told.journal };
+
+    ghost stays = { λ told. J.stays told.journal };
 
     fn keeps(&self) -> bool {
         self.journal.keeps()

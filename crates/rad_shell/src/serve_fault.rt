@@ -17,7 +17,7 @@ pub enum ServeFault {
     /// The history of a round doesn't agree with what its workers were answered. This never comes.
     #[error("mismatch")]
     Mismatch,
-    /// The journal failed to keep a round. None of its replies is sent.
+    /// The journal failed to keep a round, none of whose replies is sent; or, between rounds, no generation could begin.
     #[error(transparent)]
     Journal(JournalFault),
 }

@@ -6,6 +6,7 @@ ghost use Rattle.rad_server.specs.Runs.{fresh_of};
 ghost use Rattle.rad_journal.specs.Journals.{added};
 ghost use Rattle.rad_journal.specs.Kept.{kept_of};
 ghost use Rattle.rad_journal.specs.declared.kept.Kept.{Kept};
+ghost use Rattle.rad_journal.specs.Stores.{Beside};
 ghost use Rattle.rad_shell.specs.Serving.{AddUp, AddsTurn, HasCause, IsBetween, IsCounted, IsRoundMade, IsServed, Outlives, UnlessJournal, came_in, is_refused, port_faults, turns_max, wants_time};
 
 use crate::ports::Ports;
@@ -155,6 +156,8 @@ impl<'a, D: Rng, G: Gate + Sync, W: Watch + Drop> Turns<'a, D, G, W> {
         ensures clean { J.is_clean journal.new → J.is_clean journal.old }
         ensures open { UnlessJournal result
             (J.is_clean journal.new → J.is_open journal.old → J.is_open journal.new) }
+        ensures beside { J.is_clean journal.new → (beside : Beside)
+            → J.leaves_beside journal.old beside → J.leaves_beside journal.new beside }
     {
         service.server().state_is_lawful();
         runs_repeat();
@@ -213,6 +216,8 @@ impl<'a, D: Rng, G: Gate + Sync, W: Watch + Drop> Turns<'a, D, G, W> {
         ensures clean { J.is_clean journal.new → J.is_clean journal.old }
         ensures open { UnlessJournal result
             (J.is_clean journal.new → J.is_open journal.old → J.is_open journal.new) }
+        ensures beside { J.is_clean journal.new → (beside : Beside)
+            → J.leaves_beside journal.old beside → J.leaves_beside journal.new beside }
     {
         ports.wait(rt);
         self.take_room(service.alloc());
@@ -319,6 +324,8 @@ fn commit<J: Journal>(
     ensures crash { J.is_clean journal.new → (left : List Kept) → J.may_leave journal.new left
         → J.may_leave journal.old left ⊎ (left ≡ J.kept journal.old
         ++ added J.keeps (kept_of wall (fresh_of clock history.now marks.now))) }
+    ensures beside { J.is_clean journal.new → (beside : Beside)
+        → J.leaves_beside journal.old beside → J.leaves_beside journal.new beside }
     ensures keeps { OnErr result (IsTrue J.keeps) }
 {
     if !journal.keeps() {

@@ -1,5 +1,5 @@
 //! Turns over journals.
-ghost use Rattle.std.specs.Prelude.{◌≡◌, [], true};
+ghost use Rattle.std.specs.Prelude.{◌≡◌, [], refl, true};
 
 use super::coming::{arrive, is_sum, random, sent_count};
 use super::watching::UNSEEN;
@@ -23,6 +23,8 @@ impl Journal for Counting {
 
     ghost may_leave = { λ _ left. left ≡ [] };
 
+    ghost leaves_beside = { λ _ _. Unit {0} };
+
     ghost is_clean = { λ _. ⊥ };
 
     ghost is_open = { λ _. ⊥ };
@@ -30,6 +32,8 @@ impl Journal for Counting {
     ghost has_failed = { λ _ _. Unit {0} };
 
     ghost settled = { λ _ _ left is. is };
+
+    ghost stays = { λ _ _ _. refl };
 
     fn keeps(&self) -> bool {
         true

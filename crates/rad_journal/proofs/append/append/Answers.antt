@@ -1,7 +1,7 @@
 use Rattle.std.proofs.Common.{sym, rules, arith, true, None, Some, ℕ, subst}
 use Rattle.sqlite_trees.specs.View.{IsClean}
 use Rattle.rad_journal.specs.Stores.{IsSound}
-use Rattle.rad_journal.proofs.LogLemmas.{commit_added, commit_failed, commit_leaves, commit_sound, still_open}
+use Rattle.rad_journal.proofs.LogLemmas.{commit_added, commit_failed, commit_keeps, commit_leaves, commit_sound, still_open}
 use Rattle.rad_journal.proofs.append.append.Goals as goal
 
 pub returns-in_err-commit-clause-broken : goal.returns-in_err-commit-clause-broken
@@ -45,3 +45,19 @@ returns-clause-crash g c clean =
     let mid : IsClean (S.view c.put_all.new.store) = omega (arith, c.commit.ensures.clean, clean) in
     let old : IsClean (S.view c.args.store.now) = omega (arith, c.put_all.ensures.clean, mid) in
     commit_leaves (S.view c.args.store.now) (S.view c.put_all.new.store) (S.view c.commit.new.self) (S.recovers c.args.store.now) (S.recovers c.put_all.new.store) (S.recovers c.commit.new.self) c.args.count c.args.entries.now (c.requires.sound old) c.put_all.ensures.outcomes (c.in_ok-number.ensures.put mid) c.commit.ensures.crash
+
+pub returns-in_err-commit-clause-others : goal.returns-in_err-commit-clause-others
+returns-in_err-commit-clause-others g c clean =
+    let S = g.S.Store in
+    let mid : IsClean (S.view c.put_all.new.store) = omega (arith, c.commit.ensures.clean, clean) in
+    let old : IsClean (S.view c.args.store.now) = omega (arith, c.put_all.ensures.clean, mid) in
+    commit_keeps (S.view c.args.store.now) (S.view c.put_all.new.store) (S.view c.commit.new.self) (S.recovers c.args.store.now) (S.recovers c.put_all.new.store) (S.recovers c.commit.new.self) c.args.count c.args.entries.now (c.requires.sound old) c.put_all.ensures.outcomes (c.in_ok-number.ensures.others mid) c.commit.ensures.crash
+    (λ sound. g.met.S.Store.stays c.args.store.now (still_open (S.view c.args.store.now) (S.view c.put_all.new.store) (g.met.S.Store.broken_if_shut c.args.store.now) (c.in_ok-number.ensures.frame mid) sound))
+
+pub returns-clause-others : goal.returns-clause-others
+returns-clause-others g c clean =
+    let S = g.S.Store in
+    let mid : IsClean (S.view c.put_all.new.store) = omega (arith, c.commit.ensures.clean, clean) in
+    let old : IsClean (S.view c.args.store.now) = omega (arith, c.put_all.ensures.clean, mid) in
+    commit_keeps (S.view c.args.store.now) (S.view c.put_all.new.store) (S.view c.commit.new.self) (S.recovers c.args.store.now) (S.recovers c.put_all.new.store) (S.recovers c.commit.new.self) c.args.count c.args.entries.now (c.requires.sound old) c.put_all.ensures.outcomes (c.in_ok-number.ensures.others mid) c.commit.ensures.crash
+    (λ sound. g.met.S.Store.stays c.args.store.now (still_open (S.view c.args.store.now) (S.view c.put_all.new.store) (g.met.S.Store.broken_if_shut c.args.store.now) (c.in_ok-number.ensures.frame mid) sound))

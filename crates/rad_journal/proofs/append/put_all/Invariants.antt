@@ -2,6 +2,7 @@ use Rattle.std.proofs.Common.{◌≡◌, ◌++◌, ◌≤◌, ◌+◌, take}
 use Rattle.sqlite_trees.specs.Tree.{Trees}
 use Rattle.sqlite_trees.specs.View.{IsClean, KeepsSchema, OnlyWrites, doubt}
 use Rattle.rad_journal.specs.Rows.{entries_of, rows_from, table}
+use Rattle.rad_journal.specs.Stores.{others}
 use Rattle.rad_journal.proofs.append.put_all.Given as goal
 
 abbrev pub invariant-loop-i : goal.invariant-loop-i
@@ -12,5 +13,6 @@ invariant-loop-i g l =
       schema : KeepsSchema (g.S.Store.view l.fn.store) (g.S.Store.view l.store);
       frame : IsClean (g.S.Store.view l.store) → OnlyWrites (g.S.Store.view l.fn.store) (g.S.Store.view l.store);
       put : IsClean (g.S.Store.view l.store) → (g.S.Store.view l.store).trees table ≡ rows_from 1 (entries_of ((g.S.Store.view l.fn.store).trees table) ++ take l.i l.entries);
+      others : IsClean (g.S.Store.view l.store) → others (g.S.Store.view l.store).trees ≡ others (g.S.Store.view l.fn.store).trees;
       number : l.number ≡ l.count + l.i;
     }

@@ -45,6 +45,7 @@ loop-init g c =
       random = refl;
       clean = λ is. is;
       opened = λ clean is. is;
+      beside = λ clean beside is. is;
       so_far = first.0;
       kept = first.1;
     }
@@ -77,6 +78,7 @@ loop-preserved g c =
       random = c.in_ok-left.ensures.random ∙ i.random;
       clean = λ clean. i.clean (c.in_ok-left.ensures.clean clean);
       opened = λ clean was. c.in_ok-left.ensures.open clean (i.opened (c.in_ok-left.ensures.clean clean) was);
+      beside = λ clean beside was. c.in_ok-left.ensures.beside clean beside (i.beside (c.in_ok-left.ensures.clean clean) beside was);
       so_far = made.0;
       kept = made.1;
     }
