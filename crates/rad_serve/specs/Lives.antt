@@ -1,21 +1,26 @@
--- Lives: a server that crashes, however often, and each time goes on from what its journal kept.
+-- Lives: a server that crashes, however often, and each time goes on from what its newest generation keeps.
 --
--- Whatever a crash leaves is one run of the one-thread server from its opening, and each reply that ever went is the reply to an entry of
--- it (`IsOneRun`). Order isn't claimed: the replies of a round go in order of arrival, and its entries have the order of the steps.
-use Rattle.std.specs.Prelude.{◌≡◌, if◌then◌else◌, Bool, List, [], ◌∷◌, ◌++◌, drop, length, All, Option, None, Some}
+-- Whatever a crash leaves is reached by runs of the one-thread server, each of which goes on where the one before it ended, the first from a
+-- fresh server; and each reply that ever went is the reply to an entry of one of these runs (`IsOneRun`). Order isn't claimed: the replies of
+-- a round go in order of arrival, and its entries have the order of the steps.
+use Rattle.std.specs.Prelude.{◌≡◌, ◌⊎◌, if◌then◌else◌, Bool, List, [], ◌∷◌, ◌++◌, drop, length, All, Contains, Option, None, Some}
 use Rattle.rad_auth.specs.Admission.{IsAdmitted, own_datagram}
 use Rattle.rad_auth.specs.Clients.{Client}
 use Rattle.rad_auth.specs.declared.arrival.Request.{Request}
 use Rattle.rad_config.specs.Configurations.{Configuration}
-use Rattle.rad_server.specs.Runs.{IsMarked, datagram_of_entry}
+use Rattle.rad_config.specs.Ranges.{IsConfiguration}
+use Rattle.rad_server.specs.Lawful.{IsLawful}
+use Rattle.rad_server.specs.Runs.{IsLikeFromNow, IsMarked, datagram_of_entry}
 use Rattle.rad_server.specs.Servers.{Server}
-use Rattle.rad_server.specs.States.{State, opening}
+use Rattle.rad_server.specs.States.{State}
 use Rattle.rad_server.specs.declared.entry.Entry.{Entry}
 use Rattle.rad_round.specs.Rounds.{HasEntry, IsSentAs}
 use Rattle.rad_round.specs.declared.outcome.Outcome.TheVariants.{Reply}
 use Rattle.rad_journal.specs.Restores.{AreKept, IsRestored}
 use Rattle.rad_journal.specs.declared.kept.Kept.{Kept}
+use Rattle.rad_state.specs.Generations.{Generation, fresh_server}
 use Rattle.rad_shell.specs.Passages.{Empty, Fault, In, Now, Out, Passage, Went}
+use Rattle.rad_shell.specs.Serving.{Tally}
 
 -- ---- replies
 
@@ -43,7 +48,7 @@ went_among (Empty ∷ rest) = went_among rest
 went_among (Now moment ∷ rest) = went_among rest
 went_among (Fault ∷ rest) = went_among rest
 
--- the datagrams that went since ports told of what had passed; where they can't tell, none
+-- the datagrams that went between two moments, as ports tell; none where they can't tell
 abbrev pub went_since : Option (List Passage) → Option (List Passage) → List Went
 went_since None after = []
 went_since (Some before) None = []
@@ -66,29 +71,52 @@ marked_of [] marks = []
 marked_of (entry ∷ rest) [] = []
 marked_of (entry ∷ rest) (mark ∷ marks) = if mark then entry ∷ marked_of rest marks else marked_of rest marks
 
--- What a crash left is one run of the server from its opening: it is what is kept of the marked entries of a history. Each of the datagrams
--- that were sent is the reply to an entry of that history.
-pub record IsOneRun (configuration : Configuration) (left : List Kept) (sent : List Went) : Type 0 where
+-- The entries that were kept since a base are one run of the server from there: they are what is kept of the marked entries of a history.
+-- Each of the datagrams that were sent since is the reply to an entry of that history.
+pub record IsRunFrom (base : Server) (entries : List Kept) (sent : List Went) : Type 0 where
   pub history : List Entry
   pub marks : List Bool
   pub state : State
-  pub serves : Serves configuration (opening configuration) history marks state
-  pub kept : AreKept (marked_of history marks) left
-  pub replied : All (IsReplyIn configuration.clients history) sent
+  pub serves : Serves base.configuration base.state history marks state
+  pub kept : AreKept (marked_of history marks) entries
+  pub replied : All (IsReplyIn base.configuration.clients history) sent
 
--- whatever a crash may leave is
-abbrev pub AreOneRun : Configuration → (List Kept → Type 0) → List Went → Type 0
-AreOneRun configuration may_leave sent = (left : List Kept) → may_leave left → IsOneRun configuration left sent
+-- A server that can be reached, with all that was kept and sent on the way: a fresh one, or one that a run from a reached one leads to, but
+-- that its state may be another which no later step can tell from that of the run.
+pub data IsReached : Server → List Kept → List Went → Type 0 where
+  fresh : (configuration : Configuration) → IsConfiguration configuration → IsReached (fresh_server configuration) [] []
+  by_run : {base : Server} {ended : List Kept} {earlier : List Went} (kept : List Kept) (sent : List Went) (state : State)
+      → IsReached base ended earlier → (run : IsRunFrom base kept sent) → IsLikeFromNow state run.state → IsLawful base.configuration state
+      → IsReached (record { configuration = base.configuration; state = state }) (ended ++ kept) (earlier ++ sent)
+
+-- A generation that a crash left is one run, where this was kept in generations that have ended: its base was reached, and its entries are a
+-- run from there. Each of the datagrams that were sent went on the way, or is of that run.
+pub record IsOneRun (ended : List Kept) (left : Generation) (sent : List Went) : Type 0 where
+  pub earlier : List Went
+  pub later : List Went
+  pub reached : IsReached left.base ended earlier
+  pub run : IsRunFrom left.base left.entries later
+  pub among : All (Contains (earlier ++ later)) sent
+
+-- each generation that a crash may leave is
+abbrev pub AreOneRun : List Kept → (Generation → Type 0) → List Went → Type 0
+AreOneRun ended may_leave sent = (left : Generation) → may_leave left → IsOneRun ended left sent
 
 -- ---- a life
 
--- the server of a configuration, before the first request
-abbrev pub opened : Configuration → Server
-opened configuration = record { configuration = configuration; state = opening configuration }
+-- A generation is left after turns. All that was kept, in it and in those that have ended, is what was kept before and what the turns kept, or
+-- perhaps also what they didn't keep, since the journal failed. Where no other begins, no more have ended.
+pub record IsLeft (ended kept : List Kept) (tally : Tally) (alone : Type 0) (left : Generation) (sent : List Went) : Type 0 where
+  pub ended_now : List Kept
+  pub one : IsOneRun ended_now left sent
+  pub all : (ended_now ++ left.entries ≡ kept ++ tally.kept) ⊎ (ended_now ++ left.entries ≡ kept ++ (tally.kept ++ tally.unkept))
+  pub same : alone → ended_now ≡ ended
 
--- A server was restored from what was kept, and that is one run with all that was sent earlier. Then whatever a crash may leave now is one
--- run, with all that was sent earlier or has gone since.
-abbrev pub StaysOneRun : Server → List Kept → Option (List Passage) → Option (List Passage) → (List Kept → Type 0) → Type 0
-StaysOneRun server kept passed passed_now may_leave =
-    (earlier : List Went) → IsRestored (opened server.configuration) kept server → IsOneRun server.configuration kept earlier
-    → AreOneRun server.configuration may_leave (earlier ++ went_since passed passed_now)
+-- A server was restored from a base and the entries since, which are one run with all that was sent earlier. Then so is each generation that
+-- a crash may leave after turns, with all that was sent earlier or has gone since.
+abbrev pub StaysOneRun : Server → List Kept → Server → Tally → Type 0 → Option (List Passage) → Option (List Passage) → (Generation → Type 0)
+    → Type 0
+StaysOneRun base entries server tally alone passed passed_now may_leave =
+    (ended : List Kept) (earlier : List Went) → IsRestored base entries server
+    → IsOneRun ended (record { base = base; entries = entries }) earlier → (left : Generation) → may_leave left
+    → IsLeft ended (ended ++ entries) tally alone left (earlier ++ went_since passed passed_now)

@@ -4,8 +4,8 @@ ghost use Rattle.sqlite_trees.specs.View.{IsClean};
 ghost use Rattle.rad_config.specs.Spans.{moment_max};
 ghost use Rattle.rad_journal.specs.Restores.{IsRestored};
 ghost use Rattle.rad_journal.specs.Stores.{kept_in};
-ghost use Rattle.rad_serve.specs.Lives.{opened};
 ghost use Rattle.rad_state.specs.Fits.{Fits};
+ghost use Rattle.rad_state.specs.Generations.{fresh_server};
 ghost use Rattle.rad_state.specs.Metas.{meta_held, meta_table};
 ghost use Rattle.rad_state.specs.Moments.{IsMoment, last_of, moment_of};
 ghost use Rattle.rad_state.specs.Stores.{IsOpened};
@@ -20,7 +20,7 @@ use rad_journal::{ENTRIES_MAX, NoJournal, StoreJournal, restore};
 use rad_packet::Octets;
 use rad_server::Server;
 use rad_shell::Service;
-use rad_state::{Clocks, FORMAT, Meta, RULES, State, begin};
+use rad_state::{Clocks, FORMAT, Keeping, Meta, OneGeneration, RULES, State, begin};
 use rand_chacha::ChaCha20Rng;
 use sqlite_trees::store::Store;
 use std::alloc::{AllocGlobal, Global};
@@ -32,11 +32,11 @@ const MANY_ENTRIES: u32 = ENTRIES_MAX / 10 * 9;
 
 /// A service, the source of its draws, its clock, and what keeps its entries.
 #[derive(Drop)]
-pub(crate) struct Life<'c, J> {
+pub(crate) struct Life<'c, K, J> {
     pub service: Service<'c>,
     pub random: ChaCha20Rng,
     pub moments: Moments,
-    pub journal: J,
+    pub keeping: Keeping<K, J>,
 }
 
 /// A life that begins with nothing, and keeps nothing.
@@ -44,13 +44,16 @@ pub(crate) fn in_memory<'c>(
     alloc: Global,
     config: &'c Config,
     seed: [u8; 32],
-) -> Result<Life<'c, NoJournal>, ServeError> {
+) -> Result<Life<'c, OneGeneration<'c>, NoJournal>, ServeError> {
     let (random, key) = random_of(seed, 0);
     Ok(Life {
         service: Service::open_keyed(alloc, config, key)?,
         random,
         moments: Moments::of_system(),
-        journal: NoJournal,
+        keeping: Keeping {
+            generations: OneGeneration { config },
+            journal: NoJournal,
+        },
     })
 }
 
@@ -62,18 +65,18 @@ pub(crate) fn over<'c, R: Files + Clock + Eprint + AllocGlobal, S: Store + Drop>
     config: &'c Config,
     seed: [u8; 32],
     warnings: &mut String,
-) -> Result<Life<'c, StoreJournal<S>>, ServeError>
+) -> Result<Life<'c, OneGeneration<'c>, StoreJournal<S>>, ServeError>
     requires { IsClean (S.view store) → IsOpened (S.view store) }
-    ensures restored { IfOk result (λ life. IsClean (S.view life.journal.store)
-        → IsRestored (opened config.now) (kept_in (S.view store)) life.service) }
-    ensures kept { IfOk result (λ life. IsClean (S.view life.journal.store)
-        → kept_in (S.view life.journal.store) ≡ kept_in (S.view store)) }
-    ensures open { IfOk result (λ life. IsClean (S.view life.journal.store)
-        → IsTrue (S.view life.journal.store).is_open × IsSome life.journal.count) }
-    ensures later { IfOk result (λ life. IsClean (S.view life.journal.store)
+    ensures restored { IfOk result (λ life. IsClean (S.view life.keeping.journal.store)
+        → IsRestored (fresh_server config.now) (kept_in (S.view store)) life.service) }
+    ensures kept { IfOk result (λ life. IsClean (S.view life.keeping.journal.store)
+        → kept_in (S.view life.keeping.journal.store) ≡ kept_in (S.view store)) }
+    ensures open { IfOk result (λ life. IsClean (S.view life.keeping.journal.store)
+        → IsTrue (S.view life.keeping.journal.store).is_open × IsSome life.keeping.journal.count) }
+    ensures later { IfOk result (λ life. IsClean (S.view life.keeping.journal.store)
         → moment_of (last_of (kept_in (S.view store))) ≤ life.moments.first) }
-    ensures meta { IfOk result (λ life. IsClean (S.view life.journal.store)
-        → IfSome (meta_held ((S.view life.journal.store).committed meta_table))
+    ensures meta { IfOk result (λ life. IsClean (S.view life.keeping.journal.store)
+        → IfSome (meta_held ((S.view life.keeping.journal.store).committed meta_table))
         (λ meta. Fits meta text.now)) }
 {
     let clocks = clocks(rt).ok_or(ServeError::Clocks)?;
@@ -99,7 +102,10 @@ pub(crate) fn over<'c, R: Files + Clock + Eprint + AllocGlobal, S: Store + Drop>
             first: moment,
             ..now
         },
-        journal,
+        keeping: Keeping {
+            generations: OneGeneration { config },
+            journal,
+        },
     })
 }
 

@@ -1,14 +1,16 @@
 //! Lives: a server that crashes and starts again, however often.
 ghost use Rattle.std.specs.Prelude.{[], Some, IsTrue};
 ghost use Rattle.rad_config.specs.Configurations.{Configuration};
+ghost use Rattle.rad_config.specs.Ranges.{IsConfiguration};
 ghost use Rattle.rad_serve.specs.Lives.{AreOneRun, IsOneRun, went_since};
+ghost use Rattle.rad_state.specs.Generations.{LeavesOf, fresh_server, just_begun};
 
 use crate::options::Options;
 use crate::serving::make_calls;
-use rad_config::Config;
 use rad_journal::{Reopen, restore};
 use rad_server::Server;
 use rad_shell::{Gate, Ports, Service, Turns, Watch};
+use rad_state::{Keeping, OneGeneration};
 use rand_core::Rng;
 use std::alloc::AllocGlobal;
 use std::sync::Wait;
@@ -17,8 +19,6 @@ use std::thread::Threads;
 /// Which lives are made.
 #[derive(Clone, Copy)]
 pub struct Lives<'a> {
-    /// The configuration, the same in each.
-    pub config: &'a Config,
     /// How many turns a life makes, if it has an end, and by how many workers.
     pub options: &'a Options,
     /// How many there are.
@@ -27,9 +27,8 @@ pub struct Lives<'a> {
 
 /// Makes lives: in each it crashes, opens the journal again, restores a server from it, and makes the program's calls.
 ///
-/// A life that fails, at whatever point, is followed by the next one. Whatever a crash leaves, at any time, is one run of the one-thread
-/// server from its opening, and each reply that ever went, over all lives, is the reply to an entry of it. This holds while no wrong
-/// answer of the disk has been taken as true.
+/// A life that fails, at whatever point, is followed by the next one. Whatever a crash leaves, at any time, is one run, and each reply that
+/// ever went, over all lives, is the reply to an entry of it. This holds while no wrong answer of the disk has been taken as true.
 pub fn live<
     R: Threads + Wait + Sync + AllocGlobal,
     J: Reopen,
@@ -37,16 +36,25 @@ pub fn live<
     D: Rng,
     G: Gate + Sync,
     W: Watch + Drop,
->(rt: &R, lives: Lives, turns: &mut Turns<D, G, W>, ports: &mut P, journal: &mut J)
+>(
+    rt: &R,
+    lives: Lives,
+    turns: &mut Turns<D, G, W>,
+    ports: &mut P,
+    keeping: &mut Keeping<OneGeneration, J>,
+)
     requires keeps { IsTrue J.Journal.keeps }
-    requires before { J.Journal.is_clean journal.old → AreOneRun lives.config.now
-        (J.Journal.may_leave journal.old) (went_since (Some []) (P.passed ports.old)) }
-    ensures one_run { J.Journal.is_clean journal.new → AreOneRun lives.entry.config.now
-        (J.Journal.may_leave journal.new) (went_since (Some []) (P.passed ports.new)) }
-    ensures clean { J.Journal.is_clean journal.new → J.Journal.is_clean journal.old }
+    requires before { J.Journal.is_clean keeping.old.journal → AreOneRun []
+        (LeavesOf keeping.old.generations.config.now (J.Journal.may_leave keeping.old.journal))
+        (went_since (Some []) (P.passed ports.old)) }
+    ensures one_run { J.Journal.is_clean keeping.new.journal → AreOneRun []
+        (LeavesOf keeping.new.generations.config.now (J.Journal.may_leave keeping.new.journal))
+        (went_since (Some []) (P.passed ports.new)) }
+    ensures clean { J.Journal.is_clean keeping.new.journal
+        → J.Journal.is_clean keeping.old.journal }
 {
     for _ in 0..lives.count {
-        live_once(rt, lives, turns, ports, journal);
+        live_once(rt, lives.options, turns, ports, keeping);
     }
 }
 
@@ -57,31 +65,41 @@ fn live_once<
     D: Rng,
     G: Gate + Sync,
     W: Watch + Drop,
->(rt: &R, lives: Lives, turns: &mut Turns<D, G, W>, ports: &mut P, journal: &mut J)
+>(
+    rt: &R,
+    options: &Options,
+    turns: &mut Turns<D, G, W>,
+    ports: &mut P,
+    keeping: &mut Keeping<OneGeneration, J>,
+)
     requires keeps { IsTrue J.Journal.keeps }
-    requires before { J.Journal.is_clean journal.old → AreOneRun lives.config.now
-        (J.Journal.may_leave journal.old) (went_since (Some []) (P.passed ports.old)) }
-    ensures one_run { J.Journal.is_clean journal.new → AreOneRun lives.entry.config.now
-        (J.Journal.may_leave journal.new) (went_since (Some []) (P.passed ports.new)) }
-    ensures clean { J.Journal.is_clean journal.new → J.Journal.is_clean journal.old }
+    requires before { J.Journal.is_clean keeping.old.journal → AreOneRun []
+        (LeavesOf keeping.old.generations.config.now (J.Journal.may_leave keeping.old.journal))
+        (went_since (Some []) (P.passed ports.old)) }
+    ensures one_run { J.Journal.is_clean keeping.new.journal → AreOneRun []
+        (LeavesOf keeping.new.generations.config.now (J.Journal.may_leave keeping.new.journal))
+        (went_since (Some []) (P.passed ports.new)) }
+    ensures clean { J.Journal.is_clean keeping.new.journal
+        → J.Journal.is_clean keeping.old.journal }
 {
-    if journal.crash_and_reopen(rt.alloc()).is_err() {
+    if keeping.journal.crash_and_reopen(rt.alloc()).is_err() {
         return;
     }
-    let Ok(mut server) = Server::open(rt.alloc(), lives.config) else {
+    let Ok(mut server) = Server::open(rt.alloc(), keeping.generations.config) else {
         return;
     };
-    if restore(rt.alloc(), journal, &mut server).is_err() {
+    if restore(rt.alloc(), &mut keeping.journal, &mut server).is_err() {
         return;
     }
     let mut service = Service::of(rt.alloc(), server);
-    let _ended = make_calls(rt, lives.options, &mut service, turns, ports, journal);
+    let _ended = make_calls(rt, options, &mut service, turns, ports, keeping);
 }
 
-/// A journal that has kept nothing yet, before the first life, is one run: so `live` can begin there.
+/// Before the first life, where nothing was kept or sent yet, that is one run: so `live` can begin there.
 ///
 /// The call costs nothing: it does nothing at run time.
-#[tactic(auto, using(crate::proofs::LifeLemmas::begun))]
+#[tactic(auto, using(crate::proofs::LifeLemmas::nothing_yet))]
 pub fn nothing_is_one_run()
-    ensures { (configuration : Configuration) → IsOneRun configuration [] [] }
+    ensures { (configuration : Configuration) → IsConfiguration configuration
+        → IsOneRun [] (just_begun (fresh_server configuration)) [] }
 {}

@@ -1,9 +1,11 @@
 //! The command `serve`.
-ghost use Rattle.std.specs.Prelude.{◌≡◌, ◌+◌, IsTrue};
+ghost use Rattle.std.specs.Prelude.{◌≡◌, ◌+◌, ◌⊎◌, IsTrue, OnErr, OnOk};
 ghost use Rattle.sqlite_trees.specs.View.{IsClean};
-ghost use Rattle.rad_serve.specs.Calls.{MadeCalls};
+ghost use Rattle.rad_serve.specs.Calls.{HasBegun, MadeCalls};
 ghost use Rattle.rad_serve.specs.Lives.{StaysOneRun};
-ghost use Rattle.rad_shell.specs.Serving.{Outlives, ended, port_faults};
+ghost use Rattle.rad_server.specs.Servers.{Server};
+ghost use Rattle.rad_shell.specs.Serving.{ended, port_faults};
+ghost use Rattle.rad_state.specs.Generations.{Generation, just_begun};
 ghost use Rattle.rad_state.specs.Stores.{IsOpened};
 
 use crate::given::Given;
@@ -19,10 +21,10 @@ use crate::writer::{Text, Writing, write_files, write_lines};
 use crossbeam_channel::{Receiver, bounded};
 use rad_auth::Door;
 use rad_check::push_warning;
-use rad_journal::{Journal, kept_are_restored, kept_is_enough};
-use rad_server::{fresh_are_enough, lawful_steps, runs_are_lawful, time_passes_unseen};
+use rad_journal::{Journal, JournalFault, kept_are_restored, kept_is_enough};
+use rad_server::{Server, fresh_are_enough, lawful_steps, runs_are_lawful, time_passes_unseen};
 use rad_shell::{Gate, OpenGate, Ports, ServeFault, Served, Service, Turns, Unwatched, Watch};
-use rad_state::open_files;
+use rad_state::{Generations, Keeping, open_files};
 use rad_text::lines::divide;
 use rad_watch::Watcher;
 use rand_chacha::ChaCha20Rng;
@@ -39,6 +41,9 @@ use std::{mem, thread};
 
 /// How many texts may wait for a thread that writes them.
 const TEXTS_MAX: usize = 4;
+
+/// How many turns a call makes: between two of them a generation may begin. A turn waits for at most a second.
+const CALL_TURNS: u32 = 32;
 
 /// Answers what comes to two UDP ports, in so many turns or on and on, and prints what they came to. Nothing outlives the process.
 ///
@@ -121,10 +126,11 @@ fn serve_over<
 fn serve_life<
     R: Files + Net + Clock + Print + Eprint + Threads + Wait + Sync + AllocGlobal,
     J: Journal + Drop + Send,
+    K: Generations<J> + Drop + Send,
 >(
     rt: &R,
     options: &Options,
-    life: Life<J>,
+    life: Life<K, J>,
     text: &[u8],
     warnings: &mut String,
 ) -> Result<(), ServeError> {
@@ -160,16 +166,16 @@ fn head_of(
     Ok(Some(head))
 }
 
-fn serve_unwatched<R: Net + Clock + Print + Threads + Wait + Sync + AllocGlobal, J: Journal + Drop>(
-    rt: &R,
-    options: &Options,
-    life: Life<J>,
-) -> Result<(), ServeError> {
+fn serve_unwatched<
+    R: Net + Clock + Print + Threads + Wait + Sync + AllocGlobal,
+    J: Journal + Drop,
+    K: Generations<J> + Drop,
+>(rt: &R, options: &Options, life: Life<K, J>) -> Result<(), ServeError> {
     let Life {
         mut service,
         mut random,
         moments,
-        mut journal,
+        mut keeping,
     } = life;
     let mut turns = Turns::open(rt.alloc(), &mut random, &OpenGate, Unwatched)?;
     let mut ports = listen(rt, options, moments)?;
@@ -179,17 +185,18 @@ fn serve_unwatched<R: Net + Clock + Print + Threads + Wait + Sync + AllocGlobal,
         &mut service,
         &mut turns,
         &mut ports,
-        &mut journal,
+        &mut keeping,
     )
 }
 
 fn serve_reporting<
     R: Files + Net + Clock + Print + Eprint + Threads + Wait + Sync + AllocGlobal,
     J: Journal + Drop + Send,
+    K: Generations<J> + Drop + Send,
 >(
     rt: &R,
     options: &Options,
-    life: Life<J>,
+    life: Life<K, J>,
     head: Option<Vec<u8>>,
     warnings: &mut String,
 ) -> Result<(), ServeError> {
@@ -219,9 +226,10 @@ fn serve_reporting<
 fn serve_reported<
     R: Files + Net + Clock + Print + Eprint + Threads + Wait + Sync + AllocGlobal,
     J: Journal + Drop + Send,
+    K: Generations<J> + Drop + Send,
 >(
     rt: &R,
-    life: Life<J>,
+    life: Life<K, J>,
     reporter: Reporter<R>,
     writing: Writing,
     warnings: &mut String,
@@ -230,7 +238,7 @@ fn serve_reported<
         mut service,
         mut random,
         moments,
-        journal,
+        keeping,
     } = life;
     let options = writing.options;
     let turns = Turns::open(rt.alloc(), &mut random, &OpenGate, reporter)?;
@@ -249,7 +257,7 @@ fn serve_reported<
         turns,
         ports,
     };
-    serve_beside(rt, rt, serving, journal, writing)
+    serve_beside(rt, rt, serving, keeping, writing)
 }
 
 // What serves, on a thread of its own. At its end the reporter is dropped, which ends those who write.
@@ -262,15 +270,19 @@ struct Serving<'s, 'c, R> {
 }
 
 impl<'s, 'c, R: Clock + Print + Threads + Wait + Sync + AllocGlobal> Serving<'s, 'c, R> {
-    fn run<J: Journal + Drop>(self, rt: &R, journal: J) -> Result<(), ServeError> {
+    fn run<J: Journal + Drop, K: Generations<J> + Drop>(
+        self,
+        rt: &R,
+        keeping: Keeping<K, J>,
+    ) -> Result<(), ServeError> {
         let Serving {
             options,
             service,
             mut turns,
             mut ports,
         } = self;
-        let mut journal = journal;
-        let served = serve_turns(rt, options, service, &mut turns, &mut ports, &mut journal);
+        let mut keeping = keeping;
+        let served = serve_turns(rt, options, service, &mut turns, &mut ports, &mut keeping);
         turns.watch().finish(service.server());
         served
     }
@@ -282,7 +294,14 @@ fn serve_beside<
     R: Clock + Print + Eprint + Threads + Wait + Sync + AllocGlobal,
     F: Files + Wait + AllocGlobal,
     J: Journal + Drop + Send,
->(rt: &R, system: &F, serving: Serving<R>, journal: J, writing: Writing) -> Result<(), ServeError> {
+    K: Generations<J> + Drop + Send,
+>(
+    rt: &R,
+    system: &F,
+    serving: Serving<R>,
+    keeping: Keeping<K, J>,
+    writing: Writing,
+) -> Result<(), ServeError> {
     let Writing {
         lines,
         files,
@@ -304,7 +323,7 @@ fn serve_beside<
             lines: &warned,
             progress,
         };
-        match start(scope, rt, serving, journal, &mut files, warner) {
+        match start(scope, rt, serving, keeping, &mut files, warner) {
             Started::Beside(server) => {
                 if let Some(files) = &files {
                     write_files(system, files, &options.reports, config, warner);
@@ -334,15 +353,16 @@ fn start<
     E,
     R: Clock + Print + Threads + Wait + Sync + AllocGlobal + 's,
     J: Journal + Drop + Send + 's,
+    K: Generations<J> + Drop + Send + 's,
 >(
     scope: &Scope<'s, E>,
     rt: &'s R,
     serving: Serving<'s, 'c, R>,
-    journal: J,
+    keeping: Keeping<K, J>,
     files: &mut Option<Receiver<Text>>,
     warner: Warner,
 ) -> Started {
-    match scope.spawn(move || serving.run(rt, journal)) {
+    match scope.spawn(move || serving.run(rt, keeping)) {
         Ok(server) => Started::Beside(server),
         Err(error) => {
             drop(files.take());
@@ -372,6 +392,7 @@ fn serve_turns<
     R: Print + Threads + Wait + Sync,
     P: Ports,
     J: Journal,
+    K: Generations<J>,
     D: Rng,
     G: Gate + Sync,
     W: Watch + Drop,
@@ -381,21 +402,22 @@ fn serve_turns<
     service: &mut Service,
     turns: &mut Turns<D, G, W>,
     ports: &mut P,
-    journal: &mut J,
+    keeping: &mut Keeping<K, J>,
 ) -> Result<(), ServeError> {
-    let served = make_calls(rt, options, service, turns, ports, journal)?;
+    let served = make_calls(rt, options, service, turns, ports, keeping)?;
     let _ = println!(rt; "{served}");
     Ok(())
 }
 
-/// Calls of `Turns::run_keeping` follow one another, on the same service; if the number of turns is given, the first call makes them all.
+/// Calls of `Turns::run_keeping` follow one another, on the same service, and between two of them a new generation begins where one is due.
 ///
-/// A call counts turns in 32 bits, which last 50 days at 1,000 a second. Where the server was restored from what a journal kept,
-/// whatever a crash leaves is one run of the one-thread server, and each reply that ever went is in it.
+/// If the number of turns is given, the first call makes them all. Where the server was restored from what a generation keeps, whatever a
+/// crash leaves is one run, and each reply that ever went is in it.
 pub(crate) fn make_calls<
     R: Threads + Wait + Sync,
     P: Ports,
     J: Journal,
+    K: Generations<J>,
     D: Rng,
     G: Gate + Sync,
     W: Watch + Drop,
@@ -405,7 +427,7 @@ pub(crate) fn make_calls<
     service: &mut Service,
     turns: &mut Turns<D, G, W>,
     ports: &mut P,
-    journal: &mut J,
+    keeping: &mut Keeping<K, J>,
 ) -> Result<Served, ServeFault>
     ensures called { (made : MadeCalls J.keeps
         (record {
@@ -418,13 +440,16 @@ pub(crate) fn make_calls<
           server = service.new;
           random = D.stream turns.new.random.now;
           passed = P.passed ports.new;
-        })) × (J.is_clean journal.new → J.is_open journal.old → Outlives (J.kept journal.old)
-        made.tally (ended result) (J.kept journal.new) (J.may_leave journal.new)) }
+        })) × (IsTrue J.keeps → K.is_clean keeping.new.generations → J.is_clean keeping.new.journal
+        → J.is_open keeping.old.journal → (base : Server)
+        → K.has_base keeping.old.generations keeping.old.journal base
+        → service.old.configuration ≡ base.configuration
+        → StaysOneRun base (J.kept keeping.old.journal) service.old made.tally K.is_alone
+        (P.passed ports.old) (P.passed ports.new)
+        (K.may_leave keeping.new.generations keeping.new.journal)) }
     ensures reported { P.reported ports.new ≡ P.reported ports.old + port_faults result }
-    ensures clean { J.is_clean journal.new → J.is_clean journal.old }
-    ensures lives { J.is_clean journal.new → J.is_open journal.old → IsTrue J.keeps
-        → StaysOneRun service.old (J.kept journal.old) (P.passed ports.old) (P.passed ports.new)
-        (J.may_leave journal.new) }
+    ensures back { K.reaches_back
+        → J.is_clean keeping.new.journal → J.is_clean keeping.old.journal }
 {
     service.server().state_is_lawful();
     fresh_are_enough();
@@ -433,17 +458,53 @@ pub(crate) fn make_calls<
     kept_are_restored();
     time_passes_unseen();
     kept_is_enough();
-    let rounds = options.rounds.unwrap_or(u32::MAX);
+    let rounds = options.rounds.unwrap_or(CALL_TURNS);
     let workers = options.workers.count();
     let mut served = Served::nothing();
     for _ in rt.forever() {
+        let journal = &mut keeping.journal;
         let made = turns.run_keeping(rt, service, ports, journal, rounds, workers)?;
         served.add(&made);
         if options.rounds.is_some() {
             return Ok(served);
         }
+        if let Err(fault) = begin_if_due(service.alloc(), keeping, service.server()) {
+            return Err(ServeFault::Journal(fault));
+        }
     }
     Ok(served)
+}
+
+// Begins a generation at the server, if one is due and anything is kept at all.
+fn begin_if_due<J: Journal, K: Generations<J>>(
+    alloc: Global,
+    keeping: &mut Keeping<K, J>,
+    server: &Server,
+) -> Result<(), JournalFault>
+    ensures clean { K.is_clean keeping.new.generations → K.is_clean keeping.old.generations }
+    ensures back { K.reaches_back
+        → J.is_clean keeping.new.journal → J.is_clean keeping.old.journal }
+    ensures begun { OnOk result ((keeping.new ≡ keeping.old) ⊎ ((K.is_alone → ⊥)
+        × (K.is_clean keeping.new.generations → J.is_clean keeping.new.journal
+        → HasBegun (J.kept keeping.new.journal) (J.is_open keeping.new.journal)
+        (K.has_base keeping.new.generations keeping.new.journal server.now)))) }
+    ensures same { OnErr result (keeping.new.journal ≡ keeping.old.journal) }
+    ensures crash { OnErr result (K.is_clean keeping.new.generations
+        → J.is_clean keeping.new.journal
+        → (base : Server) → K.has_base keeping.old.generations keeping.old.journal base
+        → (left : Generation) → K.may_leave keeping.new.generations keeping.new.journal left
+        → ((left.base ≡ base) × J.may_leave keeping.old.journal left.entries)
+        ⊎ ((K.is_alone → ⊥) × (left ≡ just_begun server.now))) }
+    ensures keeps { OnErr result (IsTrue J.keeps) }
+{
+    let Keeping {
+        generations,
+        journal,
+    } = keeping;
+    if !journal.keeps() || !generations.is_due(journal, server.clock()) {
+        return Ok(());
+    }
+    generations.begin(alloc, journal, server)
 }
 
 fn print_listening<R: Print, C: Clock>(rt: &R, options: &Options, ports: &UdpPorts<C>) {

@@ -1,5 +1,6 @@
 pub mod Faults
 pub mod Fits
+pub mod Generations
 pub mod Metas
 pub mod Moments
 pub mod Stores

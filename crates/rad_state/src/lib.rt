@@ -8,6 +8,7 @@
 #![tactic(auto)]
 
 mod beginning;
+mod generations;
 mod meta;
 mod meta_table;
 mod moments;
@@ -16,6 +17,7 @@ mod opening;
 mod state;
 
 pub use beginning::begin;
+pub use generations::{Generations, Keeping, OneGeneration};
 pub use meta::{FORMAT, Meta, RULES};
 pub use meta_table::{read_meta, write_meta};
 pub use moments::{Clocks, Last, next_moment, read_last};

@@ -13,6 +13,7 @@ use rad_config::Config;
 use rad_journal::{JournalFault, Reopen, StoreJournal};
 use rad_serve::{Lives, Options, live, nothing_is_one_run};
 use rad_shell::{Datagram, Gate, MemoryPorts, OpenGate, Passed, Ports, Turns, Unwatched, Watch};
+use rad_state::{Keeping, OneGeneration};
 use rand_chacha::ChaCha20Rng;
 use rand_core::{Rng, SeedableRng};
 use sqlite_trees::memory::MemStore;
@@ -58,13 +59,16 @@ fn is_right<R: Threads + Wait + Sync + AllocGlobal>(rt: &R, config: &Config) -> 
     log_in(alloc, &mut ports, 1, 0).ok()?;
     log_in(alloc, &mut ports, 2, 0).ok()?;
     log_in(alloc, &mut ports, 2, 1).ok()?;
-    let mut journal = begun(alloc).ok()?;
+    let mut keeping = Keeping {
+        generations: OneGeneration { config },
+        journal: begun(alloc).ok()?,
+    };
     let mut random = ChaCha20Rng::from_seed([7; 32]);
     let mut turns = Turns::open(alloc, &mut random, &OpenGate, Unwatched).ok()?;
     if !is_unused(&ports) {
         return None;
     }
-    live_thrice(rt, config, &options, &mut turns, &mut ports, &mut journal);
+    live_thrice(rt, &options, &mut turns, &mut ports, &mut keeping);
     Some(ports.turns() == 3 && are_replies(&ports))
 }
 
@@ -116,24 +120,20 @@ fn live_thrice<
     W: Watch + Drop,
 >(
     rt: &R,
-    config: &Config,
     options: &Options,
     turns: &mut Turns<D, G, W>,
     ports: &mut P,
-    journal: &mut J,
+    keeping: &mut Keeping<OneGeneration, J>,
 )
     requires keeps { IsTrue J.Journal.keeps }
-    requires unkept { (left : List Kept) → J.Journal.may_leave journal.old left → left ≡ [] }
+    requires unkept { (left : List Kept) → J.Journal.may_leave keeping.old.journal left
+        → left ≡ [] }
     requires unsent { went_since (Some []) (P.passed ports.old) ≡ [] }
 {
     nothing_is_one_run();
-    let two = Lives {
-        config,
-        options,
-        count: 2,
-    };
-    live(rt, two, turns, ports, journal);
-    live(rt, Lives { count: 1, ..two }, turns, ports, journal);
+    let _clients = keeping.generations.config.clients();
+    live(rt, Lives { options, count: 2 }, turns, ports, keeping);
+    live(rt, Lives { options, count: 1 }, turns, ports, keeping);
 }
 
 // Whether nothing has passed ports yet, as far as they can tell. So nothing was sent.

@@ -10,7 +10,7 @@ use Rattle.rad_journal.specs.Stores.{kept_in}
 use Rattle.rad_journal.specs.declared.kept.Kept.{Kept}
 use Rattle.rad_state.specs.Moments.{last_of, moment_of}
 use Rattle.rad_state.specs.declared.moments.Last.{Last}
-use Rattle.rad_serve.specs.Lives.{opened}
+use Rattle.rad_state.specs.Generations.{fresh_server}
 use Rattle.rad_serve.proofs.life.over.Goals as goal
 
 -- the entries are those of the file, and the server that is stepped through them has its opening
@@ -21,7 +21,7 @@ returns-clause-restored g c clean =
     let found : IsClean (S.view c.in_ok-state.state.store) = omega (arith, c.in_ok-journal.ensures.clean, read) in
     let same : kept_in (S.view c.in_ok-journal.journal.store) ≡ kept_in (S.view c.args.store) =
     c.in_ok-journal.ensures.kept read ∙ ap (λ (t : Trees). entries_of (t table)) (c.in_ok-state.ensures.kept found) in
-    let server : c.in_ok-server.server ≡ opened c.args.config.now =
+    let server : c.in_ok-server.server ≡ fresh_server c.args.config.now =
     ap (λ (it : Configuration). record { configuration = it; state = c.in_ok-server.server.state }) c.in_ok-server.ensures.configuration
     ∙ ap (λ (it : State). record { configuration = c.args.config.now; state = it }) c.in_ok-server.ensures.state in
     subst (λ (it : Server). IsRestored it (kept_in (S.view c.args.store)) c.of.result) server
