@@ -4,6 +4,7 @@
 //! lines stay the same. Without an argument all runs are made, with an argument the one of that name.
 #![tactic(auto)]
 
+mod carrying;
 mod clients;
 mod desks;
 mod journals;
@@ -15,6 +16,7 @@ mod requests;
 mod rounds;
 mod rows;
 mod servers;
+mod snapshots;
 mod states;
 mod stores;
 mod tables;
@@ -53,6 +55,10 @@ enum Run {
     Journal(journals::Call),
     /// A call of `rad_state`.
     State(states::Call),
+    /// A call of `rad_carry`.
+    Carry(carrying::Call),
+    /// A call of `rad_snapshot`.
+    Snapshot(snapshots::Call),
 }
 
 /// The runs, each with its name: the call, and then what it is made on. A call `without memory` makes no allocation.
@@ -294,6 +300,10 @@ const RUNS: &[(&str, Run)] = &[
     ("State::open", Run::State(states::Call::Open)),
     ("State::into_journal", Run::State(states::Call::IntoJournal)),
     ("begin", Run::State(states::Call::Begin)),
+    ("carry_by", Run::Carry(carrying::Call::CarryBy)),
+    ("network_places", Run::Carry(carrying::Call::NetworkPlaces)),
+    ("write of a snapshot", Run::Snapshot(snapshots::Call::Write)),
+    ("read of a snapshot", Run::Snapshot(snapshots::Call::Read)),
 ];
 
 fn judge<R: Threads + Wait + Sync + AllocGlobal>(rt: &R, run: Run) -> Verdict {
@@ -309,6 +319,8 @@ fn judge<R: Threads + Wait + Sync + AllocGlobal>(rt: &R, run: Run) -> Verdict {
         Run::Replay(call) => replays::judge_call(rt.alloc(), call),
         Run::Journal(call) => journals::judge_call(rt.alloc(), call),
         Run::State(call) => states::judge_call(rt.alloc(), call),
+        Run::Carry(call) => carrying::judge_call(rt.alloc(), call),
+        Run::Snapshot(call) => snapshots::judge_call(rt.alloc(), call),
     }
 }
 

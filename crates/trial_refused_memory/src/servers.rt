@@ -10,9 +10,10 @@ use rad_config::Config;
 use rad_packet::attribute::USER_NAME;
 use rad_packet::code::ACCESS_ACCEPT;
 use rad_packet::{Body, Octets};
-use rad_server::{Answer, Book, Entry, Server};
+use rad_pool::{Phase, Session};
+use rad_server::{Answer, Book, Entry, Server, StateRow};
 use std::alloc::{AllocError, Global};
-use test_common::{CAMPUS, CLIENT, DRAW};
+use test_common::{CAMPUS, CLIENT, DRAW, SECOND_CLIENT};
 
 #[derive(Clone, Copy)]
 pub(crate) enum Call {
@@ -128,6 +129,33 @@ fn answers_each(server: &mut Server, sent: Sent) -> bool {
         }
     }
     true
+}
+
+/// A server with a session of each client, a challenge and two kept replies.
+pub(crate) fn busy<'c>(alloc: Global, config: &'c Config) -> Option<Server<'c>> {
+    let mut server = Server::open(alloc, config).ok()?;
+    let row = session_of_second(config);
+    if answers(&mut server, NEMO, 0)
+        && answers(&mut server, KAY, 0)
+        && server.restore(StateRow::Session(row)).is_ok()
+    {
+        return Some(server);
+    }
+    None
+}
+
+// The session of bruce, whom the second client asked about.
+fn session_of_second(config: &Config) -> Session {
+    Session {
+        number: 70,
+        client: 1,
+        source: SECOND_CLIENT,
+        user: config.user(b"bruce").unwrap_or(0),
+        address: Some(0x0A00_0201),
+        phase: Phase::Active,
+        made: 0,
+        seen: 0,
+    }
 }
 
 // None: the datagram isn't admitted.
