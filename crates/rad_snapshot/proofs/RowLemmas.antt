@@ -16,7 +16,7 @@ use Rattle.rad_server.specs.declared.state_row.StateRow.TheVariants as rows
 use Rattle.sqlite_value.specs.declared.value.Value.TheVariants.{Blob}
 use Rattle.sqlite_value.specs.Order.{Row, column}
 use Rattle.rad_snapshot.specs.Restoring.{HasRow, IsChallengeRow, IsOf, IsReplyRow, IsRowAt, IsSessionRow, item_of}
-use Rattle.rad_snapshot.specs.Rows.{IsWithin, challenge_of, challenge_row, number_if_any, number_or_null, phase_number, phase_of, reply_of, reply_row, row_of, rows_from, session_of, session_row}
+use Rattle.rad_snapshot.specs.Rows.{at_reply_attributes, IsWithin, challenge_of, challenge_row, number_if_any, number_or_null, phase_number, phase_of, reply_of, reply_row, row_of, rows_from, session_of, session_row}
 use Rattle.rad_snapshot.specs.declared.snapshot_table.SnapshotTable.{SnapshotTable}
 use Rattle.rad_snapshot.specs.declared.snapshot_table.SnapshotTable.TheVariants as tables
 
@@ -212,10 +212,10 @@ row_unlike table place row wanted item of again differs at =
     differs (at.is ∙ ap (λ (x : StateRow). row_of place x) (sym same) ∙ sym again)
 
 -- octets that are no attributes are in no kept reply's row
-pub no_body : (row : Row) (octets : List ℕ) → column row 8 ≡ Blob octets → is_some (attributes_of octets) ≡ false → IsReplyRow row → ⊥
+pub no_body : (row : Row) (octets : List ℕ) → column row at_reply_attributes ≡ Blob octets → is_some (attributes_of octets) ≡ false → IsReplyRow row → ⊥
 no_body row octets at none reply =
     let list = reply.1.body.attributes in
-    let there : column row 8 ≡ Blob (attributes_octets list) = ap (λ (r : Row). column r 8) reply.3 in
+    let there : column row at_reply_attributes ≡ Blob (attributes_octets list) = ap (λ (r : Row). column r at_reply_attributes) reply.3 in
     let same : octets ≡ attributes_octets list = blob octets (attributes_octets list) (sym at ∙ there) in
     let some : is_some (attributes_of octets) ≡ true = ap (λ (l : List ℕ). is_some (attributes_of l)) same ∙ ap (λ (o : Option (List Attribute)). is_some o) (of-spelled list) in
     absurd (cc (none, some))

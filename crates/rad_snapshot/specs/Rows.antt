@@ -57,17 +57,42 @@ session_row place session =
     ∷ Int (pos session.seen)
     ∷ []
 
+-- the columns of a session's row, after its rowid
+abbrev pub at_session_number : ℕ
+at_session_number = 1
+
+abbrev pub at_session_client : ℕ
+at_session_client = 2
+
+abbrev pub at_session_source : ℕ
+at_session_source = 3
+
+abbrev pub at_session_user : ℕ
+at_session_user = 4
+
+abbrev pub at_session_address : ℕ
+at_session_address = 5
+
+abbrev pub at_session_phase : ℕ
+at_session_phase = 6
+
+abbrev pub at_session_made : ℕ
+at_session_made = 7
+
+abbrev pub at_session_seen : ℕ
+at_session_seen = 8
+
 -- the session of a row that is one's
 abbrev pub session_of : Row → Session
 session_of row = record {
-  number = number_of (column row 1);
-  client = number_of (column row 2);
-  source = number_of (column row 3);
-  user = number_of (column row 4);
-  address = number_if_any (column row 5);
-  phase = phase_of (number_of (column row 6));
-  made = number_of (column row 7);
-  seen = number_of (column row 8);
+  number = number_of (column row at_session_number);
+  client = number_of (column row at_session_client);
+  source = number_of (column row at_session_source);
+  user = number_of (column row at_session_user);
+  address = number_if_any (column row at_session_address);
+  phase = phase_of (number_of (column row at_session_phase));
+  made = number_of (column row at_session_made);
+  seen = number_of (column row at_session_seen);
 }
 
 -- the numbers of a session are such as one in memory has
@@ -94,19 +119,47 @@ reply_row place reply =
     ∷ Int (pos reply.made)
     ∷ []
 
+-- the columns of a kept reply's row, after its rowid
+abbrev pub at_reply_client : ℕ
+at_reply_client = 1
+
+abbrev pub at_reply_source : ℕ
+at_reply_source = 2
+
+abbrev pub at_reply_port : ℕ
+at_reply_port = 3
+
+abbrev pub at_reply_door : ℕ
+at_reply_door = 4
+
+abbrev pub at_reply_id : ℕ
+at_reply_id = 5
+
+abbrev pub at_reply_request : ℕ
+at_reply_request = 6
+
+abbrev pub at_reply_code : ℕ
+at_reply_code = 7
+
+abbrev pub at_reply_attributes : ℕ
+at_reply_attributes = 8
+
+abbrev pub at_reply_made : ℕ
+at_reply_made = 9
+
 -- the kept reply of a row that is one's
 abbrev pub reply_of : Row → Kept
 reply_of row = record {
-  client = number_if_any (column row 1);
+  client = number_if_any (column row at_reply_client);
   key = record {
-    source = number_of (column row 2);
-    port = number_of (column row 3);
-    door = door_of (number_of (column row 4));
-    id = number_of (column row 5);
+    source = number_of (column row at_reply_source);
+    port = number_of (column row at_reply_port);
+    door = door_of (number_of (column row at_reply_door));
+    id = number_of (column row at_reply_id);
   };
-  octets = octets_of (column row 6);
-  body = record { code = number_of (column row 7); attributes = attributes_in (octets_of (column row 8)) };
-  made = number_of (column row 9);
+  octets = octets_of (column row at_reply_request);
+  body = record { code = number_of (column row at_reply_code); attributes = attributes_in (octets_of (column row at_reply_attributes)) };
+  made = number_of (column row at_reply_made);
 }
 
 -- the numbers of a kept reply are such as one in memory has
@@ -130,14 +183,30 @@ challenge_row place challenge =
     ∷ Int (pos challenge.made)
     ∷ []
 
+-- the columns of a challenge's row, after its rowid
+abbrev pub at_challenge_number : ℕ
+at_challenge_number = 1
+
+abbrev pub at_challenge_draw : ℕ
+at_challenge_draw = 2
+
+abbrev pub at_challenge_client : ℕ
+at_challenge_client = 3
+
+abbrev pub at_challenge_user : ℕ
+at_challenge_user = 4
+
+abbrev pub at_challenge_made : ℕ
+at_challenge_made = 5
+
 -- the challenge of a row that is one's
 abbrev pub challenge_of : Row → Challenge
 challenge_of row = record {
-  number = number_of (column row 1);
-  draw = octets_of (column row 2);
-  client = number_of (column row 3);
-  user = number_of (column row 4);
-  made = number_of (column row 5);
+  number = number_of (column row at_challenge_number);
+  draw = octets_of (column row at_challenge_draw);
+  client = number_of (column row at_challenge_client);
+  user = number_of (column row at_challenge_user);
+  made = number_of (column row at_challenge_made);
 }
 
 -- the numbers and the draw of a challenge are such as one in memory has
