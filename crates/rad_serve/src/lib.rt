@@ -9,6 +9,7 @@
 #![tactic(auto)]
 
 mod asking;
+mod calls;
 mod failure;
 mod given;
 mod input;

@@ -5,8 +5,8 @@ ghost use Rattle.rad_config.specs.Ranges.{IsConfiguration};
 ghost use Rattle.rad_serve.specs.Lives.{AreOneRun, IsOneRun, went_since};
 ghost use Rattle.rad_state.specs.Generations.{LeavesOf, fresh_server, just_begun};
 
+use crate::calls::make_calls;
 use crate::options::Options;
-use crate::serving::make_calls;
 use rad_journal::{Reopen, restore};
 use rad_server::Server;
 use rad_shell::{Gate, Ports, Service, Turns, Watch};

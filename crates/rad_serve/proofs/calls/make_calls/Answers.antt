@@ -13,7 +13,7 @@ use Rattle.rad_state.specs.Generations.{just_begun}
 use Rattle.rad_serve.specs.Lives.{IsOneRun, StaysOneRun}
 use Rattle.rad_serve.proofs.CallLemmas.{none_begun, none_called, one_more_so, turned_ok}
 use Rattle.rad_serve.proofs.LifeLemmas.{AreLaws, IsHere, anew_leaves, call_goes_on, call_leaves, here_anew, here_first, here_leaves}
-use Rattle.rad_serve.proofs.serving.make_calls.Goals as goal
+use Rattle.rad_serve.proofs.calls.make_calls.Goals as goal
 
 pub loop-init : goal.loop-init
 loop-init g c =

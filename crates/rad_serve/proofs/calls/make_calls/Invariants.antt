@@ -6,7 +6,7 @@ use Rattle.rad_shell.specs.Passages.{Went}
 use Rattle.rad_serve.specs.Calls.{MadeCalls}
 use Rattle.rad_serve.specs.Lives.{IsOneRun}
 use Rattle.rad_serve.proofs.LifeLemmas.{IsHere}
-use Rattle.rad_serve.proofs.serving.make_calls.Given as goal
+use Rattle.rad_serve.proofs.calls.make_calls.Given as goal
 
 abbrev pub invariant-loop : goal.invariant-loop
 invariant-loop g l =
