@@ -3,6 +3,7 @@
 -- addresses have in common (RFC 4632, section 3.1). A secret is a list of octets, which are numbers below 256.
 use Rattle.std.specs.Prelude.{ℕ, ◌-◌, ◌/◌, ◌%◌, ◌^◌, ◌≤◌, ◌==◌, ◌&&◌, ◌||◌, nat_le, not, Bool, false, List, [], ◌∷◌, ◌++◌, length, position, slice_index_or, Option}
 use Rattle.std.specs.List.{list_all, list_any}
+use Rattle.rad_auth.specs.declared.network.Network.{Network}
 
 -- ---- clients
 
@@ -43,6 +44,10 @@ address_bits = 32
 -- the number that an address's leading bits make, as many as the prefix says
 abbrev pub leading_bits : ℕ → ℕ → ℕ
 leading_bits address prefix = address / 2 ^ (address_bits - prefix)
+
+-- the network of a client
+abbrev pub network_of : Client → Network
+network_of client = record { address = client.address; prefix = client.prefix }
 
 -- whether an address and a prefix say a network: the prefix is at most 32, and no bit of the address past it is set
 abbrev pub network_fits : ℕ → ℕ → Bool

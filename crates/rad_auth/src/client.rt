@@ -1,7 +1,7 @@
 //! The clients that share a secret with the server.
 ghost use Rattle.std.specs.Prelude.{◌≡◌, ◌↔◌, IsTrue};
 
-use crate::network::{add_prefix, network_key};
+use crate::network::{Network, add_prefix, network_key};
 use crate::secret::Secret;
 use indexmap::IndexSet;
 use std::alloc::Global;
@@ -46,7 +46,7 @@ impl Model for Clients {
 
 impl Clients {
     ghost use Rattle.std.specs.Prelude.{◌≡◌, ◌<◌, ◌≤◌, ◌==◌, ◌↔◌, [], length, OnOk, OnErr, IsErrOf, IsTrue, IfSome};
-    ghost use Rattle.rad_auth.specs.Clients.{Client, IsSecret, clients_max, client_place, client_at, has_network, network_fits, secret_at, with_client};
+    ghost use Rattle.rad_auth.specs.Clients.{Client, IsSecret, clients_max, client_place, client_at, has_network, network_fits, network_of, secret_at, with_client};
     ghost use Rattle.rad_auth.specs.declared.client.ClientFault.TheVariants.{Doubled};
 
     /// An empty list of clients.
@@ -143,6 +143,18 @@ impl Clients {
             }
         }
         None
+    }
+
+    /// The network of the client at this place.
+    pub fn network(&self, place: u32) -> Network
+        requires { place < length self.now }
+        ensures { result ≡ network_of (client_at self.now place) }
+    {
+        let row = &self.rows[place as usize];
+        Network {
+            address: row.address,
+            prefix: row.prefix,
+        }
     }
 
     /// The secret of the client at this place.

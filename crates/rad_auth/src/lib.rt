@@ -36,7 +36,7 @@ pub use chap::{CHAP_VALUE_LEN, chap_response, chap_right};
 pub use client::{CLIENTS_MAX, ClientFault, Clients};
 pub use discard::Discard;
 pub use job::Job;
-pub use network::{PREFIX_MAX, network_fits};
+pub use network::{Network, PREFIX_MAX, network_fits};
 pub use password::{PASSWORD_MAX, hide, password_right, reveal, value_fits};
 pub use password_check::{ChapResponse, HiddenPassword, PasswordCheck};
 pub use password_lanes::passwords_right8;

@@ -9,6 +9,15 @@ pub const PREFIX_MAX: u8 = 32;
 // How many addresses there are.
 const ADDRESSES: u64 = 1 << PREFIX_MAX;
 
+/// The addresses that begin as one does, with as many bits as a prefix says.
+///
+/// An address has its most significant octet first. Source: RFC 4632, section 3.1.
+#[derive(Clone, Copy, Debug, PartialEq, Eq)]
+pub struct Network {
+    pub address: u32,
+    pub prefix: u8,
+}
+
 /// Whether an address and a prefix say a network: the prefix is at most `PREFIX_MAX`, and no bit of the address past it is set.
 ///
 /// Source: RFC 4632, section 3.1.

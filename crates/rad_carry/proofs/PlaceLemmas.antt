@@ -4,12 +4,12 @@ use Rattle.std.specs.Prelude.{option_and_then, option_map, position, slice_get}
 use Rattle.std.proofs.lemmas.Bool.{eq-eqb}
 use Rattle.std.proofs.lemmas.List.{length-map}
 use Rattle.std.proofs.lemmas.Option.{slice_get-map}
-use Rattle.rad_auth.specs.Clients.{Client}
+use Rattle.rad_auth.specs.Clients.{Client, network_of}
 use Rattle.rad_config.specs.Configurations.{user_place}
 use Rattle.rad_config.specs.Ranges.{AreNamedApart}
 use Rattle.rad_config.specs.declared.user.User.{User}
-use Rattle.rad_carry.specs.Places.{client_places, is_network, moved_place, network_of, network_place, network_places_from, same_network, user_places}
-use Rattle.rad_carry.specs.declared.network.Network.{Network}
+use Rattle.rad_carry.specs.Places.{client_places, is_network, moved_place, network_place, network_places_from, same_network, user_places}
+use Rattle.rad_auth.specs.declared.network.Network.{Network}
 
 -- what is at a place that is there
 got : {X : Type 0} (xs : List X) (k : ℕ) → k < length xs → (x : X) × (slice_get xs k ≡ Some x)

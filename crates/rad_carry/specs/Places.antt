@@ -1,10 +1,10 @@
 -- Where the clients and the users of one configuration are in another: clients by their networks, users by their names. Places count
 -- from 0.
 use Rattle.std.specs.Prelude.{ℕ, ◌+◌, ◌==◌, ◌&&◌, Bool, false, if◌then◌else◌, List, [], ◌∷◌, map, position, slice_get, Option, Some, None, option_and_then}
-use Rattle.rad_auth.specs.Clients.{Client}
+use Rattle.rad_auth.specs.Clients.{Client, network_of}
+use Rattle.rad_auth.specs.declared.network.Network.{Network}
 use Rattle.rad_config.specs.Configurations.{Configuration, user_place}
 use Rattle.rad_config.specs.declared.user.User.{User}
-use Rattle.rad_carry.specs.declared.network.Network.{Network}
 
 -- for each client and each user of the old configuration its place in the new one; None where it is gone
 pub record Places : Type 0 where
@@ -22,10 +22,6 @@ abbrev pub user_places : List User → List User → List (Option ℕ)
 user_places old new = map (λ user. user_place new user.name) old
 
 -- ---- clients
-
--- the network of a client
-abbrev pub network_of : Client → Network
-network_of client = record { address = client.address; prefix = client.prefix }
 
 abbrev pub same_network : Network → Network → Bool
 same_network network other = (network.address == other.address) && (network.prefix == other.prefix)

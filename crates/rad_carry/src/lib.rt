@@ -7,12 +7,11 @@
 //! and all that the old one remembers if the configuration is the same (`carried_is_lawful`).
 #![tactic(auto)]
 
-mod carry;
+mod carrying;
 mod lawful;
 mod network;
 mod places;
 mod put;
 
-pub use carry::{Carried, carry_by};
+pub use carrying::{Carried, carry};
 pub use lawful::carried_is_lawful;
-pub use network::{Network, network_places};

@@ -1,33 +1,29 @@
-//! Networks of clients, and where they are among others.
-ghost use Rattle.std.specs.Prelude.{◌≡◌, ◌≤◌, IfOk, length, position};
-ghost use Rattle.rad_auth.specs.Clients.{clients_max};
+//! The networks of clients, and where they are among others.
+ghost use Rattle.std.specs.Prelude.{◌≡◌, ◌≤◌, IfOk, length, map, position};
+ghost use Rattle.rad_auth.specs.Clients.{clients_max, network_of};
 ghost use Rattle.rad_carry.specs.Places.{network_place, network_places, same_network};
 
+use rad_auth::{Clients, Network};
 use std::alloc::{AllocError, Global};
 
-/// The network of a client: the addresses that begin as this one does, with as many bits as the prefix says.
-///
-/// An address has its most significant octet first. Source: RFC 4632, section 3.1.
-#[derive(Clone, Copy, Debug, PartialEq, Eq)]
-pub struct Network {
-    pub address: u32,
-    pub prefix: u8,
-}
-
-impl Network {
-    // Whether the other network is the same.
-    fn is(&self, other: &Network) -> bool
-        ensures { result ≡ same_network self.now other.now }
-    {
-        self.address == other.address && self.prefix == other.prefix
+/// The networks of the clients, in their order.
+pub(crate) fn networks(alloc: Global, clients: &Clients) -> Result<Vec<Network>, AllocError>
+    ensures networks { IfOk result (λ networks. networks.items ≡ map network_of clients.now) }
+    ensures few { IfOk result (λ networks. length networks.items ≤ clients_max) }
+{
+    let count = clients.len() as u32;
+    let mut networks = Vec::with_capacity(alloc, clients.len())?;
+    for place in 0..count {
+        networks.push(clients.network(place))?;
     }
+    Ok(networks)
 }
 
 /// The new place of each of the old networks, or None where it is gone.
 ///
 /// There are at most `CLIENTS_MAX` new ones. Where they have a network more than once, its old place counts first, and then the first
 /// place that has it.
-pub fn network_places(
+pub(crate) fn network_places(
     alloc: Global,
     old: &[Network],
     new: &[Network],
@@ -48,7 +44,7 @@ fn network_place(new: &[Network], place: usize, network: &Network) -> Option<u32
     ensures { result ≡ network_place new.now place network.now }
 {
     match new.get(place) {
-        Some(other) if network.is(other) => Some(place as u32),
+        Some(other) if same_network(network, other) => Some(place as u32),
         _ => first_place(new, network),
     }
 }
@@ -59,9 +55,16 @@ fn first_place(new: &[Network], network: &Network) -> Option<u32>
     ensures { result ≡ position (same_network network.now) new.now }
 {
     for (place, other) in new.iter().enumerate() {
-        if network.is(other) {
+        if same_network(network, other) {
             return Some(place as u32);
         }
     }
     None
+}
+
+// Whether a network is the other one.
+fn same_network(network: &Network, other: &Network) -> bool
+    ensures { result ≡ same_network network.now other.now }
+{
+    network.address == other.address && network.prefix == other.prefix
 }

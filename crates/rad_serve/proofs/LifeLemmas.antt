@@ -23,7 +23,7 @@ use Rattle.rad_shell.proofs.KeepingLemmas.{all_added}
 use Rattle.rad_shell.proofs.PassageLemmas.{both_passed, none_passed}
 use Rattle.rad_serve.specs.Calls.{AreCalls, MadeCalls, cannot_begin, next_call, no_call}
 use Rattle.rad_state.specs.Generations.{Generation, fresh_server, just_begun}
-use Rattle.rad_serve.specs.Lives.{IsLeft, IsOneRun, IsReached, IsReplyIn, IsRunFrom, by_run, fresh, marked_of, went_among, went_since}
+use Rattle.rad_serve.specs.Lives.{IsLeft, IsOneRun, IsReached, IsReplyIn, IsRunFrom, LivesAreOneRun, by_carrying, by_run, fresh, marked_of, went_among, went_since}
 use Rattle.rad_serve.proofs.RepliedLemmas.{all_first, all_since, among_both, among_in, among_told, among_turn, replies_in, since_both}
 use Rattle.rad_serve.proofs.ServesLemmas.{all_counted, kept_append, marked_counted, marked_run, reply_in_counted, reply_in_first, reply_in_later, serves_append, serves_counted}
 
@@ -69,17 +69,23 @@ stands_as : (base : Server) (kept kept_now : List Kept) (sent sent_now : List We
 stands_as base kept kept_now sent sent_now server same as_well stands =
     subst (λ s. StandsAt base kept_now s server) as_well (subst (λ k. StandsAt base k sent server) same stands)
 
--- a server that was restored
-restored_stands : (base server : Server) (kept : List Kept) (sent : List Went) → server.configuration ≡ base.configuration
-    → IsLawful server.configuration server.state → IsRestored base kept server → IsRunFrom base kept sent → StandsAt base kept sent server
-restored_stands base server kept sent configured lawful restored run =
+-- a server that was restored has the state of the run
+restored_like : (base server : Server) (kept : List Kept) (sent : List Went) → IsRestored base kept server → (run : IsRunFrom base kept sent)
+    → IsLikeFromNow server.state run.state
+restored_like base server kept sent restored run =
     let marked = marked_run base.configuration base.state run.history run.marks run.state run.serves in
     let same : server.state ≡ run.state =
     one_state base.configuration base.state kept restored.history (marked_of run.history run.marks) server.state run.state
     restored.run restored.are_kept marked run.kept in
+    subst (IsLikeFromNow server.state) same (λ moment le. refl)
+
+-- a server that was restored
+restored_stands : (base server : Server) (kept : List Kept) (sent : List Went) → server.configuration ≡ base.configuration
+    → IsLawful server.configuration server.state → IsRestored base kept server → IsRunFrom base kept sent → StandsAt base kept sent server
+restored_stands base server kept sent configured lawful restored run =
     record {
       run = run;
-      like = subst (IsLikeFromNow server.state) same (λ moment le. refl);
+      like = restored_like base server kept sent restored run;
       configured = configured;
       lawful = subst (λ c. IsLawful c server.state) configured lawful;
     }
@@ -617,17 +623,21 @@ pub left_alone : (ended kept : List Kept) (tally : Tally) (alone : Type 0) (left
     → IsLeft ended kept tally alone left sent → IsOneRun ended left sent
 left_alone ended kept tally alone left sent is left_now = subst (λ list. IsOneRun list left sent) (left_now.same is) left_now.one
 
+-- a server that was just opened
+pub is_fresh : (configuration : Configuration) (first : Server) → first.configuration ≡ configuration → first.state ≡ opening configuration
+    → first ≡ fresh_server configuration
+is_fresh configuration first configured opens =
+    ap (λ (c : Configuration). record { configuration = c; state = first.state }) configured
+    ∙ ap (λ (s : State). record { configuration = configuration; state = s }) opens
+
 -- a server was restored from a fresh one
 pub restored_fresh : (configuration : Configuration) (first restored server : Server) (kept kept_now : List Kept) → first.configuration ≡ configuration
     → first.state ≡ opening configuration → IsRestored first kept restored → kept_now ≡ kept → server ≡ restored
     → IsRestored (fresh_server configuration) kept_now server
 restored_fresh configuration first restored server kept kept_now configured opens found same_kept same =
-    let is_fresh : first ≡ fresh_server configuration =
-    ap (λ (c : Configuration). record { configuration = c; state = first.state }) configured
-    ∙ ap (λ (s : State). record { configuration = configuration; state = s }) opens in
     subst (λ s. IsRestored (fresh_server configuration) kept_now s) (sym same)
     (subst (λ k. IsRestored (fresh_server configuration) k restored) (sym same_kept)
-    (subst (λ f. IsRestored f kept restored) is_fresh found))
+    (subst (λ f. IsRestored f kept restored) (is_fresh configuration first configured opens) found))
 
 -- what holds at `Ok` holds where there is no error
 pub on_ok : {A E : Type 0} (result : Result A E) (P : Type 0) → is_err result ≡ false → OnOk result P → P
@@ -645,3 +655,26 @@ nothing_yet configuration valid = record {
   run = begun (fresh_server configuration);
   among = All-nil (Contains []);
 }
+
+-- ---- the next life
+
+-- a life that goes on from a generation is one run with all that came before it
+pub lives_are_one_run : LikeAfterTime → LivesAreOneRun
+lives_are_one_run time ended left sent configuration server one valid on =
+    let before = on.before in
+    let led = on.led in
+    let then_server : Server = record { configuration = before.configuration; state = led.state } in
+    let like : IsLikeFromNow before.state one.run.state = subst (λ s. IsLikeFromNow s one.run.state) (sym led.passed)
+    (time led.state one.run.state (Some led.moment) (restored_like left.base then_server left.entries one.later led.restored one.run)) in
+    let sent_before : List Went = one.earlier ++ one.later in
+    let reached : IsReached before (ended ++ left.entries) sent_before = subst
+    (λ c. IsReached (record { configuration = c; state = before.state }) (ended ++ left.entries) sent_before)
+    (sym led.configured)
+    (by_run left.entries one.later before.state one.reached one.run like (subst (λ c. IsLawful c before.state) led.configured led.lawful)) in
+    record {
+      earlier = sent_before;
+      later = [];
+      reached = subst (λ s. IsReached s (ended ++ left.entries) sent_before) (sym on.carried) (by_carrying configuration valid reached);
+      run = begun server;
+      among = subst (λ list. All (Contains list) sent) (sym (append-nil sent_before)) one.among;
+    }

@@ -3,7 +3,7 @@
 -- Whatever a crash leaves is reached by runs of the one-thread server, each of which goes on where the one before it ended, the first from a
 -- fresh server; and each reply that ever went is the reply to an entry of one of these runs (`IsOneRun`). Order isn't claimed: the replies of
 -- a round go in order of arrival, and its entries have the order of the steps.
-use Rattle.std.specs.Prelude.{◌≡◌, ◌⊎◌, if◌then◌else◌, Bool, List, [], ◌∷◌, ◌++◌, drop, length, All, Contains, Option, None, Some}
+use Rattle.std.specs.Prelude.{◌≡◌, ◌⊎◌, ℕ, if◌then◌else◌, Bool, List, [], ◌∷◌, ◌++◌, drop, length, All, Contains, Option, None, Some}
 use Rattle.rad_auth.specs.Admission.{IsAdmitted, own_datagram}
 use Rattle.rad_auth.specs.Clients.{Client}
 use Rattle.rad_auth.specs.declared.arrival.Request.{Request}
@@ -12,13 +12,14 @@ use Rattle.rad_config.specs.Ranges.{IsConfiguration}
 use Rattle.rad_server.specs.Lawful.{IsLawful}
 use Rattle.rad_server.specs.Runs.{IsLikeFromNow, IsMarked, datagram_of_entry}
 use Rattle.rad_server.specs.Servers.{Server}
-use Rattle.rad_server.specs.States.{State}
+use Rattle.rad_server.specs.States.{State, at_moment}
 use Rattle.rad_server.specs.declared.entry.Entry.{Entry}
+use Rattle.rad_carry.specs.Carried.{carried}
 use Rattle.rad_round.specs.Rounds.{HasEntry, IsSentAs}
 use Rattle.rad_round.specs.declared.outcome.Outcome.TheVariants.{Reply}
 use Rattle.rad_journal.specs.Restores.{AreKept, IsRestored}
 use Rattle.rad_journal.specs.declared.kept.Kept.{Kept}
-use Rattle.rad_state.specs.Generations.{Generation, fresh_server}
+use Rattle.rad_state.specs.Generations.{Generation, fresh_server, just_begun}
 use Rattle.rad_shell.specs.Passages.{Empty, Fault, In, Now, Out, Passage, Went}
 use Rattle.rad_shell.specs.Serving.{Tally}
 
@@ -81,13 +82,21 @@ pub record IsRunFrom (base : Server) (entries : List Kept) (sent : List Went) : 
   pub kept : AreKept (marked_of history marks) entries
   pub replied : All (IsReplyIn base.configuration.clients history) sent
 
--- A server that can be reached, with all that was kept and sent on the way: a fresh one, or one that a run from a reached one leads to, but
--- that its state may be another which no later step can tell from that of the run.
+-- the server of a configuration that takes over what another one remembers
+abbrev pub carried_server : Configuration → Server → Server
+carried_server configuration server =
+    record { configuration = configuration; state = carried server.configuration configuration server.state }
+
+-- A server that can be reached, with all that was kept and sent on the way: a fresh one; one that a run from a reached one leads to, but
+-- that its state may be another which no later step can tell from that of the run; or one of another configuration that takes over what a
+-- reached one remembers.
 pub data IsReached : Server → List Kept → List Went → Type 0 where
   fresh : (configuration : Configuration) → IsConfiguration configuration → IsReached (fresh_server configuration) [] []
   by_run : {base : Server} {ended : List Kept} {earlier : List Went} (kept : List Kept) (sent : List Went) (state : State)
       → IsReached base ended earlier → (run : IsRunFrom base kept sent) → IsLikeFromNow state run.state → IsLawful base.configuration state
       → IsReached (record { configuration = base.configuration; state = state }) (ended ++ kept) (earlier ++ sent)
+  by_carrying : {server : Server} {ended : List Kept} {earlier : List Went} (configuration : Configuration) → IsConfiguration configuration
+      → IsReached server ended earlier → IsReached (carried_server configuration server) ended earlier
 
 -- A generation that a crash left is one run, where this was kept in generations that have ended: its base was reached, and its entries are a
 -- run from there. Each of the datagrams that were sent went on the way, or is of that run.
@@ -120,3 +129,26 @@ StaysOneRun base entries server tally alone passed passed_now may_leave =
     (ended : List Kept) (earlier : List Went) → IsRestored base entries server
     → IsOneRun ended (record { base = base; entries = entries }) earlier → (left : Generation) → may_leave left
     → IsLeft ended (ended ++ entries) tally alone left (earlier ++ went_since passed passed_now)
+
+-- ---- the next life
+
+-- a server is what a generation leads to, at a moment up to which time has passed since
+pub record IsLedTo (left : Generation) (server : Server) : Type 0 where
+  pub state : State
+  pub restored : IsRestored left.base left.entries (record { configuration = server.configuration; state = state })
+  pub moment : ℕ
+  pub passed : server.state ≡ at_moment moment state
+  pub configured : server.configuration ≡ left.base.configuration
+  pub lawful : IsLawful server.configuration server.state
+
+-- a server of a configuration takes over what a generation leads to
+pub record GoesOn (left : Generation) (configuration : Configuration) (server : Server) : Type 0 where
+  pub before : Server
+  pub led : IsLedTo left before
+  pub carried : server ≡ carried_server configuration before
+
+-- Where a generation is one run, so is the one that begins at a server which goes on from it: nothing is forgotten that was kept or sent.
+abbrev pub LivesAreOneRun : Type 0
+LivesAreOneRun = (ended : List Kept) (left : Generation) (sent : List Went) (configuration : Configuration) (server : Server)
+    → IsOneRun ended left sent → IsConfiguration configuration → GoesOn left configuration server
+    → IsOneRun (ended ++ left.entries) (just_begun server) sent

@@ -96,12 +96,16 @@ fn begin_if_due<J: Journal, K: Generations<J>>(
         → J.is_clean keeping.new.journal → J.is_clean keeping.old.journal }
     ensures begun { OnOk result ((keeping.new ≡ keeping.old) ⊎ ((K.is_alone → ⊥)
         × (K.is_clean keeping.new.generations → J.is_clean keeping.new.journal
+        → server.now.configuration ≡ K.configuration keeping.old.generations
         → HasBegun (J.kept keeping.new.journal) (J.is_open keeping.new.journal)
         (K.has_base keeping.new.generations keeping.new.journal server.now)))) }
+    ensures configuration { K.configuration keeping.new.generations
+        ≡ K.configuration keeping.old.generations }
     ensures same { OnErr result (keeping.new.journal ≡ keeping.old.journal) }
     ensures crash { OnErr result (K.is_clean keeping.new.generations
         → J.is_clean keeping.new.journal
         → (base : Server) → K.has_base keeping.old.generations keeping.old.journal base
+        → server.now.configuration ≡ K.configuration keeping.old.generations
         → (left : Generation) → K.may_leave keeping.new.generations keeping.new.journal left
         → ((left.base ≡ base) × J.may_leave keeping.old.journal left.entries)
         ⊎ ((K.is_alone → ⊥) × (left ≡ just_begun server.now))) }

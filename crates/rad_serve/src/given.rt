@@ -1,4 +1,6 @@
 //! What the options of `serve` name, read.
+ghost use Rattle.std.specs.Prelude.{◌≡◌, Ok};
+ghost use Rattle.rad_config.specs.Configurations.{configuration_of_octets};
 
 use crate::input::{open_seed, open_text};
 use crate::options::Options;
@@ -19,6 +21,7 @@ pub struct Given {
     pub(crate) seed: [u8; 32],
     // Lines that nobody has been told yet.
     pub(crate) warnings: String,
+    ghost reads: { configuration_of_octets text.items ≡ Ok config },
 }
 
 impl Given {
@@ -56,11 +59,11 @@ impl Given {
 
 /// The random source of a life, and the key of the tables' hashes: its first 16 octets.
 ///
-/// `kept` is how many entries were kept before. Each number has a stream of its own, so that no life draws what one before it has drawn
-/// for a reply: that was kept.
-pub(crate) fn random_of(seed: [u8; 32], kept: u32) -> (ChaCha20Rng, HashKey) {
+/// `generation` is the number of the life's first generation. Each number has a stream of its own, so that no life draws what one before it
+/// has drawn for a reply.
+pub(crate) fn random_of(seed: [u8; 32], generation: u32) -> (ChaCha20Rng, HashKey) {
     let mut random = ChaCha20Rng::from_seed(seed);
-    random.set_stream(u64::from(kept));
+    random.set_stream(u64::from(generation));
     let key = HashKey {
         low: random.next_u64(),
         high: random.next_u64(),

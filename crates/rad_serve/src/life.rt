@@ -1,34 +1,36 @@
-//! What serves: in memory, or over a state.
-ghost use Rattle.std.specs.Prelude.{◌≡◌, ◌≤◌, ◌-ℤ◌, pos, IfOk, IfSome, IsSome, IsTrue, MatchOption, Some};
+//! What serves: in memory, or over the generations of a state.
+ghost use Rattle.std.specs.Prelude.{◌≡◌, ◌<◌, ◌≤◌, ◌-ℤ◌, ℕ, pos, true, [], IfOk, IfSome, IsSome, IsTrue, MatchOption, None, Ok, Some};
 ghost use Rattle.sqlite_trees.specs.View.{IsClean};
+ghost use Rattle.rad_config.specs.Configurations.{configuration_of_octets};
 ghost use Rattle.rad_config.specs.Spans.{moment_max};
 ghost use Rattle.rad_journal.specs.Restores.{IsRestored};
 ghost use Rattle.rad_journal.specs.Stores.{kept_in};
+ghost use Rattle.rad_serve.specs.Lives.{GoesOn, IsLedTo, carried_server};
 ghost use Rattle.rad_state.specs.Fits.{Fits};
-ghost use Rattle.rad_state.specs.Generations.{fresh_server};
-ghost use Rattle.rad_state.specs.Metas.{meta_held, meta_table};
-ghost use Rattle.rad_state.specs.Moments.{IsMoment, last_of, moment_of};
-ghost use Rattle.rad_state.specs.Stores.{IsOpened};
+ghost use Rattle.rad_state.specs.Moments.{moment_of};
+ghost use Rattle.rad_state.specs.Generations.{Generation, Holds, IsInUse, fresh_server};
+ghost use Rattle.rad_state.specs.declared.meta.Meta.{Meta};
 
-use crate::given::{Given, random_of};
+use crate::given::random_of;
 use crate::moments::{Moments, clocks};
+use crate::restored::{MARK, push_restored};
 use crate::serve_error::ServeError;
 use crate::told_journal::ToldJournal;
-use rad_check::push_warning;
-use rad_config::Config;
-use rad_journal::{ENTRIES_MAX, NoJournal, StoreJournal, restore};
+use rad_carry::carry;
+use rad_config::{Config, read_configuration};
+use rad_journal::{NoJournal, StoreJournal, restore};
 use rad_packet::Octets;
-use rad_server::Server;
+use rad_server::{HashKey, Server};
 use rad_shell::Service;
-use rad_state::{Clocks, FORMAT, Keeping, Meta, OneGeneration, RULES, State, begin};
+use rad_state::{
+    Clocks, FORMAT, FileGenerations, Folder, Keeping, Last, Meta, OneGeneration, OpenFault, RULES,
+    State, bases_differ, next_moment,
+};
 use rand_chacha::ChaCha20Rng;
 use sqlite_trees::store::Store;
-use std::alloc::{AllocGlobal, Global};
+use std::alloc::{AllocError, AllocGlobal, Global};
 use std::rt::Files;
 use std::time::Clock;
-
-/// From so many entries on there is a warning: nine tenths of those that a journal has room for.
-const MANY_ENTRIES: u32 = ENTRIES_MAX / 10 * 9;
 
 /// A service, the source of its draws, its clock, and what keeps its entries.
 #[derive(Drop)]
@@ -37,6 +39,40 @@ pub(crate) struct Life<'c, K, J> {
     pub random: ChaCha20Rng,
     pub moments: Moments,
     pub keeping: Keeping<K, J>,
+}
+
+/// A configuration, its text, and the seed of the draws.
+#[derive(Clone, Copy)]
+pub(crate) struct Configured<'t, 'c> {
+    pub text: &'t [u8],
+    pub config: &'c Config,
+    pub seed: [u8; 32],
+    ghost reads: { configuration_of_octets text.now ≡ Ok config.now },
+}
+
+/// A folder of generations, how many files of it are kept, and the number of the newest, or 0.
+#[derive(Drop)]
+pub(crate) struct Numbered<F> {
+    pub folder: F,
+    pub files_max: u32,
+    pub number: u32,
+}
+
+/// A server to which a generation leads, the journal of the generation, and the beginning of the life that goes on from it.
+#[derive(Drop)]
+pub(crate) struct Led<'c, S: Store> {
+    pub server: Server<'c>,
+    pub journal: StoreJournal<S>,
+    pub beginning: Beginning,
+}
+
+/// What the clocks show at the beginning of a life, and its clock.
+#[derive(Clone, Copy)]
+pub(crate) struct Beginning {
+    clocks: Clocks,
+    moments: Moments,
+    ghost running: { clocks.running ≤ moment_max },
+    ghost first: { moments.first ≤ moment_max },
 }
 
 /// A life that begins with nothing, and keeps nothing.
@@ -57,108 +93,271 @@ pub(crate) fn in_memory<'c>(
     })
 }
 
-/// The life that goes on from the state in a store that was just opened.
-pub(crate) fn over<'c, R: Files + Clock + Eprint + AllocGlobal, S: Store + Drop>(
+/// The newest whole generation of a folder, with its number. Files after it, in which none was begun, are set aside.
+pub(crate) fn newest_whole<S: Store + Drop, F: Folder<S>>(
+    alloc: Global,
+    folder: &mut F,
+) -> Result<Option<(u32, State<S>)>, OpenFault>
+    ensures newest { IfOk result (λ found. MatchOption found
+        ((number : ℕ) → ¬ F.has folder.new number)
+        (λ found. (later : ℕ) → found.0 < later → ¬ F.has folder.new later)) }
+    ensures whole { IfOk result (λ found. IfSome found (λ found. IsSome found.1.found)) }
+{
+    for _ in 0..=u32::MAX {
+        let Some(number) = folder.newest() else {
+            return Ok(None);
+        };
+        if let Some(state) = whole(alloc, folder, number)? {
+            return Ok(Some((number, state)));
+        }
+        folder.set_aside(number)?;
+    }
+    Err(OpenFault::Damaged)
+}
+
+// The generation in a file, if one is whole there.
+fn whole<S: Store + Drop, F: Folder<S>>(
+    alloc: Global,
+    folder: &mut F,
+    number: u32,
+) -> Result<Option<State<S>>, OpenFault>
+    ensures only { (other : ℕ) → F.has folder.new other → F.has folder.old other }
+    ensures whole { IfOk result (λ found. IfSome found (λ state. IsSome state.found)) }
+{
+    let store = match folder.open(alloc, number) {
+        Err(OpenFault::Unfinished) => return Ok(None),
+        opened => opened?,
+    };
+    let state = State::open(alloc, store)?;
+    if state.found().is_none() {
+        return Ok(None);
+    }
+    Ok(Some(state))
+}
+
+/// The first life over a folder without a generation: it begins with nothing, and its generation is the first.
+pub(crate) fn first<'c, R: Files + Clock + AllocGlobal, S: Store + Drop, F: Folder<S> + Drop>(
     rt: &R,
-    store: S,
-    text: &[u8],
-    config: &'c Config,
-    seed: [u8; 32],
-    warnings: &mut String,
-) -> Result<Life<'c, OneGeneration<'c>, StoreJournal<S>>, ServeError>
-    requires { IsClean (S.view store) → IsOpened (S.view store) }
-    ensures restored { IfOk result (λ life. IsClean (S.view life.keeping.journal.store)
-        → IsRestored (fresh_server config.now) (kept_in (S.view store)) life.service) }
+    numbered: Numbered<F>,
+    given: Configured<'_, 'c>,
+) -> Result<Life<'c, FileGenerations<'c, S, F>, StoreJournal<S>>, ServeError>
+    requires newest { (later : ℕ) → numbered.number < later → ¬ F.has numbered.folder later }
+    ensures fresh { IfOk result (λ life. life.service
+        ≡ carried_server given.entry.config.now (fresh_server given.entry.config.now)) }
+    ensures in_use { IfOk result (λ life. IsClean (S.view life.keeping.journal.store)
+        → IsInUse (F.has life.keeping.generations.folder) life.keeping.generations.number
+        (S.recovers life.keeping.journal.store) given.entry.config.now life.service) }
     ensures kept { IfOk result (λ life. IsClean (S.view life.keeping.journal.store)
-        → kept_in (S.view life.keeping.journal.store) ≡ kept_in (S.view store)) }
+        → kept_in (S.view life.keeping.journal.store) ≡ []) }
     ensures open { IfOk result (λ life. IsClean (S.view life.keeping.journal.store)
         → IsTrue (S.view life.keeping.journal.store).is_open × IsSome life.keeping.journal.count) }
-    ensures later { IfOk result (λ life. IsClean (S.view life.keeping.journal.store)
-        → moment_of (last_of (kept_in (S.view store))) ≤ life.moments.first) }
-    ensures meta { IfOk result (λ life. IsClean (S.view life.keeping.journal.store)
-        → IfSome (meta_held ((S.view life.keeping.journal.store).committed meta_table))
-        (λ meta. Fits meta text.now)) }
+{
+    let clocks = clocks(rt).ok_or(ServeError::Clocks)?;
+    let moments = Moments::from(rt, 0);
+    let (_, key) = random_of(given.seed, numbered.number);
+    let before = Server::open_keyed(rt.alloc(), given.config, key)?;
+    let beginning = Beginning { clocks, moments };
+    // Nothing was restored, so nothing is told.
+    let mut untold = String::new(rt.alloc());
+    begin(rt.alloc(), numbered, beginning, &before, given, &mut untold)
+}
+
+/// The life that goes on from a generation, and the journal that leads to what it takes over.
+pub(crate) fn over<
+    'c,
+    R: Files + Clock + Eprint + AllocGlobal,
+    S: Store + Drop,
+    F: Folder<S> + Drop,
+>(
+    rt: &R,
+    numbered: Numbered<F>,
+    newest: State<S>,
+    given: Configured<'_, 'c>,
+    lines: &mut String,
+) -> Result<
+    (
+        Life<'c, FileGenerations<'c, S, F>, StoreJournal<S>>,
+        StoreJournal<S>,
+    ),
+    ServeError,
+>
+    requires newest { (later : ℕ) → numbered.number < later → ¬ F.has numbered.folder later }
+    ensures goes_on { IfOk result (λ lives. IsClean (S.view lives.1.store)
+        → (left : Generation) → Holds (S.view newest.store).committed left
+        → GoesOn left given.entry.config.now lives.0.service) }
+    ensures in_use { IfOk result (λ lives. IsClean (S.view lives.0.keeping.journal.store)
+        → IsInUse (F.has lives.0.keeping.generations.folder) lives.0.keeping.generations.number
+        (S.recovers lives.0.keeping.journal.store) given.entry.config.now lives.0.service) }
+    ensures kept { IfOk result (λ lives. IsClean (S.view lives.0.keeping.journal.store)
+        → kept_in (S.view lives.0.keeping.journal.store) ≡ []) }
+    ensures open { IfOk result (λ lives. IsClean (S.view lives.0.keeping.journal.store)
+        → IsTrue (S.view lives.0.keeping.journal.store).is_open
+        × IsSome lives.0.keeping.journal.count) }
+    ensures later { IfOk result (λ lives. moment_of newest.last ≤ lives.0.moments.first) }
+{
+    let meta = meta_of(rt.alloc(), &newest)?;
+    let config = read_configuration(rt.alloc(), meta.configuration.octets()).map_err(
+        ServeError::OtherConfig,
+    )?;
+    let (_, key) = random_of(given.seed, numbered.number);
+    let Led {
+        server,
+        journal,
+        beginning,
+    } = led_to(rt, newest, &meta, &config, key)?;
+    let life = begin(rt.alloc(), numbered, beginning, &server, given, lines)?;
+    Ok((life, journal))
+}
+
+/// The server to which a generation leads, under its configuration, at the moment now. How far it is, is told.
+pub(crate) fn led_to<'c, R: Files + Clock + Eprint + AllocGlobal, S: Store + Drop>(
+    rt: &R,
+    newest: State<S>,
+    meta: &Meta,
+    config: &'c Config,
+    key: HashKey,
+) -> Result<Led<'c, S>, ServeError>
+    requires meta { newest.found ≡ Some meta.now }
+    requires text { configuration_of_octets meta.now.configuration ≡ Ok config.now }
+    ensures led { IfOk result (λ led. IsClean (S.view led.journal.store)
+        → (left : Generation) → Holds (S.view newest.store).committed left
+        → IsLedTo left led.server) }
+    ensures later { IfOk result (λ led. moment_of newest.last ≤ led.beginning.moments.first) }
 {
     let clocks = clocks(rt).ok_or(ServeError::Clocks)?;
     // Read with the clocks: moments that began later would lag behind those of the next life.
     let now = Moments::from(rt, 0);
-    let state = State::open(rt.alloc(), store, text)?;
-    let (meta, moment) = next_meta(rt.alloc(), &state, &clocks, text)?;
-    let journal = state.into_journal(rt.alloc())?;
-    let kept = journal.count().unwrap_or(0);
-    if kept >= MANY_ENTRIES {
-        push_warning(
-            warnings,
-            format_args!("the state has {kept} entries, and room for {ENTRIES_MAX}"),
-        );
-    }
-    let (random, key) = random_of(seed, kept);
-    let server = Server::open_keyed(rt.alloc(), config, key)?;
-    let (server, journal) = go_on(rt, journal, server, &meta)?;
-    Ok(Life {
-        service: Service::of(rt.alloc(), server),
-        random,
-        moments: Moments {
-            first: moment,
-            ..now
+    let last = times_of(newest.last(), meta.wall);
+    let (mut server, journal) = restored(rt, newest, config, key)?;
+    server.state_is_lawful();
+    let last = Last {
+        moment: last.moment.max(server.clock()),
+        ..last
+    };
+    let moments = Moments {
+        first: next_moment(meta, last, &clocks),
+        ..now
+    };
+    server.pass(moments.first);
+    server.state_is_lawful();
+    Ok(Led {
+        server,
+        journal,
+        beginning: Beginning { clocks, moments },
+    })
+}
+
+// The times of the last entry, or those at which a generation without entries began.
+fn times_of(last: Option<Last>, wall: i64) -> Last
+    requires { moment_of last ≤ moment_max }
+    ensures later { moment_of last ≤ result.moment }
+    ensures bounded { result.moment ≤ moment_max }
+{
+    match last {
+        Some(last) => last,
+        None => Last {
+            wall: u64::try_from(wall).unwrap_or(0),
+            moment: 0,
         },
+    }
+}
+
+/// A copy of the meta of a state.
+pub(crate) fn meta_of<S: Store + Drop>(alloc: Global, state: &State<S>) -> Result<Meta, ServeError>
+    ensures { IfOk result (λ meta. state.now.found ≡ Some meta) }
+{
+    let Some(meta) = state.found() else {
+        return Err(ServeError::State(OpenFault::Damaged));
+    };
+    Ok(Meta {
+        configuration: Octets::of(alloc, meta.configuration.octets())?,
+        ..*meta
+    })
+}
+
+// The server at which a generation begins, stepped through its entries under its configuration; and its journal.
+fn restored<'c, R: Clock + Eprint + AllocGlobal, S: Store + Drop>(
+    rt: &R,
+    state: State<S>,
+    config: &'c Config,
+    key: HashKey,
+) -> Result<(Server<'c>, StoreJournal<S>), ServeError>
+    requires text { (meta : Meta) → state.found ≡ Some meta
+        → configuration_of_octets meta.configuration ≡ Ok config.now }
+    ensures restored { IfOk result (λ ended. IsClean (S.view ended.1.store)
+        → (left : Generation) → Holds (S.view state.store).committed left
+        → IsRestored left.base left.entries ended.0
+        × (ended.0.configuration ≡ left.base.configuration)) }
+{
+    bases_differ();
+    let (server, journal) = state.into_parts(rt.alloc(), config, key)?;
+    let count = journal.count().unwrap_or(0);
+    let mut journal = ToldJournal::new(rt, journal, count);
+    let mut server = server;
+    restore(rt.alloc(), &mut journal, &mut server)?;
+    Ok((server, journal.into_journal()))
+}
+
+// The life of a configuration that takes over what a server remembers, in the next file of a folder.
+fn begin<'c, S: Store + Drop, F: Folder<S> + Drop>(
+    alloc: Global,
+    numbered: Numbered<F>,
+    beginning: Beginning,
+    before: &Server,
+    given: Configured<'_, 'c>,
+    lines: &mut String,
+) -> Result<Life<'c, FileGenerations<'c, S, F>, StoreJournal<S>>, ServeError>
+    requires newest { (later : ℕ) → numbered.number < later → ¬ F.has numbered.folder later }
+    ensures carried { IfOk result (λ life. life.service
+        ≡ carried_server given.entry.config.now before.now) }
+    ensures in_use { IfOk result (λ life. IsClean (S.view life.keeping.journal.store)
+        → IsInUse (F.has life.keeping.generations.folder) life.keeping.generations.number
+        (S.recovers life.keeping.journal.store) given.entry.config.now life.service) }
+    ensures kept { IfOk result (λ life. IsClean (S.view life.keeping.journal.store)
+        → kept_in (S.view life.keeping.journal.store) ≡ []) }
+    ensures open { IfOk result (λ life. IsClean (S.view life.keeping.journal.store)
+        → IsTrue (S.view life.keeping.journal.store).is_open × IsSome life.keeping.journal.count) }
+    ensures moments { IfOk result (λ life. life.moments ≡ beginning.moments) }
+{
+    let Numbered {
+        folder,
+        files_max,
+        number,
+    } = numbered;
+    let (random, key) = random_of(given.seed, number.saturating_add(1));
+    let carried = carry(alloc, before, given.config, key)?;
+    let meta = new_meta(alloc, beginning, given.text)?;
+    let Keeping {
+        generations,
+        journal,
+    } = FileGenerations::start(alloc, folder, files_max, number, meta, &carried.server)?;
+    push_restored(lines, MARK, before.config().users(), &carried);
+    Ok(Life {
+        service: Service::of(alloc, carried.server),
+        random,
+        moments: beginning.moments,
         keeping: Keeping {
-            generations: OneGeneration { config },
+            generations,
             journal,
         },
     })
 }
 
-// The meta of a life that begins when the clocks show this, and its first moment.
-fn next_meta<S: Store + Drop>(
-    alloc: Global,
-    state: &State<S>,
-    clocks: &Clocks,
-    text: &[u8],
-) -> Result<(Meta, u64), ServeError>
-    requires { clocks.now.running ≤ moment_max }
-    ensures moment { IfOk result (λ next. MatchOption state.now.found (next.1 ≡ 0)
-        (λ meta. IsMoment meta state.now.last clocks.now next.1)) }
-    ensures later { IfOk result (λ next. moment_of state.now.last ≤ next.1) }
-    ensures fits { IfOk result (λ next. Fits next.0 text.now) }
-    ensures boot { IfOk result (λ next. next.0.boot ≡ clocks.now.boot) }
-    ensures zero { IfOk result (λ next. next.0.zero ≡ pos clocks.now.running -ℤ pos next.1) }
+// The meta of the generation with which a life of a configuration begins.
+fn new_meta(alloc: Global, beginning: Beginning, text: &[u8]) -> Result<Meta, AllocError>
+    ensures fits { IfOk result (λ meta. Fits meta true) }
+    ensures configuration { IfOk result (λ meta. meta.configuration ≡ text.now) }
+    ensures boot { IfOk result (λ meta. meta.boot ≡ beginning.clocks.boot) }
+    ensures zero { IfOk result (λ meta. meta.zero
+        ≡ pos beginning.clocks.running -ℤ pos beginning.moments.first) }
 {
-    let moment = state.next_moment(clocks);
-    let meta = Meta {
+    let Beginning { clocks, moments } = beginning;
+    Ok(Meta {
         format: FORMAT,
         rules: RULES,
         configuration: Octets::of(alloc, text)?,
         boot: clocks.boot,
-        zero: clocks.running as i64 - moment as i64,
-    };
-    Ok((meta, moment))
-}
-
-// The server that a journal's entries lead to, and the journal with a new meta. How far it is, is told.
-fn go_on<'c, R: Clock + Eprint + AllocGlobal, S: Store + Drop>(
-    rt: &R,
-    journal: StoreJournal<S>,
-    server: Server<'c>,
-    meta: &Meta,
-) -> Result<(Server<'c>, StoreJournal<S>), ServeError>
-    requires { IsClean (S.view journal.store)
-        → IsTrue (S.view journal.store).is_open × IsSome journal.count }
-    ensures restored { IfOk result (λ life. IsClean (S.view life.1.store)
-        → IsRestored server.entry (kept_in (S.view journal.store)) life.0) }
-    ensures kept { IfOk result (λ life. IsClean (S.view life.1.store)
-        → kept_in (S.view life.1.store) ≡ kept_in (S.view journal.store)) }
-    ensures open { IfOk result (λ life. IsClean (S.view life.1.store)
-        → IsTrue (S.view life.1.store).is_open × IsSome life.1.count) }
-    ensures meta { IfOk result (λ life. IsClean (S.view life.1.store)
-        → meta_held ((S.view life.1.store).committed meta_table) ≡ Some meta.now) }
-    ensures clean { IfOk result (λ life. IsClean (S.view life.1.store)
-        → IsClean (S.view journal.store)) }
-{
-    let count = journal.count().unwrap_or(0);
-    let mut journal = ToldJournal::new(rt, journal, count);
-    let mut server = server;
-    restore(rt.alloc(), &mut journal, &mut server)?;
-    let journal = begin(rt.alloc(), journal.into_journal(), meta)?;
-    Ok((server, journal))
+        zero: clocks.running as i64 - moments.first as i64,
+        wall: i64::try_from(clocks.wall).unwrap_or(i64::MAX),
+    })
 }

@@ -2,13 +2,13 @@
 ghost use Rattle.std.specs.Prelude.{[], Some, IsTrue};
 ghost use Rattle.rad_config.specs.Configurations.{Configuration};
 ghost use Rattle.rad_config.specs.Ranges.{IsConfiguration};
-ghost use Rattle.rad_serve.specs.Lives.{AreOneRun, IsOneRun, went_since};
+ghost use Rattle.rad_serve.specs.Lives.{AreOneRun, IsOneRun, LivesAreOneRun, went_since};
 ghost use Rattle.rad_state.specs.Generations.{LeavesOf, fresh_server, just_begun};
 
 use crate::calls::make_calls;
 use crate::options::Options;
 use rad_journal::{Reopen, restore};
-use rad_server::Server;
+use rad_server::{Server, time_passes_unseen};
 use rad_shell::{Gate, Ports, Service, Turns, Watch};
 use rad_state::{Keeping, OneGeneration};
 use rand_core::Rng;
@@ -103,3 +103,12 @@ pub fn nothing_is_one_run()
     ensures { (configuration : Configuration) → IsConfiguration configuration
         → IsOneRun [] (just_begun (fresh_server configuration)) [] }
 {}
+
+/// A life that goes on from a generation is one run with all that came before it.
+///
+/// So lives follow one another, of whatever configurations. The call costs nothing: it does nothing at run time.
+pub fn lives_are_one_run()
+    ensures { LivesAreOneRun }
+{
+    time_passes_unseen();
+}

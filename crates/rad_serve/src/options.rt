@@ -2,6 +2,7 @@
 ghost use Rattle.std.specs.Prelude.{◌≡◌, ◌≤◌, ◌↔◌, IfSome, IsSome};
 ghost use Rattle.rad_shell.specs.Rounds.{workers_max};
 
+use crate::held::Expected;
 use rad_shell::WORKERS_MAX;
 use rad_watch::Level;
 use std::marker::Model;
@@ -15,16 +16,20 @@ pub struct Options {
     pub seed: String,
     /// The folder of the state, if anything is to outlive the process.
     pub state: Option<String>,
-    /// The address to listen on, most significant octet first.
-    pub address: u32,
-    /// The authentication port.
-    pub auth: u16,
-    /// The accounting port.
-    pub acct: u16,
+    pub sockets: Sockets,
     pub workers: Workers,
     /// The turns to make; without it serving goes on.
     pub rounds: Option<u32>,
     pub reports: Reports,
+}
+
+/// Where the two sockets of a server come from.
+#[derive(Clone, Copy, Debug, PartialEq, Eq)]
+pub enum Sockets {
+    /// They are bound to an address, most significant octet first, and to two ports. Port 0 is any free one.
+    Bind { address: u32, auth: u16, acct: u16 },
+    /// The process was given them, bound as is expected, as descriptors 3 and 4.
+    Held(Expected),
 }
 
 /// What an operator is told while turns are made.

@@ -1,6 +1,6 @@
 //! The size of a socket's receive buffer, for which `std` has no call.
 
-use libc::net::{SO_RCVBUF, SOL_SOCKET, setsockopt};
+use libc::net::{SO_RCVBUF, SOL_SOCKET, getsockopt, setsockopt};
 use mio::net::UdpSocket;
 use std::os::fd::AsRawFd;
 
@@ -11,5 +11,24 @@ const RECEIVE_BUFFER: i32 = 4_000_000;
 pub(crate) fn ask_for_room(socket: &UdpSocket) {
     let mut value = [0; 16];
     value[..4].copy_from_slice(&RECEIVE_BUFFER.to_ne_bytes());
+    // Sound: it reads at most 4 octets, which `value` has.
     let _status = unsafe { setsockopt(socket.as_raw_fd(), SOL_SOCKET, SO_RCVBUF, &value, 4) };
+}
+
+/// Whether the receive buffer has that size already, of which the system tells the double. Whoever made the socket may have had leave
+/// for more than the system gives here, which to ask would then take away.
+pub(crate) fn has_room(socket: &UdpSocket) -> bool {
+    let mut value = [0; 16];
+    let mut len = 16;
+    // Sound: it writes at most `len` octets, for which `value` has room.
+    let _status = unsafe {
+        getsockopt(
+            socket.as_raw_fd(),
+            SOL_SOCKET,
+            SO_RCVBUF,
+            &mut value,
+            &mut len,
+        )
+    };
+    i32::from_ne_bytes([value[0], value[1], value[2], value[3]]) >= 2 * RECEIVE_BUFFER
 }

@@ -1,5 +1,6 @@
 //! Why serving ended early, or never began.
 
+use crate::held::HeldFault;
 use crate::udp_ports::BindFault;
 use rad_config::ConfigFault;
 use rad_journal::RestoreFault;
@@ -30,12 +31,18 @@ pub enum ServeError {
     /// The state can't be opened, gone on from or begun.
     #[error(transparent)]
     State(OpenFault),
+    /// The configuration under which the state was kept isn't one of this program.
+    #[error("the state's own configuration: {0}")]
+    OtherConfig(ConfigFault),
     /// The journal of the state doesn't lead to a server.
     #[error(transparent)]
     Restore(RestoreFault),
     /// A port can't be bound.
     #[error("bind failed")]
     Bind,
+    /// The sockets that the process was given can't be served.
+    #[error(transparent)]
+    Held(HeldFault),
     /// The rounds ended with a fault.
     #[error(transparent)]
     Rounds(ServeFault),
@@ -70,6 +77,7 @@ impl From<BindFault> for ServeError {
         match fault {
             BindFault::NoMemory => ServeError::NoMemory,
             BindFault::Bind => ServeError::Bind,
+            BindFault::Held(fault) => ServeError::Held(fault),
         }
     }
 }

@@ -1,33 +1,30 @@
 //! The command `serve`.
-ghost use Rattle.std.specs.Prelude.{IsTrue};
-ghost use Rattle.sqlite_trees.specs.View.{IsClean};
-ghost use Rattle.rad_state.specs.Stores.{IsOpened};
+ghost use Rattle.std.specs.Prelude.{◌<◌, ℕ};
 
 use crate::calls::make_calls;
 use crate::given::Given;
-use crate::life::{Life, in_memory, over};
-use crate::moments::Moments;
+use crate::life::{Configured, Life, Numbered, first, in_memory, newest_whole, over};
+use crate::listening::{listen, try_ports};
 use crate::options::Options;
 use crate::progress::Progress;
 use crate::reporter::{Reporter, now};
 use crate::serve_error::ServeError;
+use crate::told_generations::ToldGenerations;
 use crate::udp_ports::UdpPorts;
 use crate::warner::Warner;
 use crate::writer::{Text, Writing, write_files, write_lines};
-use crossbeam_channel::{Receiver, bounded};
-use rad_auth::Door;
+use crossbeam_channel::{Receiver, Sender, bounded};
 use rad_check::push_warning;
 use rad_journal::Journal;
 use rad_shell::{Gate, OpenGate, Ports, Service, Turns, Unwatched, Watch};
-use rad_state::{Generations, Keeping, open_files};
+use rad_state::{Folder, Generations, Keeping, State};
 use rad_text::lines::divide;
 use rad_watch::Watcher;
 use rand_chacha::ChaCha20Rng;
 use rand_core::Rng;
-use sqlite_disk::Disk;
 use sqlite_trees::store::Store;
 use std::alloc::{AllocGlobal, Global};
-use std::net::{Ipv4Addr, Net};
+use std::net::Net;
 use std::rt::Files;
 use std::sync::Wait;
 use std::thread::{JoinHandle, Scope, Threads};
@@ -40,7 +37,7 @@ const TEXTS_MAX: usize = 4;
 /// Answers what comes to two UDP ports, in so many turns or on and on, and prints what they came to. Nothing outlives the process.
 ///
 /// It prints a line when it listens, and another at the end. Nobody has to read them: a line that can't be written is left out. All
-/// memory that turns can't do without is taken before the ports are bound.
+/// memory that turns can't do without is taken before the ports are bound or taken over.
 pub fn serve<R: Files + Net + Clock + Print + Eprint + Threads + Wait + Sync + AllocGlobal>(
     rt: &R,
     options: &Options,
@@ -52,28 +49,30 @@ pub fn serve<R: Files + Net + Clock + Print + Eprint + Threads + Wait + Sync + A
     served
 }
 
-/// The same, and what a later reply may rest on is kept in the files of a state before a reply leaves.
+/// The same, and what a later reply may rest on is kept in the files of a folder before a reply leaves.
 ///
-/// The server goes on as the last one left it: with its sessions, kept replies and challenges, at no earlier moment. `salt` is a random
-/// number. `State`: the files hold nothing that this program can go on from under this configuration, or a call of the disk failed.
-/// `Restore`: an entry isn't answered as it was. `Clocks`: a clock can't be read. At each of these what was kept is as it was.
+/// The server goes on as the last one left it, as far as its configuration allows: with its sessions, kept replies and challenges, at no
+/// earlier moment. At most `files_max` files are kept, but at least 2. `State`: a file holds nothing that this program can go on from, or a
+/// call of the disk failed. `OtherConfig`, `Restore`: the newest generation doesn't lead to a server. `Clocks`: a clock can't be read. At
+/// each of these what was kept is as it was.
 pub fn serve_with_state<
     R: Files + Net + Clock + Print + Eprint + Threads + Wait + Sync + AllocGlobal,
-    D: Disk + Drop + Send,
->(
-    rt: &R,
-    options: &Options,
-    given: Given,
-    files: sqlite_disk::Files<D>,
-    salt: u64,
-) -> Result<(), ServeError>
-    requires log { IsTrue (D.Disk.is_usable files.log) }
-    requires db { IsTrue (D.Disk.is_usable files.db) }
-{
-    let mut given = given;
-    let store = open_files(rt.alloc(), files, salt)?;
-    let served = serve_over(rt, options, &mut given, store);
-    print_warnings(rt, &given.warnings);
+    S: Store + Drop + Send,
+    F: Folder<S> + Drop + Send,
+>(rt: &R, options: &Options, given: Given, folder: F, files_max: u32) -> Result<(), ServeError> {
+    let Given {
+        text,
+        config,
+        seed,
+        mut warnings,
+    } = given;
+    let configured = Configured {
+        text: &text,
+        config: &config,
+        seed,
+    };
+    let served = serve_over(rt, options, configured, &mut warnings, folder, files_max);
+    print_warnings(rt, &warnings);
     served
 }
 
@@ -102,17 +101,75 @@ fn serve_in_memory<R: Files + Net + Clock + Print + Eprint + Threads + Wait + Sy
 fn serve_over<
     R: Files + Net + Clock + Print + Eprint + Threads + Wait + Sync + AllocGlobal,
     S: Store + Drop + Send,
->(rt: &R, options: &Options, given: &mut Given, store: S) -> Result<(), ServeError>
-    requires { IsClean (S.view store) → IsOpened (S.view store) }
+    F: Folder<S> + Drop + Send,
+>(
+    rt: &R,
+    options: &Options,
+    configured: Configured,
+    warnings: &mut String,
+    folder: F,
+    files_max: u32,
+) -> Result<(), ServeError> {
+    let mut folder = folder;
+    let newest = newest_whole(rt.alloc(), &mut folder)?;
+    try_ports(rt, options)?;
+    match newest {
+        None => {
+            let numbered = Numbered {
+                folder,
+                files_max,
+                number: 0,
+            };
+            serve_first(rt, options, configured, warnings, numbered)
+        }
+        Some((number, newest)) => {
+            let numbered = Numbered {
+                folder,
+                files_max,
+                number,
+            };
+            serve_next(rt, options, configured, warnings, numbered, newest)
+        }
+    }
+}
+
+// Serves over a folder without a generation.
+fn serve_first<
+    R: Files + Net + Clock + Print + Eprint + Threads + Wait + Sync + AllocGlobal,
+    S: Store + Drop + Send,
+    F: Folder<S> + Drop + Send,
+>(
+    rt: &R,
+    options: &Options,
+    configured: Configured,
+    warnings: &mut String,
+    numbered: Numbered<F>,
+) -> Result<(), ServeError>
+    requires newest { (later : ℕ) → numbered.number < later → ¬ F.has numbered.folder later }
 {
-    let Given {
-        text,
-        config,
-        seed,
-        warnings,
-    } = given;
-    let life = over(rt, store, text, config, *seed, warnings)?;
-    serve_life(rt, options, life, text, warnings)
+    let life = first(rt, numbered, configured)?;
+    serve_life(rt, options, life, configured.text, warnings)
+}
+
+// Serves from the newest generation of a folder on.
+fn serve_next<
+    R: Files + Net + Clock + Print + Eprint + Threads + Wait + Sync + AllocGlobal,
+    S: Store + Drop + Send,
+    F: Folder<S> + Drop + Send,
+>(
+    rt: &R,
+    options: &Options,
+    configured: Configured,
+    warnings: &mut String,
+    numbered: Numbered<F>,
+    newest: State<S>,
+) -> Result<(), ServeError>
+    requires newest { (later : ℕ) → numbered.number < later → ¬ F.has numbered.folder later }
+{
+    let (life, ended) = over(rt, numbered, newest, configured, warnings)?;
+    // Its file is closed: others may read it now.
+    drop(ended);
+    serve_life(rt, options, life, configured.text, warnings)
 }
 
 fn serve_life<
@@ -248,6 +305,8 @@ fn serve_reported<
         service: &mut service,
         turns,
         ports,
+        lines: writing.warned.clone()?,
+        progress: writing.progress,
     };
     serve_beside(rt, rt, serving, keeping, writing)
 }
@@ -259,12 +318,15 @@ struct Serving<'s, 'c, R> {
     service: &'s mut Service<'c>,
     turns: Turns<'s, ChaCha20Rng, OpenGate, Reporter<'s, R>>,
     ports: UdpPorts<'s, R>,
+    // For what is told of generations that begin.
+    lines: Sender<Vec<u8>>,
+    progress: &'s Progress,
 }
 
 impl<'s, 'c, R: Clock + Print + Threads + Wait + Sync + AllocGlobal> Serving<'s, 'c, R> {
     fn run<J: Journal + Drop, K: Generations<J> + Drop>(
         self,
-        rt: &R,
+        rt: &'s R,
         keeping: Keeping<K, J>,
     ) -> Result<(), ServeError> {
         let Serving {
@@ -272,8 +334,18 @@ impl<'s, 'c, R: Clock + Print + Threads + Wait + Sync + AllocGlobal> Serving<'s,
             service,
             mut turns,
             mut ports,
+            lines,
+            progress,
         } = self;
-        let mut keeping = keeping;
+        let mut keeping = Keeping {
+            generations: ToldGenerations {
+                generations: keeping.generations,
+                rt,
+                lines,
+                progress,
+            },
+            journal: keeping.journal,
+        };
         let served = serve_turns(rt, options, service, &mut turns, &mut ports, &mut keeping);
         turns.watch().finish(service.server());
         served
@@ -367,18 +439,6 @@ fn start<
     }
 }
 
-// Binds the ports, and prints that it listens.
-fn listen<'r, R: Net + Clock + Print + AllocGlobal>(
-    rt: &'r R,
-    options: &Options,
-    moments: Moments,
-) -> Result<UdpPorts<'r, R>, ServeError> {
-    let mut ports = UdpPorts::bind(rt, options.address, options.auth, options.acct)?;
-    ports.go_by(moments);
-    print_listening(rt, options, &ports);
-    Ok(ports)
-}
-
 // Makes the calls, and prints what they came to.
 fn serve_turns<
     R: Print + Threads + Wait + Sync,
@@ -399,10 +459,4 @@ fn serve_turns<
     let served = make_calls(rt, options, service, turns, ports, keeping)?;
     let _ = println!(rt; "{served}");
     Ok(())
-}
-
-fn print_listening<R: Print, C: Clock>(rt: &R, options: &Options, ports: &UdpPorts<C>) {
-    let address = Ipv4Addr::from_bits(options.address);
-    let (auth, acct) = (ports.port(Door::Auth), ports.port(Door::Acct));
-    let _ = println!(rt; "listening {address} {auth} {acct}");
 }

@@ -9,8 +9,9 @@ ghost use Rattle.rad_shell.specs.Serving.{IsReceived};
 
 use crate::asking::Asking;
 use crate::failure::{Failure, receive_failure, send_failure};
+use crate::held::{ACCT_DESCRIPTOR, AUTH_DESCRIPTOR, Expected, HeldFault, take_socket};
 use crate::moments::{Moments, wall};
-use crate::receive_buffer::ask_for_room;
+use crate::receive_buffer::{ask_for_room, has_room};
 use mio::net::UdpSocket;
 use mio::{Events, Interest, Poll, Token};
 use rad_auth::Door;
@@ -18,6 +19,7 @@ use rad_shell::{Got, PortFault, Ports, RECEIVED_MAX};
 use std::alloc::{AllocError, AllocGlobal};
 use std::io;
 use std::net::{Ipv4Addr, Net, SocketAddr, SocketAddrV4};
+use std::os::fd::RawFd;
 use std::sync::Wait;
 use std::time::{Clock, Duration};
 use thiserror::Error;
@@ -39,11 +41,20 @@ pub enum BindFault {
     /// A socket can't be made or bound: the port is taken or not allowed, or the address isn't this machine's.
     #[error("bind failed")]
     Bind,
+    /// Sockets that the process was given can't be served.
+    #[error(transparent)]
+    Held(HeldFault),
 }
 
 impl From<AllocError> for BindFault {
     fn from(_error: AllocError) -> BindFault {
         BindFault::NoMemory
+    }
+}
+
+impl From<HeldFault> for BindFault {
+    fn from(fault: HeldFault) -> BindFault {
+        BindFault::Held(fault)
     }
 }
 
@@ -65,6 +76,7 @@ pub struct UdpPorts<'r, C> {
     events: Events,
     auth: UdpSocket,
     acct: UdpSocket,
+    address: u32,
     auth_port: u16,
     acct_port: u16,
     asking: Asking,
@@ -82,21 +94,55 @@ impl<'r, C: Clock> UdpPorts<'r, C> {
     {
         let events = Events::with_capacity(rt.alloc(), 2)?;
         let poll = Poll::new(rt)?;
-        let (auth, auth_port) = bind_socket(rt, &poll, AUTH, address, auth)?;
-        let (acct, acct_port) = bind_socket(rt, &poll, ACCT, address, acct)?;
-        Ok(UdpPorts {
-            clock: rt,
+        let auth = bind_socket(rt, &poll, AUTH, address, auth)?;
+        let acct = bind_socket(rt, &poll, ACCT, address, acct)?;
+        Ok(UdpPorts::over(rt, (poll, events), address, auth, acct))
+    }
+
+    /// Takes over the two sockets that the process was given, in place of binding any. What has arrived since they were bound is still
+    /// received. Moments are those of the system's clock.
+    ///
+    /// `Held`: one of them is no bound UDP socket of IPv4, or they have another address or port than is expected.
+    pub fn take(rt: &'r C, expected: Expected) -> Result<UdpPorts<'r, C>, BindFault>
+    where
+        C: Net + AllocGlobal,
+    {
+        let events = Events::with_capacity(rt.alloc(), 2)?;
+        let poll = Poll::new(rt)?;
+        let (auth, auth_at) = held_socket(&poll, AUTH, AUTH_DESCRIPTOR)?;
+        let (acct, acct_at) = held_socket(&poll, ACCT, ACCT_DESCRIPTOR)?;
+        let address = expected.address_of(auth_at, acct_at)?;
+        let (auth, acct) = ((auth, auth_at.port()), (acct, acct_at.port()));
+        Ok(UdpPorts::over(rt, (poll, events), address, auth, acct))
+    }
+
+    // Two sockets of which the poll tells, that are bound to an address, each with its port.
+    fn over(
+        clock: &'r C,
+        (poll, events): (Poll, Events),
+        address: u32,
+        (auth, auth_port): (UdpSocket, u16),
+        (acct, acct_port): (UdpSocket, u16),
+    ) -> UdpPorts<'r, C> {
+        UdpPorts {
+            clock,
             moments: Moments::of_system(),
             poll,
             events,
             auth,
             acct,
+            address,
             auth_port,
             acct_port,
             asking: Asking::new(),
             failures: 0,
             reported: 0,
-        })
+        }
+    }
+
+    /// The address that the sockets are bound to, most significant octet first.
+    pub fn address(&self) -> u32 {
+        self.address
     }
 
     /// The port that a socket is bound to, which is never 0.
@@ -292,4 +338,19 @@ fn bind_socket<R: Net>(
     ask_for_room(&socket);
     let port = socket.local_addr()?.port();
     Ok((socket, port))
+}
+
+// A socket that the process was given, of whose datagrams the poll tells, and where it is bound.
+fn held_socket(
+    poll: &Poll,
+    token: Token,
+    descriptor: RawFd,
+) -> Result<(UdpSocket, SocketAddrV4), BindFault> {
+    let (mut socket, bound) = take_socket(descriptor)?;
+    poll.registry()
+        .register(&mut socket, token, Interest::READABLE)?;
+    if !has_room(&socket) {
+        ask_for_room(&socket);
+    }
+    Ok((socket, bound))
 }

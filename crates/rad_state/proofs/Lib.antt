@@ -1,3 +1,5 @@
 mod StoreLemmas
 mod LastLemmas
 mod ReadyLemmas
+mod BeginLemmas
+mod BaseLemmas

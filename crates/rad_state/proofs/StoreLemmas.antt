@@ -1,17 +1,14 @@
--- What calls do to a store with both tables.
-use Rattle.std.proofs.Common.{◌≡◌, ◌⊎◌, inl, inr, ⊎_elim, ℕ, true, false, IsTrue, pos, Equal, List, [], ◌∷◌, reverse, Option, Some, None, refl, sym, ap, subst, ◌∙◌}
-use Rattle.sqlite_trees.specs.Tree.{Trees, from_key, order_of, put_row, sought, up_to_key}
+-- What reads show of a store.
+use Rattle.std.proofs.Common.{◌≡◌, ℕ, true, false, List, [], ◌∷◌, reverse, Some, refl, sym, ap, subst, ◌∙◌}
+use Rattle.sqlite_trees.specs.Tree.{from_key, order_of, sought, up_to_key}
 use Rattle.sqlite_trees.specs.declared.store.Direction.TheVariants.{Backward, Forward}
-use Rattle.sqlite_trees.specs.View.{Advances, Commits, OnlyWrites, SetsTree, View, with_cursor}
+use Rattle.sqlite_trees.specs.View.{Advances, View, with_cursor}
 use Rattle.sqlite_value.specs.declared.keys.Order.{Order}
-use Rattle.sqlite_value.specs.declared.value.Value.TheVariants.{Int}
-use Rattle.sqlite_value.specs.Order.{Row, value_cmp}
-use Rattle.sqlite_value.proofs.OrderLemmas.{value_cmp-Int}
-use Rattle.rad_journal.specs.Rows.{table}
+use Rattle.sqlite_value.specs.Order.{Row}
 use Rattle.rad_journal.specs.Stores.{IsFresh, OnlyReads}
-use Rattle.rad_state.specs.Metas.{IsMetas, meta_held, meta_row, meta_rows, meta_table}
-use Rattle.rad_state.specs.Stores.{IsOpened, LeavesMeta, WritesMeta}
-use Rattle.rad_state.specs.declared.meta.Meta.{Meta}
+use Rattle.rad_snapshot.specs.Snapshots.{tree_of}
+use Rattle.rad_state.specs.Metas.{meta_table}
+use Rattle.rad_state.specs.Stores.{IsOpened}
 
 from_no_key : (o : Order) (rows : List Row) → from_key o [] rows ≡ rows
 from_no_key o [] = refl
@@ -73,63 +70,8 @@ pub reads_opened : (old new : View) → OnlyReads old new → IsOpened old → I
 reads_opened old new same opened = record {
   fresh = reads_fresh old new same opened.fresh;
   meta_shape = ap (λ (v : View). v.shape meta_table) same ∙ opened.meta_shape;
+  snapshot_shapes = λ table. ap (λ (v : View). v.shape (tree_of table)) same ∙ opened.snapshot_shapes table;
 }
 
 pub reads_committed : (old new : View) → OnlyReads old new → new.committed ≡ old.committed
 reads_committed old new same = ap (λ (v : View). v.committed) same
-
--- ---- the meta is written
-
--- a meta takes the place of the one before
-same_id : value_cmp (Int (pos 1)) (Int (pos 1)) ≡ Equal
-same_id = value_cmp-Int (pos 1) (pos 1) ∙ refl
-
-put_only : (meta : Meta) (before : Option Meta) → put_row (meta_row meta) (meta_rows before) ≡ meta_row meta ∷ []
-put_only meta None = refl
-put_only meta (Some other) = rw same_id refl
-
--- both tables, once the row is put
-record IsPut (old mid : View) (meta : Meta) : Type 0 where
-  meta_rows : mid.trees meta_table ≡ meta_row meta ∷ []
-  journal : mid.trees table ≡ old.committed table
-
-is_put : (old mid : View) (meta : Meta) → IsFresh old → IsMetas (old.committed meta_table) → SetsTree old mid meta_table (put_row (meta_row meta)) → IsPut old mid meta
-is_put old mid meta fresh metas sets = record {
-  meta_rows =
-      ap (λ (v : View). v.trees meta_table) sets.is
-      ∙ ap (λ (t : Trees). put_row (meta_row meta) (t meta_table)) fresh.settled
-      ∙ ap (λ (rows : List Row). put_row (meta_row meta) rows) metas
-      ∙ put_only meta (meta_held (old.committed meta_table));
-  journal = ap (λ (v : View). v.trees table) sets.is ∙ ap (λ (t : Trees). t table) fresh.settled;
-}
-
--- the store is as fresh as before
-commit_fresh : (old mid new : View) → IsFresh old → OnlyWrites old mid → Commits mid new → IsFresh new
-commit_fresh old mid new fresh frame commits = subst (λ (v : View). IsFresh v) (sym commits.is) (record {
-  is_open = subst IsTrue (sym (ap (λ (v : View). v.is_open) frame)) fresh.is_open;
-  shape = ap (λ (v : View). v.shape table) frame ∙ fresh.shape;
-  committed_shape = refl;
-  settled = refl;
-})
-
-pub commit_writes : (old mid new : View) (meta : Meta) → IsFresh old → IsMetas (old.committed meta_table) → SetsTree old mid meta_table (put_row (meta_row meta))
-    → OnlyWrites old mid → Commits mid new → WritesMeta old new meta
-commit_writes old mid new meta fresh metas sets frame commits =
-    let put = is_put old mid meta fresh metas sets in record {
-      fresh = commit_fresh old mid new fresh frame commits;
-      held = ap (λ (v : View). meta_held (v.committed meta_table)) commits.is ∙ ap (λ (rows : List Row). meta_held rows) put.meta_rows;
-      journal = ap (λ (v : View). v.committed table) commits.is ∙ put.journal;
-    }
-
-pub commit_leaves : (old mid : View) (before between after : Trees → Type 0) (meta : Meta) → IsFresh old → IsMetas (old.committed meta_table)
-    → SetsTree old mid meta_table (put_row (meta_row meta)) → ((db : Trees) → between db → before db)
-    → ((db : Trees) → after db → ((mid.is_broken ≡ false) × (db ≡ mid.trees)) ⊎ between db) → LeavesMeta old before after meta
-commit_leaves old mid before between after meta fresh metas sets earlier crash db left =
-    let put = is_put old mid meta fresh metas sets in
-    ⊎_elim
-    (λ now. inr (
-      ap (λ (t : Trees). meta_held (t meta_table)) now.1 ∙ ap (λ (rows : List Row). meta_held rows) put.meta_rows,
-      ap (λ (t : Trees). t table) now.1 ∙ put.journal,
-    ))
-    (λ was. inl (earlier db was))
-    (crash db left)

@@ -1,5 +1,5 @@
--- Metas as the rows of a table: the rowid 1, format, rules, the text of the configuration, the boot's id, and what the boot clock showed
--- at moment 0 in milliseconds.
+-- Metas as the rows of a table: the rowid 1, format, rules, the text of the configuration, the boot's id, what the boot clock showed at
+-- moment 0, and the wall time at which the generation began, both in milliseconds.
 use Rattle.std.specs.Prelude.{◌≡◌, ◌≢◌, ◌<◌, ◌^◌, ℕ, ℤ, pos, length, List, [], ◌∷◌, Option, None, Some, refl}
 use Rattle.sqlite_value.specs.declared.value.Value.{Value}
 use Rattle.sqlite_value.specs.declared.value.Value.TheVariants.{Null, Int, Real, Text, Blob}
@@ -36,6 +36,7 @@ meta_row meta =
     ∷ Text meta.configuration
     ∷ Blob meta.boot
     ∷ Int meta.zero
+    ∷ Int meta.wall
     ∷ []
 
 -- the columns of a row, after its rowid
@@ -54,6 +55,9 @@ at_boot = 4
 abbrev pub at_zero : ℕ
 at_zero = 5
 
+abbrev pub at_wall : ℕ
+at_wall = 6
+
 -- the meta of a row that is one's
 abbrev pub meta_of : Row → Meta
 meta_of row = record {
@@ -62,6 +66,7 @@ meta_of row = record {
   configuration = text_of (column row at_configuration);
   boot = octets_of (column row at_boot);
   zero = integer_of (column row at_zero);
+  wall = integer_of (column row at_wall);
 }
 
 -- the rows of a table with this meta, or none

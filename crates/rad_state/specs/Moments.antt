@@ -24,13 +24,12 @@ moment_of (Some last) = last.moment
 abbrev pub in_boot : ℤ → ℕ → ℕ
 in_boot zero running = magnitude (pos running -ℤ zero)
 
--- the moment after the last entry's, by the wall clock
-abbrev pub by_wall : Option Last → ℕ → ℕ
-by_wall None wall = 0
-by_wall (Some last) wall = last.moment + (wall - last.wall)
+-- the moment that has passed since these times, by the wall clock
+abbrev pub by_wall : Last → ℕ → ℕ
+by_wall last wall = last.moment + (wall - last.wall)
 
--- This is the moment now. In the same boot it goes by the boot clock, and is no earlier than the last entry's. After another boot it goes
--- by the wall clock.
-pub record IsMoment (meta : Meta) (last : Option Last) (now : Clocks) (moment : ℕ) : Type 0 where
-  pub same_boot : meta.boot ≡ now.boot → moment ≡ min (max (in_boot meta.zero now.running) (moment_of last)) moment_max
+-- This is the moment now. In the same boot it goes by the boot clock, and is no earlier than that of the last times. After another boot it
+-- goes by the wall clock.
+pub record IsMoment (meta : Meta) (last : Last) (now : Clocks) (moment : ℕ) : Type 0 where
+  pub same_boot : meta.boot ≡ now.boot → moment ≡ min (max (in_boot meta.zero now.running) last.moment) moment_max
   pub other_boot : meta.boot ≢ now.boot → moment ≡ min (by_wall last now.wall) moment_max

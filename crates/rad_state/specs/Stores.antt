@@ -1,25 +1,43 @@
--- What a store with both tables shows.
-use Rattle.std.specs.Prelude.{◌≡◌, ◌⊎◌, Some}
+-- What a store with the tables of a generation shows.
+use Rattle.std.specs.Prelude.{◌≡◌, ◌<◌, ◌⊎◌, ℕ, [], Some}
+use Rattle.rad_server.specs.States.{State}
 use Rattle.sqlite_trees.specs.Tree.{Trees}
 use Rattle.sqlite_trees.specs.View.{View}
 use Rattle.sqlite_trees.specs.declared.store.Shape.TheVariants.{Table}
 use Rattle.rad_journal.specs.Rows.{table}
 use Rattle.rad_journal.specs.Stores.{IsFresh}
-use Rattle.rad_state.specs.Metas.{meta_held, meta_table}
+use Rattle.rad_snapshot.specs.Snapshots.{HasTables, IsSnapshotOf}
+use Rattle.rad_state.specs.Metas.{meta_rows, meta_table}
 use Rattle.rad_state.specs.declared.meta.Meta.{Meta}
 
--- a store that was just opened, with both tables
+-- how many tables there are: the journal's, the meta's, and the four of the snapshot
+abbrev pub tables : ℕ
+tables = 6
+
+abbrev pub AreTables : View → Type 0
+AreTables view = (tree : ℕ) → tree < tables → view.shape tree ≡ Table
+
+-- a store that was just opened, with its tables
 pub record IsOpened (view : View) : Type 0 where
   pub fresh : IsFresh view
   pub meta_shape : view.shape meta_table ≡ Table
+  pub snapshot_shapes : HasTables view
 
--- this meta was written and committed, and the journal's table is as it was
-pub record WritesMeta (old new : View) (meta : Meta) : Type 0 where
-  pub fresh : IsFresh new
-  pub held : meta_held (new.committed meta_table) ≡ Some meta
-  pub journal : new.committed table ≡ old.committed table
+-- the tables have no row
+abbrev pub AreBlank : Trees → Type 0
+AreBlank trees = (tree : ℕ) → tree < tables → trees tree ≡ []
 
--- what a crash leaves was left before, or has this meta and the journal's table as it was
-abbrev pub LeavesMeta : View → (Trees → Type 0) → (Trees → Type 0) → Meta → Type 0
-LeavesMeta view old new meta = (db : Trees) → new db
-    → old db ⊎ ((meta_held (db meta_table) ≡ Some meta) × (db table ≡ view.committed table))
+-- a store that was just made, with its tables
+pub record IsBlank (view : View) : Type 0 where
+  pub opened : IsOpened view
+  pub none : AreBlank view.committed
+
+-- a generation begins here, with this meta, at this state: no entry is kept yet
+pub record Begins (db : Trees) (meta : Meta) (state : State) : Type 0 where
+  pub held : db meta_table ≡ meta_rows (Some meta)
+  pub snapshot : IsSnapshotOf db state
+  pub none : db table ≡ []
+
+-- a crash leaves no meta, or a generation that begins so
+abbrev pub LeavesBeginning : (Trees → Type 0) → Meta → State → Type 0
+LeavesBeginning recovers meta state = (db : Trees) → recovers db → (db meta_table ≡ []) ⊎ Begins db meta state

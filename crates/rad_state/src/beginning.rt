@@ -1,44 +1,56 @@
-//! The beginning of a life over a state.
-ghost use Rattle.std.specs.Prelude.{◌≡◌, ◌≤◌, Some, IfOk, IsSome, IsTrue};
-ghost use Rattle.sqlite_trees.specs.View.{IsClean, doubt};
-ghost use Rattle.rad_journal.specs.Rows.{table};
-ghost use Rattle.rad_state.specs.Metas.{meta_held, meta_table};
-ghost use Rattle.rad_state.specs.Stores.{LeavesMeta};
+//! The beginning of a generation in a store.
+ghost use Rattle.std.specs.Prelude.{◌≡◌, ◌≤◌, OnOk};
+ghost use Rattle.sqlite_trees.specs.Tree.{put_row};
+ghost use Rattle.sqlite_trees.specs.View.{IsClean, IsQuiet, KeepsSchema, OnlyWrites, SetsTree, doubt};
+ghost use Rattle.sqlite_trees.specs.declared.store.Shape.TheVariants.{Table};
+ghost use Rattle.rad_journal.specs.Stores.{IsFresh};
+ghost use Rattle.rad_state.specs.Metas.{meta_row, meta_table};
+ghost use Rattle.rad_state.specs.Stores.{Begins, IsBlank, LeavesBeginning};
 
-use crate::meta::Meta;
-use crate::meta_table::{read_meta, write_meta};
-use crate::open_fault::OpenFault;
-use crate::opening::with_tables;
-use rad_journal::StoreJournal;
+use crate::meta::{Meta, fill};
+use crate::meta_table::META;
+use rad_journal::JournalFault;
+use rad_server::Server;
 use sqlite_trees::store::Store;
+use sqlite_value::row::Row;
 use std::alloc::Global;
 
-/// Writes the meta of a new life in place of the one before, if there is one.
+/// Writes the beginning of a generation into a blank store: the snapshot of a server and the meta, in one commit.
 ///
-/// The journal's entries stay as they were. A crash leaves them, with either meta. `Damaged`: the store has no table of a meta, or that
-/// has another row or more than one. `Disk`: the disk failed, or an earlier call of the journal has failed.
-pub fn begin<S: Store + Drop>(
+/// A crash leaves both or no meta. After an error the store has to be opened again. `NoRoom`: the disk has none, or the configuration is
+/// too long for a row. `Full`: a number or a moment is 2 ^ 63 or more.
+pub fn write_generation<S: Store>(
     alloc: Global,
-    journal: StoreJournal<S>,
+    store: &mut S,
     meta: &Meta,
-) -> Result<StoreJournal<S>, OpenFault>
-    requires open { IsClean (S.view journal.store) → IsTrue (S.view journal.store).is_open }
-    ensures opened { IfOk result (λ now. IsClean (S.view now.store)
-        → IsTrue (S.view now.store).is_open × IsSome now.count) }
-    ensures kept { IfOk result (λ now. IsClean (S.view now.store)
-        → (S.view now.store).committed table ≡ (S.view journal.store).committed table) }
-    ensures meta { IfOk result (λ now. IsClean (S.view now.store)
-        → meta_held ((S.view now.store).committed meta_table) ≡ Some meta.now) }
-    ensures clean { IfOk result (λ now.
-        doubt (S.view journal.store).is_clean ≤ doubt (S.view now.store).is_clean) }
-    ensures crash { IfOk result (λ now. IsClean (S.view now.store) → LeavesMeta
-        (S.view journal.store) (S.recovers journal.store) (S.recovers now.store) meta.now) }
+    server: &Server,
+) -> Result<(), JournalFault>
+    requires blank { IsClean (S.view store.old) → IsBlank (S.view store.old) }
+    ensures fresh { OnOk result (IsClean (S.view store.new) → IsFresh (S.view store.new)) }
+    ensures begins { OnOk result (IsClean (S.view store.new)
+        → Begins (S.view store.new).committed meta.now server.now.state) }
+    ensures crash { IsClean (S.view store.new)
+        → LeavesBeginning (S.recovers store.new) meta.now server.now.state }
+    ensures clean { doubt (S.view store.old).is_clean ≤ doubt (S.view store.new).is_clean }
 {
-    let Some((store, count)) = journal.into_store() else {
-        return Err(OpenFault::Disk);
-    };
-    let mut store = with_tables(store)?;
-    let _before = read_meta(alloc, &mut store)?;
-    write_meta(alloc, &mut store, meta)?;
-    Ok(StoreJournal::counted(alloc, store, count))
+    rad_snapshot::write(alloc, store, server)?;
+    put(alloc, store, meta)?;
+    store.commit()?;
+    Ok(())
+}
+
+// Puts the meta's row, with no commit.
+fn put<S: Store>(alloc: Global, store: &mut S, meta: &Meta) -> Result<(), JournalFault>
+    requires { IsClean (S.view store.old) → (S.view store.old).shape meta_table ≡ Table }
+    ensures ok { OnOk result (IsClean (S.view store.new) → SetsTree (S.view store.old)
+        (S.view store.new) meta_table (put_row (meta_row meta.now))) }
+    ensures frame { OnOk result (IsClean (S.view store.new)
+        → OnlyWrites (S.view store.old) (S.view store.new)) }
+    ensures schema { KeepsSchema (S.view store.old) (S.view store.new) }
+    ensures quiet { IsQuiet S.view S.faults S.recovers S.is_shielded store.old store.new }
+{
+    let mut row = Row::new(alloc);
+    fill(&mut row, meta)?;
+    store.put(META, &row)?;
+    Ok(())
 }

@@ -1,6 +1,7 @@
 //! Generations of what a server keeps.
 ghost use Rattle.std.specs.Prelude.{◌≡◌, ◌⊎◌, [], OnErr, OnOk};
-ghost use Rattle.std.proofs.Common.{◌∙◌, sym};
+ghost use Rattle.std.proofs.Common.{◌∙◌, ap, sym};
+ghost use Rattle.rad_config.specs.Configurations.{Configuration};
 ghost use Rattle.rad_journal.specs.Stores.{Beside};
 ghost use Rattle.rad_server.specs.Servers.{Server};
 ghost use Rattle.rad_state.specs.Generations.{Generation, LeavesOf, fresh_server, just_begun};
@@ -22,6 +23,9 @@ pub trait Generations<J: Journal> {
     /// The base of whatever a crash leaves.
     ghost has_base: { Self → J → Server → Type 0 };
 
+    /// The configuration of each base.
+    ghost configuration: { Self → Configuration };
+
     /// No wrong answer of the disk has been taken as true so far, beside those that the journal knows of.
     ghost is_clean: { Self → Type 0 };
 
@@ -34,7 +38,7 @@ pub trait Generations<J: Journal> {
     /// Whether a new generation is due, when the server's clock shows this moment. No promise is made about the answer.
     fn is_due(&self, journal: &J, clock: u64) -> bool;
 
-    /// Begins a new generation at a server, with a journal of its own.
+    /// Begins a new generation at a server of the same configuration, with a journal of its own.
     ///
     /// For a crash it is one step: a crash leaves the generation before, with all its entries, or the new one. After an error the
     /// journal is the one before, and a crash may leave either.
@@ -44,19 +48,26 @@ pub trait Generations<J: Journal> {
         ensures kept { OnOk result (is_clean self.new → J.is_clean journal.new
             → J.kept journal.new ≡ []) }
         ensures base { OnOk result (is_clean self.new → J.is_clean journal.new
+            → server.now.configuration ≡ configuration self.old
             → has_base self.new journal.new server.now) }
         ensures open { OnOk result (is_clean self.new → J.is_clean journal.new
             → J.is_open journal.new) }
         ensures other { OnOk result (is_alone → ⊥) }
+        ensures configuration { configuration self.new ≡ configuration self.old }
         ensures same { OnErr result (journal.new ≡ journal.old) }
         ensures crash { is_clean self.new → J.is_clean journal.new
             → (base : Server) → has_base self.old journal.old base
+            → server.now.configuration ≡ configuration self.old
             → (left : Generation) → may_leave self.new journal.new left
             → ((left.base ≡ base) × J.may_leave journal.old left.entries)
             ⊎ ((is_alone → ⊥) × (left ≡ just_begun server.now)) }
         ensures survives { OnErr result (is_clean self.new → J.is_clean journal.new
             → J.is_open journal.old → (base : Server) → has_base self.old journal.old base
             → (left : Generation) × may_leave self.new journal.new left) };
+
+    /// A base has the configuration.
+    ghost configured: { (it : Self) (journal : J) (base : Server) → has_base it journal base
+        → base.configuration ≡ configuration it };
 
     /// What a crash leaves has this base, and entries that it may leave of the journal.
     ghost leaves_base: { (it : Self) (journal : J) (base : Server) → has_base it journal base
@@ -93,11 +104,15 @@ impl<'c, J: Journal> Generations<J> for OneGeneration<'c> {
 
     ghost has_base = { λ it journal base. base ≡ fresh_server it.config.now };
 
+    ghost configuration = { λ it. it.config.now };
+
     ghost is_clean = { λ _. Unit {0} };
 
     ghost reaches_back = { Unit {0} };
 
     ghost is_alone = { Unit {0} };
+
+    ghost configured = { λ it journal base is. ap (λ (b : Server). b.configuration) is };
 
     ghost leaves_base = { λ it journal base is left may. (may.0 ∙ sym is, may.1) };
 

@@ -1,16 +1,16 @@
 //! What a start needs to go on, and its row.
-ghost use Rattle.std.specs.Prelude.{◌≡◌, ◌≢◌, ◌<◌, ◌^◌, ℕ, ℤ, pos, List, length, Err, IfErr, IfOk, MatchResult, OnErr, OnOk};
+ghost use Rattle.std.specs.Prelude.{◌≡◌, ◌≢◌, ◌<◌, ◌^◌, ℕ, ℤ, pos, List, length, Err, IfOk, MatchResult, OnErr, OnOk};
 ghost use Rattle.sqlite_value.specs.Order.{column};
 ghost use Rattle.sqlite_value.specs.declared.value.Value.TheVariants.{Blob, Int, Text};
 ghost use Rattle.rad_state.specs.Fits.{Fits, IsMisfit};
-ghost use Rattle.rad_state.specs.declared.open_fault.OpenFault.TheVariants.{Damaged, NoMemory};
+ghost use Rattle.rad_state.specs.declared.open_fault.OpenFault.TheVariants.{Damaged};
 ghost use Rattle.rad_state.specs.Metas.{IsNoMeta, meta_of, meta_row};
 
 use crate::open_fault::OpenFault;
 use rad_packet::Octets;
 use sqlite_value::row::Row;
 use sqlite_value::value::ValueRef;
-use std::alloc::Global;
+use std::alloc::{AllocError, Global};
 
 /// The number of the file's format.
 pub const FORMAT: u32 = 1;
@@ -29,7 +29,9 @@ const AT_BOOT: usize = 4;
 
 const AT_ZERO: usize = 5;
 
-/// What a start needs to go on from a journal.
+const AT_WALL: usize = 6;
+
+/// What a start needs to go on from a generation, beside its snapshot and its journal.
 #[derive(Drop)]
 pub struct Meta {
     /// The number of the file's format.
@@ -42,31 +44,29 @@ pub struct Meta {
     pub boot: [u8; 16],
     /// What the boot clock showed at that life's moment 0, in milliseconds.
     pub zero: i64,
+    /// The wall time at which the generation began, in milliseconds since 1970.
+    pub wall: i64,
 }
 
 impl Meta {
-    /// Whether entries kept under this meta can be gone on from under a configuration, or why not.
-    pub fn check(&self, configuration: &[u8]) -> Result<(), OpenFault>
-        ensures { MatchResult result (λ _. Fits self.now configuration.now)
-            (IsMisfit self.now configuration.now) }
+    /// Whether a generation with this meta can be gone on from, or why not. Without entries any rules do.
+    pub fn check(&self, has_entries: bool) -> Result<(), OpenFault>
+        ensures { MatchResult result (λ _. Fits self.now has_entries)
+            (IsMisfit self.now has_entries) }
     {
         if self.format != FORMAT {
             return Err(OpenFault::OtherFormat);
         }
-        if self.rules != RULES {
+        if has_entries && self.rules != RULES {
             return Err(OpenFault::OtherRules);
-        }
-        if self.configuration.octets() != configuration {
-            return Err(OpenFault::OtherConfiguration);
         }
         Ok(())
     }
 }
 
 /// Makes the row of a meta.
-pub(crate) fn fill(row: &mut Row, meta: &Meta) -> Result<(), OpenFault>
-    ensures filled { OnOk result (row.new ≡ meta_row meta.now) }
-    ensures memory { IfErr result (λ fault. fault ≡ NoMemory) }
+pub(crate) fn fill(row: &mut Row, meta: &Meta) -> Result<(), AllocError>
+    ensures { OnOk result (row.new ≡ meta_row meta.now) }
 {
     row.clear();
     row.push(ValueRef::Int(1))?;
@@ -75,6 +75,7 @@ pub(crate) fn fill(row: &mut Row, meta: &Meta) -> Result<(), OpenFault>
     row.push(ValueRef::Text(meta.configuration.octets()))?;
     row.push(ValueRef::Blob(&meta.boot))?;
     row.push(ValueRef::Int(meta.zero))?;
+    row.push(ValueRef::Int(meta.wall))?;
     Ok(())
 }
 
@@ -103,6 +104,7 @@ fn read(alloc: Global, row: &Row) -> Result<Meta, OpenFault>
         configuration: text(alloc, row, AT_CONFIGURATION)?,
         boot: id(row, AT_BOOT)?,
         zero: integer(row, AT_ZERO)?,
+        wall: integer(row, AT_WALL)?,
     })
 }
 

@@ -25,12 +25,12 @@ const WALL: usize = 1;
 
 const MOMENT: usize = 2;
 
-/// The times of the last entry.
+/// The times of the last entry, or of the beginning of a generation that has none.
 #[derive(Clone, Copy)]
 pub struct Last {
-    /// Its wall time, in milliseconds since 1970.
+    /// The wall time, in milliseconds since 1970.
     pub wall: u64,
-    /// Its moment, in milliseconds.
+    /// The moment, in milliseconds.
     pub moment: u64,
 }
 
@@ -45,33 +45,23 @@ pub struct Clocks {
     pub wall: u64,
 }
 
-/// The moment now, given the meta and the last entry that were kept.
+/// The moment now, given the meta of a generation and the times up to which it goes.
 ///
 /// In the same boot the boot clock has gone on, and after another boot the wall clock has, by 0 where it was set back. The moment is no
-/// earlier than the last entry's, also where the boot clock shows less, and never above `MOMENT_MAX`.
-pub fn next_moment(meta: &Meta, last: Option<Last>, now: &Clocks) -> u64
-    requires last { moment_of last ≤ MOMENT_MAX }
+/// earlier than those times', also where the boot clock shows less, and never above `MOMENT_MAX`.
+pub fn next_moment(meta: &Meta, last: Last, now: &Clocks) -> u64
+    requires last { last.moment ≤ MOMENT_MAX }
     requires running { now.now.running ≤ MOMENT_MAX }
     ensures moment { IsMoment meta.now last now.now result }
-    ensures later { moment_of last ≤ result }
+    ensures later { last.moment ≤ result }
     ensures bounded { result ≤ MOMENT_MAX }
 {
     let moment = if meta.boot == now.boot {
-        in_boot(meta.zero, now.running).max(moment_of(last))
+        in_boot(meta.zero, now.running).max(last.moment)
     } else {
         by_wall(last, now.wall)
     };
     moment.min(MOMENT_MAX)
-}
-
-// The moment of the last entry, or 0.
-fn moment_of(last: Option<Last>) -> u64
-    ensures { result ≡ moment_of last }
-{
-    match last {
-        Some(last) => last.moment,
-        None => 0,
-    }
 }
 
 // The moment in the boot whose clock showed `zero` at moment 0, as far as it may be.
@@ -84,15 +74,12 @@ fn in_boot(zero: i64, running: u64) -> u64
 }
 
 // The moment after the last entry's, by the wall clock, as far as it may be.
-fn by_wall(last: Option<Last>, wall: u64) -> u64
-    requires { moment_of last ≤ MOMENT_MAX }
+fn by_wall(last: Last, wall: u64) -> u64
+    requires { last.moment ≤ MOMENT_MAX }
     ensures capped { min result MOMENT_MAX ≡ min (by_wall last wall) MOMENT_MAX }
-    ensures later { moment_of last ≤ result }
+    ensures later { last.moment ≤ result }
 {
-    match last {
-        Some(last) => last.moment.saturating_add(wall.saturating_sub(last.wall)),
-        None => 0,
-    }
+    last.moment.saturating_add(wall.saturating_sub(last.wall))
 }
 
 /// The times of the last entry in a store's first table, if there is one.

@@ -1,9 +1,10 @@
 //! Why a state isn't opened.
 ghost use Rattle.std.specs.Prelude.{◌≡◌};
-ghost use Rattle.rad_state.specs.Faults.{fault_of, fault_of_journal};
+ghost use Rattle.rad_state.specs.Faults.{fault_of, fault_of_journal, fault_of_snapshot};
 ghost use Rattle.rad_state.specs.declared.open_fault.OpenFault.TheVariants.{NoMemory};
 
 use rad_journal::JournalFault;
+use rad_snapshot::SnapshotFault;
 use sqlite_trees::error::StoreError;
 use std::alloc::AllocError;
 use thiserror::Error;
@@ -14,19 +15,19 @@ pub enum OpenFault {
     /// Another process has the file open. Only who opens host files tells it.
     #[error("another process uses the state")]
     InUse,
-    /// The files hold no database with these two tables alone and page sums, or what was read is not what was written, or is no
-    /// meta or entry.
+    /// The files hold no database with these tables alone and page sums, or what was read is not what was written, or is no meta, entry
+    /// or snapshot.
     #[error("it is no state, or it is damaged")]
     Damaged,
+    /// The files hold a database without tables: making it was cut short, or its log is damaged at the beginning.
+    #[error("it is no state, or it is damaged")]
+    Unfinished,
     /// The meta's format is another.
     #[error("the state has another format")]
     OtherFormat,
-    /// The format fits, and the rules are others.
+    /// The format fits, there are entries, and the rules are others.
     #[error("the state was kept under other rules")]
     OtherRules,
-    /// Format and rules fit, and the configuration is another.
-    #[error("the state was kept under another configuration")]
-    OtherConfiguration,
     /// An allocation failed.
     #[error("out of memory")]
     NoMemory,
@@ -39,6 +40,9 @@ pub enum OpenFault {
     /// There are more entries than a journal has room for.
     #[error("it is full")]
     JournalFull,
+    /// A row of the snapshot isn't one that a server takes back.
+    #[error("it is damaged: {0}")]
+    Snapshot(SnapshotFault),
 }
 
 impl From<AllocError> for OpenFault {
@@ -72,6 +76,30 @@ impl From<JournalFault> for OpenFault {
             JournalFault::Damaged => OpenFault::Damaged,
             JournalFault::NoRoom => OpenFault::NoRoom,
             JournalFault::Full => OpenFault::JournalFull,
+        }
+    }
+}
+
+impl From<SnapshotFault> for OpenFault {
+    ghost from_gives = { λ reported fault. fault ≡ fault_of_snapshot reported };
+
+    fn from(fault: SnapshotFault) -> OpenFault {
+        match fault {
+            SnapshotFault::NoMemory => OpenFault::NoMemory,
+            SnapshotFault::Journal(fault) => OpenFault::from(fault),
+            fault => OpenFault::Snapshot(fault),
+        }
+    }
+}
+
+impl From<OpenFault> for JournalFault {
+    fn from(fault: OpenFault) -> JournalFault {
+        match fault {
+            OpenFault::NoMemory => JournalFault::NoMemory,
+            OpenFault::NoRoom => JournalFault::NoRoom,
+            OpenFault::JournalFull => JournalFault::Full,
+            OpenFault::InUse | OpenFault::Disk => JournalFault::Disk,
+            _ => JournalFault::Damaged,
         }
     }
 }

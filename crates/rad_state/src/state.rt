@@ -1,18 +1,23 @@
 //! A state that was just opened.
-ghost use Rattle.std.specs.Prelude.{◌≡◌, ◌≤◌, ◌^◌, ◌-ℤ◌, ℕ, pos, IfOk, IfSome, IsSome, IsTrue, MatchOption, None, OnOk, Some, option_copied};
+ghost use Rattle.std.specs.Prelude.{◌≡◌, ◌≤◌, ◌^◌, is_some, IfOk, IfSome, IsSome, IsTrue, None, Ok, OnOk, Some, option_copied};
 ghost use Rattle.sqlite_trees.specs.View.{IsClean, doubt};
+ghost use Rattle.rad_config.specs.Configurations.{configuration_of_octets};
 ghost use Rattle.rad_journal.specs.Rows.{entries_of, table};
 ghost use Rattle.rad_state.specs.Fits.{Fits};
+ghost use Rattle.rad_state.specs.Generations.{OneBase, Says};
 ghost use Rattle.rad_state.specs.Metas.{meta_rows, meta_table};
-ghost use Rattle.rad_state.specs.Moments.{IsMoment, last_of, moment_of};
+ghost use Rattle.rad_state.specs.Moments.{last_of, moment_of};
 ghost use Rattle.rad_state.specs.Stores.{IsOpened};
+ghost use Rattle.rad_state.specs.declared.meta.Meta.{Meta};
 
 use crate::meta::Meta;
 use crate::meta_table::read_meta;
-use crate::moments::{Clocks, Last, next_moment, read_last};
+use crate::moments::{Last, read_last};
 use crate::open_fault::OpenFault;
-use rad_config::MOMENT_MAX;
+use rad_config::{Config, MOMENT_MAX};
 use rad_journal::StoreJournal;
+use rad_server::{HashKey, Server};
+use rad_snapshot::snapshots_differ;
 use sqlite_trees::store::Store;
 use std::alloc::Global;
 
@@ -34,17 +39,19 @@ pub struct State<S: Store> {
 impl<S: Store + Drop> State<S> {
     ghost use Rattle.sqlite_trees.specs.Tree.{Trees};
 
-    /// The state of a store that was just opened, if what it has kept can be gone on from under a configuration.
+    /// The state of a store that was just opened, if what it has kept can be gone on from.
     ///
-    /// `OtherFormat`, `OtherRules`, `OtherConfiguration`: as `Meta::check` says of the meta, where there is one. `Damaged`: the table of
-    /// the meta has another row or more than one, the last entry's row has no times, or there are entries and no meta.
-    pub fn open(alloc: Global, store: S, configuration: &[u8]) -> Result<State<S>, OpenFault>
+    /// `OtherFormat`, `OtherRules`: as `Meta::check` says of the meta, where there is one. `Damaged`: the table of the meta has another row
+    /// or more than one, the last entry's row has no times, or there are entries and no meta.
+    pub fn open(alloc: Global, store: S) -> Result<State<S>, OpenFault>
         requires { IsClean (S.view store) → IsOpened (S.view store) }
         ensures fits { IfOk result (λ state.
-            IfSome state.found (λ meta. Fits meta configuration.now)) }
+            IfSome state.found (λ meta. Fits meta (is_some state.last))) }
         ensures begun { IfOk result (λ state. state.found ≡ None → state.last ≡ None) }
         ensures times { IfOk result (λ state. IsClean (S.view state.store)
             → state.last ≡ last_of (entries_of ((S.view store).committed table))) }
+        ensures metas { IfOk result (λ state. IsClean (S.view state.store)
+            → (S.view store).committed meta_table ≡ meta_rows state.found) }
         ensures kept { IfOk result (λ state. IsClean (S.view state.store)
             → (S.view state.store).committed ≡ (S.view store).committed) }
         ensures clean { IfOk result (λ state.
@@ -54,15 +61,12 @@ impl<S: Store + Drop> State<S> {
     {
         let mut store = store;
         let found = read_meta(alloc, &mut store)?;
-        check(&found, configuration)?;
         let last = read_last(alloc, &mut store)?;
-        if found.is_none() && last.is_some() {
-            return Err(OpenFault::Damaged);
-        }
+        check(&found, last.is_some())?;
         Ok(State { store, found, last })
     }
 
-    /// The meta that was kept, unless the database is new.
+    /// The meta that was kept, if a generation is whole here.
     pub fn found(&self) -> Option<&Meta>
         ensures { option_copied result ≡ self.now.found }
     {
@@ -77,50 +81,61 @@ impl<S: Store + Drop> State<S> {
         self.last
     }
 
-    /// The moment at which a life that begins now goes on, in milliseconds: 0 where the database is new, and else that of `next_moment`.
-    pub fn next_moment(&self, now: &Clocks) -> u64
-        requires { now.now.running ≤ MOMENT_MAX }
-        ensures moment { MatchOption self.now.found (result ≡ 0)
-            (λ meta. IsMoment meta self.now.last now.now result) }
-        ensures later { moment_of self.now.last ≤ result }
-        ensures bounded { result ≤ MOMENT_MAX }
-    {
-        match &self.found {
-            Some(meta) => next_moment(meta, self.last, now),
-            None => 0,
-        }
-    }
-
-    /// The journal of the state, for `begin`.
+    /// The server at which the generation begins, under its configuration, and its journal.
     ///
-    /// `Damaged`: a row is none of an entry, or not the next one's. `JournalFull`: there are more than
-    /// `rad_journal::ENTRIES_MAX`.
-    pub fn into_journal(self, alloc: Global) -> Result<StoreJournal<S>, OpenFault>
-        ensures opened { IfOk result (λ journal. IsClean (S.view journal.store)
-            → IsTrue (S.view journal.store).is_open × IsSome journal.count) }
-        ensures kept { IfOk result (λ journal. IsClean (S.view journal.store)
-            → entries_of ((S.view journal.store).committed table)
+    /// The key is for the hashes of the server's tables, as `Server::open_keyed` says. `Damaged`: a row is none of an entry or of the
+    /// snapshot, or not the next one's. `Snapshot`: the server refuses a row. `JournalFull`: there are more than
+    /// `rad_journal::ENTRIES_MAX` entries.
+    pub fn into_parts<'c>(
+        self,
+        alloc: Global,
+        config: &'c Config,
+        key: HashKey,
+    ) -> Result<(Server<'c>, StoreJournal<S>), OpenFault>
+        ensures configuration { IfOk result (λ parts. parts.0.configuration ≡ config.now) }
+        ensures says { IfOk result (λ parts. IsClean (S.view parts.1.store)
+            → (meta : Meta) → self.found ≡ Some meta
+            → configuration_of_octets meta.configuration ≡ Ok config.now
+            → Says (S.view self.store).committed parts.0) }
+        ensures opened { IfOk result (λ parts. IsClean (S.view parts.1.store)
+            → IsTrue (S.view parts.1.store).is_open × IsSome parts.1.count) }
+        ensures kept { IfOk result (λ parts. IsClean (S.view parts.1.store)
+            → entries_of ((S.view parts.1.store).committed table)
             ≡ entries_of ((S.view self.store).committed table)) }
-        ensures clean { IfOk result (λ journal.
-            doubt (S.view self.store).is_clean ≤ doubt (S.view journal.store).is_clean) }
-        ensures crash { IfOk result (λ journal. (db : Trees)
-            → S.recovers journal.store db → S.recovers self.store db) }
+        ensures clean { IfOk result (λ parts.
+            doubt (S.view self.store).is_clean ≤ doubt (S.view parts.1.store).is_clean) }
+        ensures crash { IfOk result (λ parts. (db : Trees)
+            → S.recovers parts.1.store db → S.recovers self.store db) }
     {
         let State {
             store,
             found: _,
             last: _,
         } = self;
-        Ok(StoreJournal::open(alloc, store)?)
+        let mut store = store;
+        let server = rad_snapshot::read(alloc, &mut store, config, key)?;
+        server.state_is_lawful();
+        Ok((server, StoreJournal::open(alloc, store)?))
     }
 }
 
-// Whether what was kept can be gone on from, if there is a meta.
-fn check(found: &Option<Meta>, configuration: &[u8]) -> Result<(), OpenFault>
-    ensures { OnOk result (IfSome found.now (λ meta. Fits meta configuration.now)) }
+// Whether what was kept can be gone on from: without a meta, if nothing was.
+fn check(found: &Option<Meta>, has_entries: bool) -> Result<(), OpenFault>
+    ensures fits { OnOk result (IfSome found.now (λ meta. Fits meta has_entries)) }
+    ensures none { OnOk result (found.now ≡ None → ¬ IsTrue has_entries) }
 {
     match found {
-        Some(meta) => meta.check(configuration),
+        Some(meta) => meta.check(has_entries),
+        None if has_entries => Err(OpenFault::Damaged),
         None => Ok(()),
     }
+}
+
+/// A file says of one server alone that its generation begins there.
+///
+/// The call costs nothing: it does nothing at run time.
+pub fn bases_differ()
+    ensures { OneBase }
+{
+    snapshots_differ();
 }

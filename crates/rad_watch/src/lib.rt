@@ -30,7 +30,8 @@ mod watcher;
 
 pub use kind::Level;
 pub use limiter::LINES_MAX;
-pub use now::Now;
+pub use line::push_quoted;
+pub use now::{Now, Utc};
 pub use roster::Roster;
 pub use transcript::record;
 pub use untold::alike_are_told_alike;

@@ -137,8 +137,8 @@ fn push_text(text: &mut Vec<u8>, key: &[u8], octets: Option<&[u8]>) -> io::Resul
     push_quoted(text, octets)
 }
 
-// Octets that others may have chosen, between quotes.
-fn push_quoted(text: &mut Vec<u8>, octets: &[u8]) -> io::Result<()>
+/// Appends octets that others may have chosen, between quotes: none of them can end the quotes or a line.
+pub fn push_quoted(text: &mut Vec<u8>, octets: &[u8]) -> io::Result<()>
     ensures { OnOk result (text.new.items ≡ text.old.items ++ quoted octets.now) }
 {
     push_octets(text, b"\"")?;

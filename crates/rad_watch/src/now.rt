@@ -29,7 +29,7 @@ impl Now {
 
 /// A time in UTC, in milliseconds since 1970 began. It is printed as RFC 3339 has it, with milliseconds.
 #[derive(Clone, Copy, Debug)]
-pub(crate) struct Utc(pub u64);
+pub struct Utc(pub u64);
 
 impl fmt::Display for Utc {
     fn fmt<W: fmt::Write>(&self, f: &mut fmt::Formatter<W>) -> fmt::Result {

@@ -1,60 +1,145 @@
 //! The command `check`: whether a configuration can be served, and what may be wrong with it.
 
-use crate::fault::{Fault, report};
+use crate::fault::{Fault, report, written};
+use crate::options::{Absent, TEXT, Valued, text_of, with_options};
+use crate::state_copies::StateCopies;
+use crate::state_files::seed;
 use clap::{Arg, ArgMatches, Command};
 use rad_check::{detail_of, warn};
 use rad_config::{Config, read_configuration};
-use rad_replay::RunFault;
-use rad_serve::open_text;
+use rad_serve::{open_text, preview};
 use std::alloc::{AllocError, AllocGlobal, Global};
 use std::fmt;
 use std::process::ExitCode;
 use std::rt::Files;
 
-const CHECK_EXAMPLE: &str = "\
+const CHECK_EXAMPLES: &str = "\
 It prints 'PATH: good: ..', with warnings on standard error, or the first fault.
+With a state, which stays as it is, it then prints a line for each session that a restart would leave out, and how much it would restore.
 
-Example:
-  radpool check radpool.toml";
+Examples:
+  radpool check radpool.toml
+  radpool check --state /var/lib/radpool radpool.toml";
 
-/// The path that the matches of the command give.
-pub fn path_in<'a>(found: &ArgMatches<'a>) -> Option<&'a str> {
-    found.get_str("path")
+/// The options of `check`.
+const CHECK_OPTIONS: &[Valued] = &[Valued {
+    name: "state",
+    value: "DIR",
+    help: "Also says what a server would leave out that goes on from this state [default: nothing]",
+    absent: Absent::Nothing,
+    parser: TEXT,
+}];
+
+/// How often a state is copied at most, where a server writes to it meanwhile.
+const COPIES: u32 = 3;
+
+/// What is to be checked, as it is given.
+#[derive(Clone, Copy)]
+pub struct Check<'a> {
+    path: &'a str,
+    state: Option<&'a str>,
 }
 
-/// Checks the configuration of a file, and returns the exit status.
-pub fn run_check<R: Files + Print + Eprint + AllocGlobal>(rt: &R, path: &str) -> ExitCode {
-    match open_text(rt, path) {
-        Ok(text) => check_text(rt, path, &text),
-        Err(error) => report(rt, Fault::Serve(error)),
+/// What is to be checked: the path of a configuration, and perhaps the folder of a state.
+#[derive(Drop)]
+pub struct Checking {
+    path: String,
+    state: Option<String>,
+}
+
+impl<'a> Check<'a> {
+    /// What the matches of the command give.
+    pub fn given(found: &ArgMatches<'a>) -> Option<Check<'a>> {
+        Some(Check {
+            path: found.get_str("path")?,
+            state: found.get_str("state"),
+        })
+    }
+
+    /// What is to be checked.
+    pub fn checking(&self, alloc: Global) -> Result<Checking, AllocError> {
+        Ok(Checking {
+            path: self.path.to_string(alloc)?,
+            state: text_of(alloc, self.state)?,
+        })
     }
 }
 
-fn check_text<R: Files + Print + Eprint + AllocGlobal>(
+/// Checks a configuration, and returns the exit status.
+pub fn run_check<R: Files + Print + Eprint + AllocGlobal>(
     rt: &R,
-    path: &str,
-    text: &[u8],
+    host: &HostRuntime,
+    checking: &Checking,
 ) -> ExitCode {
-    match read_configuration(rt.alloc(), text) {
-        Ok(config) => {
-            let mut warnings = String::new(rt.alloc());
-            warn(&mut warnings, rt, path, text, &config);
-            let _ = eprint!(rt; "{warnings}");
-            print_good(rt, path, &config)
-        }
-        Err(fault) => report(rt, Fault::Config(fault, detail_of(rt.alloc(), text, fault))),
+    match try_check(rt, host, checking) {
+        Ok(()) => ExitCode::SUCCESS,
+        Err(fault) => report(rt, fault),
     }
 }
 
-fn print_good<R: Print + Eprint>(rt: &R, path: &str, config: &Config) -> ExitCode {
+fn try_check<R: Files + Print + Eprint + AllocGlobal>(
+    rt: &R,
+    host: &HostRuntime,
+    checking: &Checking,
+) -> Result<(), Fault> {
+    let path = checking.path.as_str();
+    let text = open_text(rt, path)?;
+    let config = match read_configuration(rt.alloc(), &text) {
+        Ok(config) => config,
+        Err(fault) => return Err(Fault::Config(fault, detail_of(rt.alloc(), &text, fault))),
+    };
+    let mut warnings = String::new(rt.alloc());
+    warn(&mut warnings, rt, path, &text, &config);
+    let _ = eprint!(rt; "{warnings}");
+    print_good(rt, path, &config)?;
+    match &checking.state {
+        Some(folder) => print_preview(rt, host, folder, &config),
+        None => Ok(()),
+    }
+}
+
+fn print_good<R: Print>(rt: &R, path: &str, config: &Config) -> Result<(), Fault> {
     let (clients, pools, users) = (
         Counted(config.clients().len(), "client"),
         Counted(config.pools().len(), "pool"),
         Counted(config.users().len(), "user"),
     );
-    match println!(rt; "{path}: good: {clients}, {pools}, {users}") {
-        Ok(()) => ExitCode::SUCCESS,
-        Err(_) => report(rt, Fault::Run(RunFault::Write)),
+    written(println!(rt; "{path}: good: {clients}, {pools}, {users}"))
+}
+
+// Prints what a server would leave out and restore that goes on from the state in a folder.
+fn print_preview<R: Print>(
+    rt: &R,
+    host: &HostRuntime,
+    folder: &str,
+    config: &Config,
+) -> Result<(), Fault> {
+    match preview_of(host, folder, config)? {
+        Some(lines) => written(print!(rt; "{lines}")),
+        None => written(println!(rt; "no generation")),
+    }
+}
+
+// What there is to print. A copy may be none of a state where a server wrote to its files meanwhile: then another is taken.
+fn preview_of(host: &HostRuntime, folder: &str, config: &Config) -> Result<Option<String>, Fault> {
+    for _ in 1..COPIES {
+        match preview_once(host, folder, config) {
+            Err(Fault::State { .. }) => {}
+            other => return other,
+        }
+    }
+    preview_once(host, folder, config)
+}
+
+fn preview_once(
+    host: &HostRuntime,
+    folder: &str,
+    config: &Config,
+) -> Result<Option<String>, Fault> {
+    let mut copies = StateCopies::of(host, folder)?;
+    match preview(host, &mut copies, config, seed(host, folder)?) {
+        Ok(lines) => Ok(lines),
+        Err(error) => Err(copies.fault_of(error)),
     }
 }
 
@@ -72,13 +157,13 @@ impl fmt::Display for Counted {
 
 /// The command, with the file that it checks.
 pub fn check_command<'a>(alloc: Global) -> Result<Command<'a>, AllocError> {
-    Command::new(alloc, "check")
+    let command = Command::new(alloc, "check")
         .about("Checks a configuration, and warns of likely mistakes")
-        .after_help(CHECK_EXAMPLE)
-        .arg(
-            Arg::new(alloc, "path")
-                .value_name("PATH")
-                .required(true)
-                .help("The configuration"),
-        )
+        .after_help(CHECK_EXAMPLES);
+    with_options(alloc, command, CHECK_OPTIONS)?.arg(
+        Arg::new(alloc, "path")
+            .value_name("PATH")
+            .required(true)
+            .help("The configuration"),
+    )
 }

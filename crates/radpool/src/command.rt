@@ -1,17 +1,18 @@
 //! The command line: what it may say, and what is then done.
 
-use crate::check_command::{check_command, path_in};
-use crate::fault::{Fault, error_of, report};
+use crate::check_command::{Check, Checking, check_command};
+use crate::fault::{Fault, error_of, report, written};
+use crate::held::are_held;
 use crate::options::{Absent, OCTET, TEXT, Valued, WORD, with_options};
-use crate::serve_command::{Serve, serve_command};
+use crate::serve_command::{Serve, Serving, serve_command};
+use crate::state_command::{folder_in, state_command};
 use clap::builder::ValueParser;
 use clap::error::ErrorKind;
 use clap::{Arg, ArgAction, ArgMatches, Command};
 use rad_replay::{KINDS, Kind, Make, MakeFault, RunFault, run_replay};
-use rad_serve::Options;
 use std::alloc::{AllocError, Global};
 use std::convert::AsStr;
-use std::process::ExitCode;
+use std::process::{ExitCode, Process};
 use std::rt::Env;
 use std::{env, io};
 
@@ -32,13 +33,13 @@ MOMENT DOOR ADDRESS:PORT OCTETS
 
 Examples:
   radpool replay < examples/requests.txt
-  radpool replay --state /var/lib/radpool/state.db > state.txt";
+  radpool replay --state /var/lib/radpool/generation-7.db > state.txt";
 
 /// The options of `replay`.
 const REPLAY_OPTIONS: &[Valued] = &[Valued {
     name: "state",
     value: "FILE",
-    help: "Prints the entries of this state, which no server may have open, as a transcript in place of answering one",
+    help: "Prints the entries of this generation of a state, which no server may have open, as a transcript in place of answering one",
     absent: Absent::Nothing,
     parser: TEXT,
 }];
@@ -121,8 +122,9 @@ enum Task<'a> {
     Replay,
     Transcript(&'a str),
     Make(Make<'a>),
-    Check(&'a str),
+    Check(Check<'a>),
     Serve(Serve<'a>),
+    Close(&'a str),
 }
 
 /// What comes after the reading of the command line, and after a command that is done at once.
@@ -130,34 +132,44 @@ enum Task<'a> {
 pub enum Next {
     /// To end with this status.
     End(ExitCode),
-    /// To check the configuration at this path.
-    Check(String),
+    /// To check a configuration.
+    Check(Checking),
     /// To serve.
-    Serve(Options),
-    /// To write the entries of the state in this file as a transcript.
+    Serve(Serving),
+    /// To write the entries of the generation in this file as a transcript.
     Transcript(String),
+    /// To close the state in this folder.
+    Close(String),
 }
 
 /// Does what the words after the program's name ask for, except what takes files, which is left to the caller.
-pub fn run<R: Env + Input + Print + Eprint + AllocGlobal>(rt: &R) -> Next {
-    match try_run(rt) {
+pub fn run<R: Env + Input + Print + Eprint + AllocGlobal>(rt: &R, process: Process) -> Next {
+    match try_run(rt, process) {
         Ok(next) => next,
         Err(fault) => Next::End(report(rt, fault)),
     }
 }
 
-fn try_run<R: Env + Input + Print + AllocGlobal>(rt: &R) -> Result<Next, Fault> {
+fn try_run<R: Env + Input + Print + AllocGlobal>(rt: &R, process: Process) -> Result<Next, Fault> {
     let words = words(rt)?;
-    do_task(rt, task_of(rt.alloc(), words.as_slice())?)
+    do_task(rt, process, task_of(rt.alloc(), words.as_slice())?)
 }
 
-fn do_task<R: Input + Print + AllocGlobal>(rt: &R, task: Task) -> Result<Next, Fault> {
+fn do_task<R: Env + Input + Print + AllocGlobal>(
+    rt: &R,
+    process: Process,
+    task: Task,
+) -> Result<Next, Fault> {
     match task {
         Task::Replay => run_replay(rt.alloc(), &mut rt.reader(), &mut io::writer(rt))?,
         Task::Make(make) => print_request(rt, make)?,
         Task::Transcript(path) => return Ok(Next::Transcript(path.to_string(rt.alloc())?)),
-        Task::Check(path) => return Ok(Next::Check(path.to_string(rt.alloc())?)),
-        Task::Serve(serve) => return Ok(Next::Serve(serve.options(rt.alloc())?)),
+        Task::Check(check) => return Ok(Next::Check(check.checking(rt.alloc())?)),
+        Task::Serve(serve) => {
+            let are_held = are_held(rt, process)?;
+            return Ok(Next::Serve(serve.serving(rt.alloc(), are_held)?));
+        }
+        Task::Close(folder) => return Ok(Next::Close(folder.to_string(rt.alloc())?)),
     }
     Ok(Next::End(ExitCode::SUCCESS))
 }
@@ -180,10 +192,7 @@ fn words<R: Env + AllocGlobal>(rt: &R) -> Result<Vec<String>, Fault> {
 // Makes a request, and prints it as a line.
 fn print_request<R: Print + AllocGlobal>(rt: &R, make: Make) -> Result<(), Fault> {
     let line = line_of(rt.alloc(), make)?;
-    match println!(rt; "{line}") {
-        Ok(()) => Ok(()),
-        Err(_) => Err(Fault::Run(RunFault::Write)),
-    }
+    written(println!(rt; "{line}"))
 }
 
 // The octets of a request in hexadecimal.
@@ -229,8 +238,9 @@ fn task_in<'a>(matches: &ArgMatches<'a>) -> Option<Task<'a>> {
             None => Task::Replay,
         }),
         ("make", found) => Some(Task::Make(make_in(found)?)),
-        ("check", found) => Some(Task::Check(path_in(found)?)),
+        ("check", found) => Some(Task::Check(Check::given(found)?)),
         ("serve", found) => Some(Task::Serve(Serve::given(found)?)),
+        ("state", found) => Some(Task::Close(folder_in(found)?)),
         _ => None,
     }
 }
@@ -262,7 +272,8 @@ fn program<'a>(alloc: Global) -> Result<Command<'a>, AllocError> {
         .subcommand(replay_command(alloc)?)?
         .subcommand(make_command(alloc)?)?
         .subcommand(check_command(alloc)?)?
-        .subcommand(serve_command(alloc)?)
+        .subcommand(serve_command(alloc)?)?
+        .subcommand(state_command(alloc)?)
 }
 
 fn replay_command<'a>(alloc: Global) -> Result<Command<'a>, AllocError> {

@@ -4,12 +4,15 @@ use clap::Command;
 use clap::error::ErrorKind;
 use rad_check::Detail;
 use rad_config::ConfigFault;
+use rad_journal::{JournalFault, RestoreFault};
 use rad_replay::RunFault;
-use rad_serve::ServeError;
+use rad_serve::{HeldFault, ServeError};
 use rad_shell::ServeFault;
 use rad_state::OpenFault;
+use sqlite_disk::is_no_room;
 use sqlite_std_file::OpenError;
 use std::alloc::AllocError;
+use std::fs::TryLockError;
 use std::process::ExitCode;
 use std::{fmt, io};
 
@@ -28,8 +31,12 @@ pub enum Fault {
     Run(RunFault),
     /// Serving came to its fault.
     Serve(ServeError),
-    /// Serving came to its fault at this file of a state.
-    State(String, StateFault),
+    /// A command came to its fault at this file or folder of a state. What may be done is a line of its own.
+    State {
+        path: String,
+        fault: StateFault,
+        advice: Option<String>,
+    },
     /// The configuration to check has a fault.
     Config(ConfigFault, Detail),
 }
@@ -37,8 +44,10 @@ pub enum Fault {
 /// Why a state isn't served from, or no longer.
 #[derive(Clone, Copy, Debug)]
 pub enum StateFault {
-    /// Its files can't be opened.
+    /// Its folder or its files can't be opened.
     Files(OpenError),
+    /// A log is there that belongs to another file of this name.
+    StrayLog,
     /// Serving came to its fault, or what was kept isn't answered as it was.
     Serve(ServeError),
     /// A transcript of it couldn't be read.
@@ -48,23 +57,46 @@ pub enum StateFault {
 }
 
 impl StateFault {
-    /// The fault, which names the state's file where it is about that.
+    /// The fault, which names this file or folder of the state where it is about that.
     pub fn at(self, path: String) -> Fault {
         match self {
-            StateFault::Files(OpenError::OutOfMemory) => Fault::Run(RunFault::NoMemory),
-            StateFault::Write => Fault::Run(RunFault::Write),
-            StateFault::Files(OpenError::Busy) => {
-                let fault = ServeError::State(OpenFault::InUse);
-                Fault::State(path, StateFault::Serve(fault))
+            StateFault::Files(OpenError::OutOfMemory)
+            | StateFault::Serve(ServeError::OtherConfig(ConfigFault::NoMemory)) => {
+                Fault::Run(RunFault::NoMemory)
             }
+            StateFault::Write => Fault::Run(RunFault::Write),
             StateFault::Serve(
                 ServeError::State(_)
+                | ServeError::OtherConfig(_)
                 | ServeError::Restore(_)
                 | ServeError::Rounds(ServeFault::Journal(_)),
             )
             | StateFault::Files(_)
-            | StateFault::Divided => Fault::State(path, self),
+            | StateFault::StrayLog
+            | StateFault::Divided => Fault::State {
+                path,
+                fault: self,
+                advice: None,
+            },
             StateFault::Serve(error) => Fault::Serve(error),
+        }
+    }
+
+    /// Whether a start found that the generation is damaged, or leads nowhere in this program.
+    pub fn is_of_generation(self) -> bool {
+        let StateFault::Serve(error) = self else {
+            return false;
+        };
+        match error {
+            ServeError::State(fault) => matches!(
+                fault,
+                OpenFault::Damaged | OpenFault::OtherFormat | OpenFault::Snapshot(_)
+            ),
+            ServeError::OtherConfig(fault) => fault != ConfigFault::NoMemory,
+            ServeError::Restore(RestoreFault::NoMemory) => false,
+            ServeError::Restore(RestoreFault::Journal(fault)) => fault == JournalFault::Damaged,
+            ServeError::Restore(_) => true,
+            _ => false,
         }
     }
 }
@@ -72,7 +104,14 @@ impl StateFault {
 impl fmt::Display for StateFault {
     fn fmt<W: fmt::Write>(&self, f: &mut fmt::Formatter<W>) -> fmt::Result {
         match self {
+            StateFault::Files(OpenError::Busy) => {
+                let fault = OpenFault::InUse;
+                write!(f, "{fault}")
+            }
             StateFault::Files(error) => write!(f, "{error}"),
+            StateFault::StrayLog => {
+                f.write_str("a file with the name of its log is there: move that away")
+            }
             StateFault::Serve(error) => write!(f, "{error}"),
             StateFault::Divided => {
                 f.write_str("its configuration has a line ---, so it has no transcript")
@@ -90,7 +129,25 @@ impl From<OpenError> for StateFault {
 
 impl From<io::Error> for StateFault {
     fn from(error: io::Error) -> StateFault {
-        StateFault::Files(OpenError::Io(error))
+        match error.kind() {
+            io::ErrorKind::OutOfMemory => StateFault::Files(OpenError::OutOfMemory),
+            _ => StateFault::Files(OpenError::Io(error)),
+        }
+    }
+}
+
+impl From<AllocError> for StateFault {
+    fn from(_error: AllocError) -> StateFault {
+        StateFault::Files(OpenError::OutOfMemory)
+    }
+}
+
+impl From<TryLockError> for StateFault {
+    fn from(error: TryLockError) -> StateFault {
+        match error {
+            TryLockError::Error(error) => StateFault::from(error),
+            TryLockError::WouldBlock => StateFault::Files(OpenError::Busy),
+        }
     }
 }
 
@@ -103,6 +160,24 @@ impl From<ServeError> for StateFault {
 impl From<OpenFault> for StateFault {
     fn from(fault: OpenFault) -> StateFault {
         StateFault::Serve(ServeError::State(fault))
+    }
+}
+
+impl From<StateFault> for OpenFault {
+    fn from(fault: StateFault) -> OpenFault {
+        match fault {
+            StateFault::Serve(ServeError::State(fault)) => fault,
+            StateFault::Files(OpenError::Busy) => OpenFault::InUse,
+            StateFault::Files(OpenError::OutOfMemory) => OpenFault::NoMemory,
+            StateFault::Files(OpenError::Io(error)) if is_no_room(&error) => OpenFault::NoRoom,
+            _ => OpenFault::Disk,
+        }
+    }
+}
+
+impl From<HeldFault> for Fault {
+    fn from(fault: HeldFault) -> Fault {
+        Fault::Serve(ServeError::Held(fault))
     }
 }
 
@@ -134,6 +209,14 @@ impl From<RunFault> for Fault {
     }
 }
 
+/// What became of a write to standard output.
+pub fn written(outcome: io::Result<()>) -> Result<(), Fault> {
+    match outcome {
+        Ok(()) => Ok(()),
+        Err(_) => Err(Fault::Run(RunFault::Write)),
+    }
+}
+
 /// Prints a fault on standard error, and returns the exit status.
 pub fn report<R: Eprint>(rt: &R, fault: Fault) -> ExitCode {
     match fault {
@@ -149,8 +232,15 @@ pub fn report<R: Eprint>(rt: &R, fault: Fault) -> ExitCode {
             let _ = eprintln!(rt; "radpool: {fault}");
             ExitCode::from(RUN_FAULT)
         }
-        Fault::State(path, fault) => {
+        Fault::State {
+            path,
+            fault,
+            advice,
+        } => {
             let _ = eprintln!(rt; "radpool: {path}: {fault}");
+            if let Some(advice) = advice {
+                let _ = eprintln!(rt; "radpool: {advice}");
+            }
             ExitCode::from(RUN_FAULT)
         }
         Fault::Config(fault, detail) => {

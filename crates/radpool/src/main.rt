@@ -1,13 +1,21 @@
 //! `radpool`: a RADIUS server. Its commands are `serve`, which answers over UDP, `check`, which checks a configuration, `replay`, which
-//! answers the datagrams of a transcript, and `make`, which makes such datagrams.
+//! answers the datagrams of a transcript, `make`, which makes such datagrams, and `state`, which closes a state.
 #![tactic(auto)]
 
+mod advice;
 mod check_command;
 mod command;
 mod fault;
+mod generation_names;
+mod held;
+mod listed;
+mod numbers;
 mod options;
 mod serve_command;
+mod state_command;
+mod state_copies;
 mod state_files;
+mod state_folder;
 mod transcript_command;
 
 use command::Next;
@@ -15,10 +23,11 @@ use std::convert::AsStr;
 use std::process::ExitCode;
 
 fn main(rt: HostRuntime) -> ExitCode {
-    match command::run(&rt) {
+    match command::run(&rt, rt.process()) {
         Next::End(status) => status,
-        Next::Check(path) => check_command::run_check(&rt, path.as_str()),
+        Next::Check(checking) => check_command::run_check(&rt, &rt, &checking),
         Next::Transcript(path) => transcript_command::run_transcript(&rt, &rt, path),
-        Next::Serve(options) => serve_command::run_server(&rt, &rt, &options),
+        Next::Serve(serving) => serve_command::run_server(&rt, &rt, &serving),
+        Next::Close(folder) => state_command::run_close(&rt, &rt, folder.as_str()),
     }
 }

@@ -55,6 +55,14 @@ impl Valued {
     }
 }
 
+/// A copy of a text, if one is given.
+pub fn text_of(alloc: Global, text: Option<&str>) -> Result<Option<String>, AllocError> {
+    match text {
+        Some(text) => Ok(Some(text.to_string(alloc)?)),
+        None => Ok(None),
+    }
+}
+
 /// The command with these options, in their order.
 pub fn with_options<'a>(
     alloc: Global,

@@ -1,14 +1,15 @@
 //! The command `serve`: its options, and its run.
 
-use crate::fault::{Fault, StateFault, error_of, report};
-use crate::options::{Absent, PORT, TEXT, Valued, with_options};
-use crate::state_files::{open_files, salt};
+use crate::fault::{Fault, error_of, report};
+use crate::options::{Absent, PORT, TEXT, Valued, text_of, with_options};
+use crate::state_folder::StateFolder;
 use clap::builder::ValueParser;
 use clap::error::ErrorKind;
 use clap::{ArgMatches, Command};
-use rad_serve::{Given, Level, Options, Reports, Workers, serve, serve_with_state};
+use rad_serve::{
+    Expected, Given, Level, Options, Reports, Sockets, Workers, serve, serve_with_state,
+};
 use rad_text::decimal;
-use sqlite_disk::Unknown;
 use std::alloc::{AllocError, AllocGlobal, Global};
 use std::net::{Ipv4Addr, Net};
 use std::process::ExitCode;
@@ -29,8 +30,12 @@ const BAD_ADDRESS: &str =
 
 const BAD_WORKERS: &str = "invalid value for '--workers <N>': expected 1 to 8";
 
-/// The file in the folder of a state.
-const STATE_FILE: &str = "state.db";
+/// Where it listens unless an option says otherwise: 127.0.0.1, and the ports of RFC 2865 and RFC 2866.
+const LOOPBACK: u32 = 0x7F00_0001;
+
+const AUTH: u16 = 1812;
+
+const ACCT: u16 = 1813;
 
 /// The options of `serve`: the files, where to listen, and how turns are made.
 const SERVE_OPTIONS: &[Valued] = &[
@@ -56,24 +61,31 @@ const SERVE_OPTIONS: &[Valued] = &[
         parser: TEXT,
     },
     Valued {
+        name: "generations",
+        value: "N",
+        help: "How many generations of the state are kept, 2 to 4294967295",
+        absent: Absent::Value("24"),
+        parser: ValueParser::Unsigned(2, 4_294_967_295),
+    },
+    Valued {
         name: "bind",
         value: "ADDRESS",
-        help: "The IPv4 address to listen on",
-        absent: Absent::Value("127.0.0.1"),
+        help: "The IPv4 address to listen on [default: 127.0.0.1]",
+        absent: Absent::Nothing,
         parser: TEXT,
     },
     Valued {
         name: "auth",
         value: "PORT",
-        help: "The authentication port",
-        absent: Absent::Value("1812"),
+        help: "The authentication port [default: 1812]",
+        absent: Absent::Nothing,
         parser: PORT,
     },
     Valued {
         name: "acct",
         value: "PORT",
-        help: "The accounting port",
-        absent: Absent::Value("1813"),
+        help: "The accounting port [default: 1813]",
+        absent: Absent::Nothing,
         parser: PORT,
     },
     Valued {
@@ -137,15 +149,23 @@ pub struct Serve<'a> {
     config: &'a str,
     seed: &'a str,
     state: Option<&'a str>,
-    bind: &'a str,
-    auth: u16,
-    acct: u16,
+    generations: u32,
+    bind: Option<&'a str>,
+    auth: Option<u16>,
+    acct: Option<u16>,
     workers: u64,
     rounds: Option<u32>,
     log: Option<&'a str>,
     metrics: Option<&'a str>,
     sessions: Option<&'a str>,
     record: Option<&'a str>,
+}
+
+/// What is to be served, and how many files of its state are kept.
+#[derive(Drop)]
+pub struct Serving {
+    options: Options,
+    generations: u32,
 }
 
 impl<'a> Serve<'a> {
@@ -155,9 +175,10 @@ impl<'a> Serve<'a> {
             config: found.get_str("config")?,
             seed: found.get_str("seed")?,
             state: found.get_str("state"),
-            bind: found.get_str("bind")?,
-            auth: found.get_one::<u16>("auth")?,
-            acct: found.get_one::<u16>("acct")?,
+            generations: found.get_one::<u32>("generations")?,
+            bind: found.get_str("bind"),
+            auth: found.get_one::<u16>("auth"),
+            acct: found.get_one::<u16>("acct"),
             workers: found.get_one::<u64>("workers")?,
             rounds: found.get_one::<u32>("rounds"),
             log: found.get_str("log"),
@@ -167,9 +188,16 @@ impl<'a> Serve<'a> {
         })
     }
 
-    /// What is to be served.
-    pub fn options(&self, alloc: Global) -> Result<Options, Fault> {
-        let Some(address) = address_to_bind(self.bind) else {
+    /// What is to be served, on sockets that the process was given, or others.
+    pub fn serving(&self, alloc: Global, are_held: bool) -> Result<Serving, Fault> {
+        Ok(Serving {
+            options: self.options(alloc, are_held)?,
+            generations: self.generations,
+        })
+    }
+
+    fn options(&self, alloc: Global, are_held: bool) -> Result<Options, Fault> {
+        let Some(sockets) = self.sockets(are_held) else {
             return Err(unfit(alloc, BAD_ADDRESS));
         };
         // `clap` has checked the number already.
@@ -180,12 +208,32 @@ impl<'a> Serve<'a> {
             config: self.config.to_string(alloc)?,
             seed: self.seed.to_string(alloc)?,
             state: text_of(alloc, self.state)?,
-            address,
-            auth: self.auth,
-            acct: self.acct,
+            sockets,
             workers,
             rounds: self.rounds,
             reports: self.reports(alloc)?,
+        })
+    }
+
+    // The sockets, unless the address doesn't fit. Those that the process was given are as these options say, as far as they are there;
+    // any port will do where port 0 is asked for.
+    fn sockets(&self, are_held: bool) -> Option<Sockets> {
+        let address = match self.bind {
+            Some(text) => Some(address_to_bind(text)?),
+            None => None,
+        };
+        Some(if are_held {
+            Sockets::Held(Expected {
+                address,
+                auth: self.auth.filter(|port| *port != 0),
+                acct: self.acct.filter(|port| *port != 0),
+            })
+        } else {
+            Sockets::Bind {
+                address: address.unwrap_or(LOOPBACK),
+                auth: self.auth.unwrap_or(AUTH),
+                acct: self.acct.unwrap_or(ACCT),
+            }
         })
     }
 
@@ -209,20 +257,13 @@ fn address_to_bind(text: &str) -> Option<u32> {
     Some(bits)
 }
 
-fn text_of(alloc: Global, text: Option<&str>) -> Result<Option<String>, AllocError> {
-    match text {
-        Some(text) => Ok(Some(text.to_string(alloc)?)),
-        None => Ok(None),
-    }
-}
-
 /// Serves, and returns the exit status. Only the host opens the files of a state.
 pub fn run_server<R: Files + Net + Clock + Print + Eprint + Threads + Wait + Sync + AllocGlobal>(
     rt: &R,
     host: &HostRuntime,
-    options: &Options,
+    serving: &Serving,
 ) -> ExitCode {
-    match try_serve(rt, host, options) {
+    match try_serve(rt, host, serving) {
         Ok(()) => ExitCode::SUCCESS,
         Err(fault) => report(rt, fault),
     }
@@ -231,30 +272,18 @@ pub fn run_server<R: Files + Net + Clock + Print + Eprint + Threads + Wait + Syn
 fn try_serve<R: Files + Net + Clock + Print + Eprint + Threads + Wait + Sync + AllocGlobal>(
     rt: &R,
     host: &HostRuntime,
-    options: &Options,
+    serving: &Serving,
 ) -> Result<(), Fault> {
+    let options = &serving.options;
     let given = Given::read(rt, options)?;
-    match &options.state {
-        None => Ok(serve(rt, options, given)?),
-        Some(folder) => {
-            let path = format!(in rt.alloc(); "{folder}/{STATE_FILE}")?;
-            serve_file(rt, host, options, given, &path).map_err(|fault| fault.at(path))
-        }
+    let Some(path) = &options.state else {
+        return Ok(serve(rt, options, given)?);
+    };
+    let mut folder = StateFolder::open(host, path)?;
+    match serve_with_state(rt, options, given, &mut folder, serving.generations) {
+        Ok(()) => Ok(()),
+        Err(error) => Err(folder.fault_of(error)),
     }
-}
-
-// Serves with the state in a file and its log.
-fn serve_file<R: Files + Net + Clock + Print + Eprint + Threads + Wait + Sync + AllocGlobal>(
-    rt: &R,
-    host: &HostRuntime,
-    options: &Options,
-    given: Given,
-    path: &str,
-) -> Result<(), StateFault> {
-    let files = open_files(host, path, Unknown)?;
-    let salt = salt(host)?;
-    serve_with_state(rt, options, given, files, salt)?;
-    Ok(())
 }
 
 // An option that doesn't fit, reported as clap reports those that it finds.

@@ -3,23 +3,25 @@ ghost use Rattle.sqlite_trees.specs.View.{IsClean};
 ghost use Rattle.rad_state.specs.Stores.{IsOpened};
 
 use crate::fault::{Fault, StateFault, report};
-use crate::state_files::{open_files, salt};
+use crate::state_files::open_store;
 use rad_auth::Arrival;
 use rad_config::read_configuration;
 use rad_journal::{Journal, Kept, restore};
 use rad_replay::push_datagram_text;
 use rad_serve::ServeError;
-use rad_server::Server;
-use rad_state::{OpenFault, State, read_meta};
+use rad_server::{HashKey, Server};
+use rad_state::{OpenFault, State};
 use rad_text::lines::divide;
-use sqlite_disk::Unknown;
 use sqlite_trees::store::Store;
 use std::alloc::{AllocError, AllocGlobal, Global};
-use std::io::Write;
+use std::io::{self, Write};
 use std::process::ExitCode;
-use std::{fs, io};
 
-/// Writes the entries of a state that nobody has open as a transcript, and returns the exit status.
+/// What a transcript says of a generation that begins with sessions, replies or challenges, or after some.
+const SNAPSHOT: &[u8] =
+    b"# This generation begins with a snapshot, which no transcript has: a replay may answer otherwise.\n";
+
+/// Writes the entries of a generation that nobody has open as a transcript, and returns the exit status.
 ///
 /// Each is answered again first, and its answer compared with the one that was kept.
 pub fn run_transcript<R: Print + Eprint + AllocGlobal>(
@@ -38,13 +40,7 @@ fn write_file<R: Print + AllocGlobal>(
     host: &HostRuntime,
     path: &str,
 ) -> Result<(), StateFault> {
-    // A file that is missing or empty would be made a state.
-    if fs::metadata(host, path)?.len() == 0 {
-        return Err(StateFault::from(ServeError::State(OpenFault::Damaged)));
-    }
-    let files = open_files(host, path, Unknown)?;
-    let salt = salt(host)?;
-    let store = rad_state::open_files(rt.alloc(), files, salt)?;
+    let store = open_store(host, path)?;
     write_transcript(rt.alloc(), store, &mut io::writer(rt))
 }
 
@@ -55,31 +51,35 @@ fn write_transcript<S: Store + Drop, W: Write>(
 ) -> Result<(), StateFault>
     requires { IsClean (S.view store) → IsOpened (S.view store) }
 {
-    let mut store = store;
-    let Some(meta) = read_meta(alloc, &mut store)? else {
-        return Err(StateFault::from(ServeError::State(OpenFault::Damaged)));
-    };
-    let text = meta.configuration.octets();
-    if divide(text).is_some() {
+    let state = State::open(alloc, store)?;
+    let text = text_of(alloc, &state)?;
+    if divide(&text).is_some() {
         return Err(StateFault::Divided);
     }
-    let mut journal = State::open(alloc, store, text)?.into_journal(alloc)?;
-    answer_again(alloc, &mut journal, text)?;
-    write(writer, text)?;
+    let config = read_configuration(alloc, &text).map_err(ServeError::OtherConfig)?;
+    let (mut server, mut journal) = state.into_parts(alloc, &config, HashKey::KNOWN)?;
+    let is_first = has_nothing(&server);
+    restore(alloc, &mut journal, &mut server).map_err(ServeError::Restore)?;
+    write(writer, &text)?;
     write(writer, b"\n---\n")?;
+    if !is_first {
+        write(writer, SNAPSHOT)?;
+    }
     write_entries(alloc, &mut journal, writer)
 }
 
-// Answers the entries of a journal again, under a configuration.
-fn answer_again<J: Journal>(
-    alloc: Global,
-    journal: &mut J,
-    configuration: &[u8],
-) -> Result<(), StateFault> {
-    let config = read_configuration(alloc, configuration).map_err(ServeError::Config)?;
-    let mut server = Server::open(alloc, &config).map_err(ServeError::from)?;
-    restore(alloc, journal, &mut server).map_err(ServeError::Restore)?;
-    Ok(())
+// The text of the configuration of a state.
+fn text_of<S: Store + Drop>(alloc: Global, state: &State<S>) -> Result<Vec<u8>, StateFault> {
+    match state.found() {
+        Some(meta) => Ok(Vec::from_slice(alloc, meta.configuration.octets())?),
+        None => Err(StateFault::from(OpenFault::Damaged)),
+    }
+}
+
+// Whether a server answers as one that has just opened.
+fn has_nothing(server: &Server) -> bool {
+    let mut replies = server.recent().rows();
+    server.sessions().last() == 0 && server.challenges().last() == 0 && replies.next().is_none()
 }
 
 fn write_entries<J: Journal, W: Write>(

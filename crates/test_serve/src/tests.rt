@@ -5,6 +5,7 @@ mod lives;
 mod ports;
 mod rounds;
 mod serving;
+mod shelf;
 
 use std::process::Abort;
 

@@ -1,68 +1,58 @@
 //! Calls of `rad_carry`.
 use crate::servers::busy;
 use crate::trial::{Called, HASH_KEY, Trial, Verdict, are_alike, judge, keep};
-use rad_carry::{Carried, Network, carry_by, network_places};
+use rad_carry::{Carried, carry};
 use rad_config::Config;
 use rad_server::Server;
 use std::alloc::Global;
-use test_common::{CAMPUS, CLIENT, SECOND_CLIENT};
+use test_common::CAMPUS;
 
-#[derive(Clone, Copy)]
-pub(crate) enum Call {
-    CarryBy,
-    NetworkPlaces,
-}
+/// The first client alone, and one user.
+const HALVED: &str = r#"
+[[client]]
+address = "192.168.1.16"
+secret = "xyzzy5461"
 
-/// The networks of both clients.
-const NETWORKS: &[Network] = &[FIRST, SECOND];
+[[pool]]
+name = "one"
+first = "10.0.0.1"
+last = "10.0.0.1"
 
-const FIRST: Network = Network {
-    address: CLIENT,
-    prefix: 32,
-};
+[[user]]
+name = "nemo"
+password = "arctangent"
+pool = "one"
+"#;
 
-const SECOND: Network = Network {
-    address: SECOND_CLIENT,
-    prefix: 32,
-};
-
-/// The new places of both clients: the second one is gone.
-const PLACES: &[Option<u32>] = &[Some(0), None];
-
-pub(crate) fn judge_call(alloc: Global, call: Call) -> Verdict {
-    match call {
-        Call::CarryBy => judge_carry(alloc),
-        Call::NetworkPlaces => judge(alloc, Some(PlacesTrial { alloc, given: None })),
+pub(crate) fn judge_carry(alloc: Global) -> Verdict {
+    match (Config::read(alloc, CAMPUS), Config::read(alloc, HALVED)) {
+        (Ok(old), Ok(new)) => judge_between(alloc, &old, &new),
+        _ => Verdict::Unready,
     }
 }
 
-fn judge_carry(alloc: Global) -> Verdict {
-    match Config::read(alloc, CAMPUS) {
-        Ok(config) => judge_over(alloc, &config),
-        Err(_) => Verdict::Unready,
-    }
-}
-
-fn judge_over(alloc: Global, config: &Config) -> Verdict {
-    match busy(alloc, config) {
-        Some(server) => judge(alloc, Some(CarryTrial::new(alloc, &server))),
+fn judge_between(alloc: Global, old: &Config, new: &Config) -> Verdict {
+    match busy(alloc, old) {
+        Some(server) => judge(alloc, Some(CarryTrial::new(alloc, &server, new))),
         None => Verdict::Unready,
     }
 }
 
-/// A server is carried to its own configuration, but for the rows of its second client.
+/// A server is carried to a configuration that has one of its clients and one of its users.
 #[derive(Drop)]
 struct CarryTrial<'s> {
     alloc: Global,
     server: &'s Server<'s>,
+    config: &'s Config,
     given: Option<Carried<'s>>,
 }
 
 impl<'s> CarryTrial<'s> {
-    fn new(alloc: Global, server: &'s Server<'s>) -> CarryTrial<'s> {
+    fn new(alloc: Global, server: &'s Server<'s>, config: &'s Config) -> CarryTrial<'s> {
         CarryTrial {
             alloc,
             server,
+            config,
             given: None,
         }
     }
@@ -74,7 +64,7 @@ fn are_same(one: &Carried, other: &Carried) -> bool {
 
 impl<'s> Trial for CarryTrial<'s> {
     fn copy(&self) -> Option<CarryTrial<'s>> {
-        Some(CarryTrial::new(self.alloc, self.server))
+        Some(CarryTrial::new(self.alloc, self.server, self.config))
     }
 
     fn is_like(&self, other: &CarryTrial) -> bool {
@@ -82,37 +72,7 @@ impl<'s> Trial for CarryTrial<'s> {
     }
 
     fn call(&mut self) -> Called {
-        let config = self.server.config();
-        let carried = carry_by(self.alloc, self.server, config, HASH_KEY, PLACES);
+        let carried = carry(self.alloc, self.server, self.config, HASH_KEY);
         keep(&mut self.given, carried)
-    }
-}
-
-/// The places of both networks among the first one alone.
-#[derive(Drop)]
-struct PlacesTrial {
-    alloc: Global,
-    given: Option<Vec<Option<u32>>>,
-}
-
-impl Trial for PlacesTrial {
-    fn copy(&self) -> Option<PlacesTrial> {
-        Some(PlacesTrial {
-            alloc: self.alloc,
-            given: None,
-        })
-    }
-
-    fn is_like(&self, other: &PlacesTrial) -> bool {
-        are_alike(&self.given, &other.given, |one, other| {
-            one.as_slice() == other.as_slice()
-        })
-    }
-
-    fn call(&mut self) -> Called {
-        keep(
-            &mut self.given,
-            network_places(self.alloc, NETWORKS, &[FIRST]),
-        )
     }
 }

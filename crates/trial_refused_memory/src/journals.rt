@@ -50,7 +50,7 @@ fn judge_with_kept(alloc: Global, book: &Book, kept: &[Kept], call: Call) -> Ver
         Call::KeptOf => judge(alloc, KeptTrial::ready(alloc)),
         Call::Keep => judge(alloc, Some(KeepTrial::new(alloc, book, [true, true]))),
         Call::KeepNothing => judge(alloc, Some(KeepTrial::new(alloc, book, [false, false]))),
-        Call::Open => judge_anew(|time| try_open(alloc, kept, time)),
+        Call::Open => judge_anew(|time| try_open(alloc, book.server(), kept, time)),
         Call::Restore => judge_anew(|time| try_restore(alloc, book, kept, time)),
         Call::Entry => judge_anew(|time| try_journal(alloc, kept, false, time)),
         Call::Commit => judge_anew(|time| try_journal(alloc, kept, true, time)),
@@ -144,9 +144,9 @@ impl<'b> Trial for KeepTrial<'b> {
     }
 }
 
-// The journal of a state with these entries is opened.
-fn try_open(alloc: Global, kept: &[Kept], time: Time) -> Verdict {
-    match state_with(alloc, kept) {
+// The journal of a generation with these entries is opened.
+fn try_open(alloc: Global, server: &Server, kept: &[Kept], time: Time) -> Verdict {
+    match state_with(alloc, server, kept) {
         Some(store) => open(alloc, store, kept, time),
         None => Verdict::Unready,
     }
@@ -167,7 +167,10 @@ fn open<S: Store + Drop>(alloc: Global, store: S, kept: &[Kept], time: Time) -> 
 
 /// Whether a journal has these entries, and no more.
 pub(crate) fn has_all<J: Journal>(alloc: Global, journal: &mut J, kept: &[Kept]) -> bool {
-    has_from(alloc, journal, 0, kept) && matches!(journal.entry(alloc, 2), Ok(None))
+    let Ok(count) = u32::try_from(kept.len()) else {
+        return false;
+    };
+    has_from(alloc, journal, 0, kept) && matches!(journal.entry(alloc, count), Ok(None))
 }
 
 // Whether it has these entries from a place on.

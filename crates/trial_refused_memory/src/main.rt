@@ -7,6 +7,7 @@
 mod carrying;
 mod clients;
 mod desks;
+mod generations;
 mod journals;
 mod moments;
 mod packets;
@@ -21,6 +22,7 @@ mod states;
 mod stores;
 mod tables;
 mod trial;
+mod written;
 
 use crate::trial::Verdict;
 use std::alloc::AllocGlobal;
@@ -56,7 +58,7 @@ enum Run {
     /// A call of `rad_state`.
     State(states::Call),
     /// A call of `rad_carry`.
-    Carry(carrying::Call),
+    Carry,
     /// A call of `rad_snapshot`.
     Snapshot(snapshots::Call),
 }
@@ -294,14 +296,13 @@ const RUNS: &[(&str, Run)] = &[
         "Meta::check, without memory",
         Run::State(states::Call::Check),
     ),
-    ("read_meta", Run::State(states::Call::ReadMeta)),
-    ("write_meta", Run::State(states::Call::WriteMeta)),
+    ("write_generation", Run::State(states::Call::Write)),
     ("read_last", Run::State(states::Call::ReadLast)),
     ("State::open", Run::State(states::Call::Open)),
-    ("State::into_journal", Run::State(states::Call::IntoJournal)),
-    ("begin", Run::State(states::Call::Begin)),
-    ("carry_by", Run::Carry(carrying::Call::CarryBy)),
-    ("network_places", Run::Carry(carrying::Call::NetworkPlaces)),
+    ("State::into_parts", Run::State(states::Call::IntoParts)),
+    ("FileGenerations::start", Run::State(states::Call::Start)),
+    ("Generations::begin", Run::State(states::Call::Begin)),
+    ("carry", Run::Carry),
     ("write of a snapshot", Run::Snapshot(snapshots::Call::Write)),
     ("read of a snapshot", Run::Snapshot(snapshots::Call::Read)),
 ];
@@ -319,7 +320,7 @@ fn judge<R: Threads + Wait + Sync + AllocGlobal>(rt: &R, run: Run) -> Verdict {
         Run::Replay(call) => replays::judge_call(rt.alloc(), call),
         Run::Journal(call) => journals::judge_call(rt.alloc(), call),
         Run::State(call) => states::judge_call(rt.alloc(), call),
-        Run::Carry(call) => carrying::judge_call(rt.alloc(), call),
+        Run::Carry => carrying::judge_carry(rt.alloc()),
         Run::Snapshot(call) => snapshots::judge_call(rt.alloc(), call),
     }
 }

@@ -1,5 +1,5 @@
 //! Calls on a server and a book, and on what they give.
-ghost use Rattle.std.specs.Prelude.{◌≤◌};
+ghost use Rattle.std.specs.Prelude.{◌≡◌, ◌≤◌, IfSome};
 ghost use Rattle.rad_config.specs.Spans.{moment_max};
 
 use crate::moments::{ROWS, moment_at};
@@ -117,6 +117,7 @@ fn make_ready(server: &mut Server, call: Call) -> bool {
 
 fn answers(server: &mut Server, sent: Sent, moment: u64) -> bool
     requires { moment ≤ moment_max }
+    ensures { server.new.configuration ≡ server.old.configuration }
 {
     matches!(step(server, sent, moment), Some(Ok(_)))
 }
@@ -132,16 +133,18 @@ fn answers_each(server: &mut Server, sent: Sent) -> bool {
 }
 
 /// A server with a session of each client, a challenge and two kept replies.
-pub(crate) fn busy<'c>(alloc: Global, config: &'c Config) -> Option<Server<'c>> {
-    let mut server = Server::open(alloc, config).ok()?;
+pub(crate) fn busy<'c>(alloc: Global, config: &'c Config) -> Option<Server<'c>>
+    ensures { IfSome result (λ server. server.configuration ≡ config.now) }
+{
+    let Ok(mut server) = Server::open(alloc, config) else {
+        return None;
+    };
     let row = session_of_second(config);
-    if answers(&mut server, NEMO, 0)
-        && answers(&mut server, KAY, 0)
-        && server.restore(StateRow::Session(row)).is_ok()
-    {
-        return Some(server);
+    if !answers(&mut server, NEMO, 0) || !answers(&mut server, KAY, 0) {
+        return None;
     }
-    None
+    server.restore(StateRow::Session(row)).ok()?;
+    Some(server)
 }
 
 // The session of bruce, whom the second client asked about.
@@ -161,6 +164,7 @@ fn session_of_second(config: &Config) -> Session {
 // None: the datagram isn't admitted.
 fn step(server: &mut Server, sent: Sent, moment: u64) -> Option<Result<Answer, AllocError>>
     requires { moment ≤ moment_max }
+    ensures { server.new.configuration ≡ server.old.configuration }
 {
     let request = admit(server.config().clients(), sent)?;
     Some(server.step(&request, moment, DRAW))

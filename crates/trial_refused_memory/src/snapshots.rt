@@ -1,18 +1,13 @@
 //! Calls of `rad_snapshot` on a store in memory.
-ghost use Rattle.std.specs.Prelude.{IfOk, IsTrue};
-ghost use Rattle.sqlite_trees.specs.Memory.{memory_view};
-ghost use Rattle.rad_snapshot.specs.Snapshots.{AreEmpty, HasTables};
-
 use crate::servers::busy;
+use crate::stores::{blank, has_tables, state_with};
 use crate::trial::{HASH_KEY, Time, Verdict, judge_anew};
 use rad_config::Config;
 use rad_journal::JournalFault;
 use rad_server::Server;
 use rad_snapshot::{SnapshotFault, read, write};
-use sqlite_trees::memory::MemStore;
-use sqlite_trees::schema::Object;
-use sqlite_trees::store::{Shape, Store};
-use std::alloc::{AllocError, Global};
+use sqlite_trees::store::Store;
+use std::alloc::Global;
 use test_common::CAMPUS;
 
 #[derive(Clone, Copy)]
@@ -62,9 +57,9 @@ fn try_write(alloc: Global, server: &Server, time: Time) -> Verdict {
 }
 
 fn try_read(alloc: Global, server: &Server, time: Time) -> Verdict {
-    match written(alloc, server) {
-        Ok(mut store) => judge_read(alloc, &mut store, server, time),
-        Err(_) => Verdict::Unready,
+    match state_with(alloc, server, &[]) {
+        Some(mut store) => judge_read(alloc, &mut store, server, time),
+        None => Verdict::Unready,
     }
 }
 
@@ -81,52 +76,4 @@ fn judge_read<S: Store>(alloc: Global, store: &mut S, server: &Server, time: Tim
         Err(SnapshotFault::NoMemory) => Verdict::Refused,
         Err(_) => Verdict::Fault,
     }
-}
-
-// A store with the snapshot of a server.
-fn written(alloc: Global, server: &Server) -> Result<MemStore, JournalFault> {
-    let mut store = blank(alloc)?;
-    if !has_tables(&store) {
-        return Err(JournalFault::Damaged);
-    }
-    write(alloc, &mut store, server)?;
-    store.commit()?;
-    Ok(store)
-}
-
-// A store that was just made: two tables of others, and the four of a snapshot.
-fn blank(alloc: Global) -> Result<MemStore, AllocError>
-    ensures { IfOk result (λ store. AreEmpty (memory_view store).trees) }
-{
-    let tables = [
-        table("exchange"),
-        table("meta"),
-        table("session"),
-        table("reply"),
-        table("challenge"),
-        table("snapshot"),
-    ];
-    let store = MemStore::new(alloc, &tables)?;
-    Ok(store)
-}
-
-fn table(name: &'static str) -> Object<'static> {
-    Object {
-        shape: Shape::Table,
-        kind: "table",
-        name,
-        table: name,
-        reals: 0,
-        sql: None,
-    }
-}
-
-// Whether a store has the four tables.
-fn has_tables<S: Store>(store: &S) -> bool
-    ensures { IsTrue result → HasTables (S.view store.now) }
-{
-    store.shape(2) == Shape::Table
-        && store.shape(3) == Shape::Table
-        && store.shape(4) == Shape::Table
-        && store.shape(5) == Shape::Table
 }

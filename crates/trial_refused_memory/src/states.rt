@@ -1,14 +1,15 @@
 //! Calls of `rad_state` on a store in memory.
-ghost use Rattle.std.specs.Prelude.{IsSome, IsTrue};
+ghost use Rattle.std.specs.Prelude.{◌≡◌, Ok};
 ghost use Rattle.sqlite_trees.specs.View.{IsClean};
-ghost use Rattle.rad_state.specs.Stores.{IsOpened};
+ghost use Rattle.rad_config.specs.Configurations.{configuration_of_octets};
+ghost use Rattle.rad_state.specs.Stores.{IsBlank, IsOpened};
 
-use crate::journals::has_all;
-use crate::stores::{LAST_MOMENT, TEXT, WALL, kept_of, meta, state_with, two_exchanges};
-use crate::trial::{Time, Verdict, begin, end, judge_anew};
-use rad_config::Config;
-use rad_journal::{Kept, StoreJournal};
-use rad_state::{Last, Meta, OpenFault, State, read_last, read_meta, write_meta};
+use crate::generations::{try_begin, try_start};
+use crate::stores::{LAST_MOMENT, WALL, blank, state_with};
+use crate::trial::{HASH_KEY, Time, Verdict, begin, end, judge_anew};
+use crate::written::{Written, are_parts, has_generation, is_meta, judge_ended};
+use rad_config::{Config, read_configuration};
+use rad_state::{Last, Meta, OpenFault, State, read_last, write_generation};
 use sqlite_trees::store::Store;
 use std::alloc::Global;
 use test_common::CAMPUS;
@@ -16,47 +17,79 @@ use test_common::CAMPUS;
 #[derive(Clone, Copy)]
 pub(crate) enum Call {
     Check,
-    ReadMeta,
-    WriteMeta,
+    Write,
     ReadLast,
     Open,
-    IntoJournal,
+    IntoParts,
+    Start,
     Begin,
 }
 
 pub(crate) fn judge_call(alloc: Global, call: Call) -> Verdict {
-    match (Config::read(alloc, CAMPUS), meta(alloc)) {
-        (Ok(config), Ok(meta)) => judge_over(alloc, &config, &meta, call),
-        _ => Verdict::Unready,
+    judge_under(alloc, CAMPUS.as_bytes(), call)
+}
+
+fn judge_under(alloc: Global, text: &[u8], call: Call) -> Verdict {
+    match read_configuration(alloc, text) {
+        Ok(config) => judge_over(alloc, text, &config, call),
+        Err(_) => Verdict::Unready,
     }
 }
 
-fn judge_over(alloc: Global, config: &Config, meta: &Meta, call: Call) -> Verdict {
-    if matches!(call, Call::Check) {
-        return judge_check(alloc, meta);
-    }
-    match kept(alloc, config) {
-        Some(kept) => judge_anew(|time| try_call(alloc, meta, &kept, call, time)),
+fn judge_over(alloc: Global, text: &[u8], config: &Config, call: Call) -> Verdict
+    requires { configuration_of_octets text.now ≡ Ok config.now }
+{
+    match Written::ready(alloc, text, config) {
+        Some(written) => judge_with(alloc, &written, call),
         None => Verdict::Unready,
+    }
+}
+
+fn judge_with(alloc: Global, written: &Written, call: Call) -> Verdict {
+    match call {
+        Call::Check => judge_check(alloc, &written.meta),
+        Call::Write => judge_anew(|time| try_write(alloc, written, time)),
+        Call::Start => judge_anew(|time| try_start(alloc, written, time)),
+        Call::Begin => judge_anew(|time| try_begin(alloc, written, time)),
+        _ => judge_anew(|time| try_on_state(alloc, written, call, time)),
     }
 }
 
 fn judge_check(alloc: Global, meta: &Meta) -> Verdict {
     begin(alloc);
-    let checked = meta.check(TEXT);
+    let checked = meta.check(true);
     end(alloc);
     Verdict::of(checked.is_ok())
 }
 
-fn kept(alloc: Global, config: &Config) -> Option<Vec<Kept>> {
-    let book = two_exchanges(alloc, config)?;
-    kept_of(alloc, &book)
+// A generation is written into a new store.
+fn try_write(alloc: Global, written: &Written, time: Time) -> Verdict {
+    match blank(alloc) {
+        Ok(store) => judge_ended(write(alloc, store, written, time)),
+        Err(_) => Verdict::Unready,
+    }
 }
 
-// A call on the store of a state with a meta and these entries, which it uses up.
-fn try_call(alloc: Global, meta: &Meta, kept: &[Kept], call: Call, time: Time) -> Verdict {
-    match state_with(alloc, kept) {
-        Some(store) => call_on(alloc, store, meta, kept, call, time),
+// Whether it is in the store then, with no entry.
+fn write<S: Store + Drop>(
+    alloc: Global,
+    mut store: S,
+    written: &Written,
+    time: Time,
+) -> Result<bool, OpenFault>
+    requires { IsClean (S.view store) → IsBlank (S.view store) }
+{
+    time.begin(alloc);
+    let ended = write_generation(alloc, &mut store, &written.meta, &written.server);
+    time.end(alloc);
+    ended?;
+    has_generation(alloc, store, written, &[])
+}
+
+// A call on the store of a generation, which it uses up.
+fn try_on_state(alloc: Global, written: &Written, call: Call, time: Time) -> Verdict {
+    match state_with(alloc, &written.server, &written.kept) {
+        Some(store) => judge_ended(call_on(alloc, store, written, call, time)),
         None => Verdict::Unready,
     }
 }
@@ -64,72 +97,17 @@ fn try_call(alloc: Global, meta: &Meta, kept: &[Kept], call: Call, time: Time) -
 fn call_on<S: Store + Drop>(
     alloc: Global,
     store: S,
-    meta: &Meta,
-    kept: &[Kept],
+    written: &Written,
     call: Call,
     time: Time,
-) -> Verdict
+) -> Result<bool, OpenFault>
     requires { IsClean (S.view store) → IsOpened (S.view store) }
 {
-    let ended = match call {
-        Call::Check => Ok(false),
-        Call::ReadMeta => read(alloc, store, meta, time),
-        Call::WriteMeta => write(alloc, store, meta, time),
+    match call {
         Call::ReadLast => read_times(alloc, store, time),
-        Call::Open => open(alloc, store, meta, time),
-        Call::IntoJournal => open_journal(alloc, store, kept, time),
-        Call::Begin => begin_life(alloc, store, meta, kept, time),
-    };
-    match ended {
-        Ok(is_right) => Verdict::of(is_right),
-        Err(OpenFault::NoMemory) => Verdict::Refused,
-        Err(_) => Verdict::Fault,
+        Call::IntoParts => part(alloc, store, written, time),
+        _ => open(alloc, store, &written.meta, time),
     }
-}
-
-// Whether this meta is read.
-fn read<S: Store + Drop>(
-    alloc: Global,
-    mut store: S,
-    meta: &Meta,
-    time: Time,
-) -> Result<bool, OpenFault>
-    requires { IsClean (S.view store) → IsOpened (S.view store) }
-{
-    time.begin(alloc);
-    let found = read_meta(alloc, &mut store);
-    time.end(alloc);
-    Ok(are_same(found?.as_ref(), meta))
-}
-
-fn are_same(found: Option<&Meta>, meta: &Meta) -> bool {
-    match found {
-        Some(found) => {
-            found.format == meta.format
-                && found.rules == meta.rules
-                && found.configuration.octets() == meta.configuration.octets()
-                && found.boot == meta.boot
-                && found.zero == meta.zero
-        }
-        None => false,
-    }
-}
-
-// Whether the meta is written.
-fn write<S: Store + Drop>(
-    alloc: Global,
-    mut store: S,
-    meta: &Meta,
-    time: Time,
-) -> Result<bool, OpenFault>
-    requires { IsClean (S.view store) → IsOpened (S.view store) }
-{
-    let _before = read_meta(alloc, &mut store)?;
-    time.begin(alloc);
-    let written = write_meta(alloc, &mut store, meta);
-    time.end(alloc);
-    written?;
-    Ok(true)
 }
 
 // Whether the times of the last entry are read.
@@ -159,54 +137,25 @@ fn open<S: Store + Drop>(
     requires { IsClean (S.view store) → IsOpened (S.view store) }
 {
     time.begin(alloc);
-    let state = State::open(alloc, store, TEXT);
+    let state = State::open(alloc, store);
     time.end(alloc);
     let state = state?;
-    Ok(are_same(state.found(), meta) && is_last(state.last()))
+    Ok(is_meta(state.found(), meta) && is_last(state.last()))
 }
 
-// Whether the state's journal is opened, with these entries.
-fn open_journal<S: Store + Drop>(
+// Whether the state has the server at which the generation begins, and its entries.
+fn part<S: Store + Drop>(
     alloc: Global,
     store: S,
-    kept: &[Kept],
+    written: &Written,
     time: Time,
 ) -> Result<bool, OpenFault>
     requires { IsClean (S.view store) → IsOpened (S.view store) }
 {
-    let state = State::open(alloc, store, TEXT)?;
+    let state = State::open(alloc, store)?;
     time.begin(alloc);
-    let journal = state.into_journal(alloc);
+    let parts = state.into_parts(alloc, written.server.config(), HASH_KEY);
     time.end(alloc);
-    Ok(has_all(alloc, &mut journal?, kept))
-}
-
-// Whether a life is begun over the state's journal, which has these entries then.
-fn begin_life<S: Store + Drop>(
-    alloc: Global,
-    store: S,
-    meta: &Meta,
-    kept: &[Kept],
-    time: Time,
-) -> Result<bool, OpenFault>
-    requires { IsClean (S.view store) → IsOpened (S.view store) }
-{
-    let journal = State::open(alloc, store, TEXT)?.into_journal(alloc)?;
-    begin_over(alloc, journal, meta, kept, time)
-}
-
-fn begin_over<S: Store + Drop>(
-    alloc: Global,
-    journal: StoreJournal<S>,
-    meta: &Meta,
-    kept: &[Kept],
-    time: Time,
-) -> Result<bool, OpenFault>
-    requires { IsClean (S.view journal.store)
-        → IsTrue (S.view journal.store).is_open × IsSome journal.count }
-{
-    time.begin(alloc);
-    let begun = rad_state::begin(alloc, journal, meta);
-    time.end(alloc);
-    Ok(has_all(alloc, &mut begun?, kept))
+    let (server, mut journal) = parts?;
+    Ok(are_parts(alloc, &server, &mut journal, &written.server, &written.kept))
 }

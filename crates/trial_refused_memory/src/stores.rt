@@ -1,53 +1,32 @@
-//! Stores in memory with the tables of a state, and what two exchanges leave there.
-ghost use Rattle.std.specs.Prelude.{◌≡◌, ◌≤◌, IfOk, IfSome, IsSome, IsTrue, OnSome};
+//! Stores in memory with the tables of a generation, and what two exchanges leave there.
+ghost use Rattle.std.specs.Prelude.{◌≡◌, ◌≤◌, true, IfOk, IfSome, IsSome, IsTrue, OnSome};
 ghost use Rattle.sqlite_trees.specs.Memory.{memory_view};
 ghost use Rattle.sqlite_trees.specs.View.{IsClean};
 ghost use Rattle.sqlite_trees.specs.declared.store.Shape.TheVariants.{Table};
 ghost use Rattle.rad_config.specs.Spans.{moment_max};
 ghost use Rattle.rad_journal.specs.Stores.{IsFresh};
+ghost use Rattle.rad_snapshot.specs.Snapshots.{AreEmpty, HasTables};
+ghost use Rattle.rad_state.specs.Fits.{Fits};
 ghost use Rattle.rad_state.specs.Metas.{meta_table};
-ghost use Rattle.rad_state.specs.Stores.{IsOpened};
+ghost use Rattle.rad_state.specs.Stores.{IsBlank, IsOpened};
 
 use crate::requests::{NEMO, START, Sent, admit};
 use rad_config::Config;
 use rad_journal::{Journal, Kept, StoreJournal};
 use rad_packet::Octets;
 use rad_server::{Book, Server};
-use rad_state::{FORMAT, Meta, RULES};
+use rad_state::{FORMAT, Meta, RULES, write_generation};
 use sqlite_trees::memory::MemStore;
 use sqlite_trees::schema::Object;
 use sqlite_trees::store::{Shape, Store};
 use std::alloc::{AllocError, Global};
-use test_common::DRAW;
+use test_common::{CAMPUS, DRAW};
 
 /// The wall time of the exchanges, in milliseconds since 1970.
 pub(crate) const WALL: u64 = 1_700_000_000_000;
 
 /// The moment of the last exchange, in milliseconds.
 pub(crate) const LAST_MOMENT: u64 = 5000;
-
-/// The text of the configuration in a meta.
-pub(crate) const TEXT: &[u8] = b"window = 30\n";
-
-/// The table of the journal.
-const EXCHANGE: Object<'static> = Object {
-    shape: Shape::Table,
-    kind: "table",
-    name: "exchange",
-    table: "exchange",
-    reals: 0,
-    sql: Some("CREATE TABLE exchange(a, b, c, d, e, f, g, h)"),
-};
-
-/// The table of the meta.
-const META: Object<'static> = Object {
-    shape: Shape::Table,
-    kind: "table",
-    name: "meta",
-    table: "meta",
-    reals: 0,
-    sql: Some("CREATE TABLE meta(a, b, c, d, e)"),
-};
 
 /// A book with nemo's log-in and a Start.
 pub(crate) fn two_exchanges<'c>(alloc: Global, config: &'c Config) -> Option<Book<'c>> {
@@ -87,31 +66,68 @@ pub(crate) fn are_same(one: &Kept, other: &Kept) -> bool {
         && one.answer.octets() == other.answer.octets()
 }
 
-/// A meta of the program's numbers.
-pub(crate) fn meta(alloc: Global) -> Result<Meta, AllocError> {
+/// A meta of the program's numbers, with this text of a configuration.
+pub(crate) fn meta(alloc: Global, text: &[u8]) -> Result<Meta, AllocError>
+    ensures fits { IfOk result (λ meta. Fits meta true) }
+    ensures configuration { IfOk result (λ meta. meta.configuration ≡ text.now) }
+{
     Ok(Meta {
         format: FORMAT,
         rules: RULES,
-        configuration: Octets::of(alloc, TEXT)?,
+        configuration: Octets::of(alloc, text)?,
         boot: [9; 16],
         zero: -5000,
+        wall: WALL as i64,
     })
 }
 
-/// A store that was just made.
-fn blank(alloc: Global) -> Result<MemStore, AllocError>
-    ensures { IfOk result (λ store. IsOpened (memory_view store)) }
+/// A store that was just made: the six tables of a generation, with no row.
+pub(crate) fn blank(alloc: Global) -> Result<MemStore, AllocError>
+    ensures blank { IfOk result (λ store. IsBlank (memory_view store)) }
+    ensures empty { IfOk result (λ store. AreEmpty (memory_view store).trees) }
 {
-    let store = MemStore::new(alloc, &[EXCHANGE, META])?;
+    let tables = [
+        table("exchange"),
+        table("meta"),
+        table("session"),
+        table("reply"),
+        table("challenge"),
+        table("snapshot"),
+    ];
+    let store = MemStore::new(alloc, &tables)?;
     Ok(store)
 }
 
-/// The store, if its second tree is a table.
-fn with_meta<S: Store + Drop>(store: S) -> Option<S>
+fn table(name: &'static str) -> Object<'static>
+    ensures { result.shape ≡ Table }
+{
+    Object {
+        shape: Shape::Table,
+        kind: "table",
+        name,
+        table: name,
+        reals: 0,
+        sql: None,
+    }
+}
+
+/// Whether a store has the four tables of a snapshot.
+pub(crate) fn has_tables<S: Store>(store: &S) -> bool
+    ensures { IsTrue result → HasTables (S.view store.now) }
+{
+    store.shape(2) == Shape::Table
+        && store.shape(3) == Shape::Table
+        && store.shape(4) == Shape::Table
+        && store.shape(5) == Shape::Table
+}
+
+/// The store, if it has the table of a meta and those of a snapshot.
+pub(crate) fn with_tables<S: Store + Drop>(store: S) -> Option<S>
     ensures same { IfSome result (λ it. it ≡ store) }
     ensures meta { OnSome result ((S.view store).shape meta_table ≡ Table) }
+    ensures snapshot { OnSome result (HasTables (S.view store)) }
 {
-    if store.shape(1) != Shape::Table {
+    if store.shape(1) != Shape::Table || !has_tables(&store) {
         return None;
     }
     Some(store)
@@ -128,27 +144,27 @@ fn journal_with<S: Store + Drop>(alloc: Global, store: S, kept: &[Kept]) -> Opti
     Some(journal)
 }
 
-// A store that was just opened, in which a life has begun and kept these entries.
-fn begun<S: Store + Drop>(alloc: Global, store: S, kept: &[Kept]) -> Option<S>
-    requires { IsClean (S.view store) → IsOpened (S.view store) }
+// A blank store, in which a generation has begun at a server and kept these entries.
+fn begun<S: Store + Drop>(alloc: Global, mut store: S, server: &Server, kept: &[Kept]) -> Option<S>
+    requires { IsClean (S.view store) → IsBlank (S.view store) }
     ensures { IfSome result (λ it. IsClean (S.view it) → IsOpened (S.view it)) }
 {
+    let meta = meta(alloc, CAMPUS.as_bytes()).ok()?;
+    write_generation(alloc, &mut store, &meta, server).ok()?;
     let journal = journal_with(alloc, store, kept)?;
-    let meta = meta(alloc).ok()?;
-    let journal = rad_state::begin(alloc, journal, &meta).ok()?;
     let (store, _count) = journal.into_store()?;
-    with_meta(store)
+    with_tables(store)
 }
 
-/// The store of a state with a meta and these entries.
-pub(crate) fn state_with(alloc: Global, kept: &[Kept]) -> Option<MemStore>
+/// The store of a generation that begins at a server and has these entries.
+pub(crate) fn state_with(alloc: Global, server: &Server, kept: &[Kept]) -> Option<MemStore>
     ensures { IfSome result (λ store.
         IsClean (memory_view store) → IsOpened (memory_view store)) }
 {
-    begun(alloc, blank(alloc).ok()?, kept)
+    begun(alloc, blank(alloc).ok()?, server, kept)
 }
 
-/// Its journal.
+/// The journal of a store without a generation, with these entries.
 pub(crate) fn open_journal(alloc: Global, kept: &[Kept]) -> Option<StoreJournal<MemStore>> {
     journal_with(alloc, blank(alloc).ok()?, kept)
 }

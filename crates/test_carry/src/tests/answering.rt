@@ -1,8 +1,8 @@
 //! A server answers on after it is carried.
 use super::configurations::*;
 use super::holds;
-use rad_auth::{Arrival, CLIENTS_MAX, Door};
-use rad_carry::{Carried, carry_by, network_places};
+use rad_auth::{Arrival, Door};
+use rad_carry::{Carried, carry};
 use rad_config::Config;
 use rad_packet::Body;
 use rad_pool::Phase;
@@ -36,7 +36,6 @@ fn ask(server: &mut Server, door: Door, octets: &[u8], moment: u32) -> Option<Bo
 // Clients and users in another order.
 const TURNED: Text = Text {
     clients: SWAPPED_CLIENTS,
-    networks: &[CAMPUS, FIRST],
     users: TURNED_USERS,
     ..OLD
 };
@@ -78,40 +77,27 @@ fn a_number_is_not_given_again(rt: HostRuntime) -> Result<(), Fail> {
 
 fn answers_on(alloc: Global, text: Text, fate: Fate) -> bool {
     match (OLD.config(alloc), text.config(alloc)) {
-        (Some(old), Some(new)) => answers_on_in(alloc, &old, &new, text, fate),
+        (Some(old), Some(new)) => answers_on_in(alloc, &old, &new, fate),
         _ => false,
     }
 }
 
 // nemo logs in at the old server.
-fn answers_on_in(alloc: Global, old: &Config, new: &Config, text: Text, fate: Fate) -> bool {
+fn answers_on_in(alloc: Global, old: &Config, new: &Config, fate: Fate) -> bool {
     let Ok(mut server) = Server::open(alloc, old) else {
         return false;
     };
     match ask(&mut server, Door::Auth, RFC_REQUEST, 1_000) {
-        Some(body) => answers_on_from(alloc, &server, new, text, &body, fate),
+        Some(body) => answers_on_from(alloc, &server, new, &body, fate),
         None => false,
     }
 }
 
-fn answers_on_from(
-    alloc: Global,
-    server: &Server,
-    new: &Config,
-    text: Text,
-    body: &Body,
-    fate: Fate,
-) -> bool {
-    match carried(alloc, server, new, text) {
-        Some(mut carried) => goes_on(&mut carried.server, body, fate),
-        None => false,
+fn answers_on_from(alloc: Global, server: &Server, new: &Config, body: &Body, fate: Fate) -> bool {
+    match carry(alloc, server, new, HashKey::KNOWN) {
+        Ok(mut carried) => goes_on(&mut carried.server, body, fate),
+        Err(_) => false,
     }
-}
-
-fn carried<'n>(alloc: Global, server: &Server, new: &'n Config, text: Text) -> Option<Carried<'n>> {
-    let count = text.networks.len().min(CLIENTS_MAX);
-    let clients = network_places(alloc, OLD.networks, &text.networks[..count]).ok()?;
-    carry_by(alloc, server, new, HashKey::KNOWN, &clients).ok()
 }
 
 fn goes_on(server: &mut Server, body: &Body, fate: Fate) -> bool {

@@ -2,8 +2,7 @@
 use super::configurations::*;
 use super::holds;
 use super::planting::{CLOCK, LAST_CHALLENGE, LAST_SESSION, planted};
-use rad_auth::CLIENTS_MAX;
-use rad_carry::{Carried, carry_by, network_places};
+use rad_carry::{Carried, carry};
 use rad_config::Config;
 use rad_pool::{Session, Sessions};
 use rad_recent::{Challenges, Recent};
@@ -37,36 +36,23 @@ fn carries(alloc: Global, text: Text, wanted: Wanted) -> bool {
 // The same of so many challenges.
 fn carries_of(alloc: Global, text: Text, challenges: u64, wanted: Wanted) -> bool {
     match (OLD.config(alloc), text.config(alloc)) {
-        (Some(old), Some(new)) => carries_to(alloc, &old, &new, text, challenges, wanted),
+        (Some(old), Some(new)) => carries_to(alloc, &old, &new, challenges, wanted),
         _ => false,
     }
 }
 
-fn carries_to(
-    alloc: Global,
-    old: &Config,
-    new: &Config,
-    text: Text,
-    challenges: u64,
-    wanted: Wanted,
-) -> bool {
+fn carries_to(alloc: Global, old: &Config, new: &Config, challenges: u64, wanted: Wanted) -> bool {
     match planted(alloc, old, challenges) {
-        Some(server) => carries_from(alloc, &server, new, text, wanted),
+        Some(server) => carries_from(alloc, &server, new, wanted),
         None => false,
     }
 }
 
-fn carries_from(alloc: Global, server: &Server, new: &Config, text: Text, wanted: Wanted) -> bool {
-    match carried(alloc, server, new, text) {
-        Some(carried) => is_wanted(&carried, wanted),
-        None => false,
+fn carries_from(alloc: Global, server: &Server, new: &Config, wanted: Wanted) -> bool {
+    match carry(alloc, server, new, HashKey::KNOWN) {
+        Ok(carried) => is_wanted(&carried, wanted),
+        Err(_) => false,
     }
-}
-
-fn carried<'n>(alloc: Global, server: &Server, new: &'n Config, text: Text) -> Option<Carried<'n>> {
-    let count = text.networks.len().min(CLIENTS_MAX);
-    let clients = network_places(alloc, OLD.networks, &text.networks[..count]).ok()?;
-    carry_by(alloc, server, new, HashKey::KNOWN, &clients).ok()
 }
 
 fn is_wanted(carried: &Carried, wanted: Wanted) -> bool {
@@ -160,9 +146,9 @@ fn is_the_same_of(alloc: Global, config: &Config) -> bool {
 }
 
 fn equals_carried(alloc: Global, server: &Server, config: &Config) -> bool {
-    match carried(alloc, server, config, OLD) {
-        Some(carried) => carried.server.same(server),
-        None => false,
+    match carry(alloc, server, config, HashKey::KNOWN) {
+        Ok(carried) => carried.server.same(server),
+        Err(_) => false,
     }
 }
 
@@ -189,7 +175,6 @@ fn users_are_found_by_name(rt: HostRuntime) -> Result<(), Fail> {
 fn clients_are_found_by_network(rt: HostRuntime) -> Result<(), Fail> {
     let text = Text {
         clients: SWAPPED_CLIENTS,
-        networks: &[CAMPUS, FIRST],
         ..OLD
     };
     let wanted = Wanted {
@@ -226,7 +211,6 @@ fn a_user_who_is_gone_leaves_sessions_and_their_replies(rt: HostRuntime) -> Resu
 fn a_client_that_is_gone_leaves_sessions_and_replies(rt: HostRuntime) -> Result<(), Fail> {
     let text = Text {
         clients: FIRST_CLIENT,
-        networks: &[FIRST],
         ..OLD
     };
     let wanted = Wanted {
@@ -243,7 +227,6 @@ fn a_client_that_is_gone_leaves_sessions_and_replies(rt: HostRuntime) -> Result<
 fn a_source_of_another_client_leaves_replies(rt: HostRuntime) -> Result<(), Fail> {
     let text = Text {
         clients: CLOSER_CLIENTS,
-        networks: &[FIRST, CAMPUS, SECOND],
         ..OLD
     };
     let wanted = Wanted {

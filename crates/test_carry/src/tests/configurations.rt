@@ -1,14 +1,12 @@
 //! Configurations, in parts.
-use rad_carry::Network;
 use rad_config::Config;
 use std::alloc::Global;
 
-/// The parts of a configuration's text, and the networks of its clients.
+/// The parts of a configuration's text.
 #[derive(Clone, Copy)]
 pub(crate) struct Text {
     pub spans: &'static str,
     pub clients: &'static str,
-    pub networks: &'static [Network],
     pub pools: &'static str,
     pub users: &'static str,
 }
@@ -26,23 +24,6 @@ impl Text {
         Config::read(alloc, &text).ok()
     }
 }
-
-/// One address, 192.168.1.16, and a network, 192.168.1.0/24.
-pub(crate) const FIRST: Network = Network {
-    address: 0xC0A8_0110,
-    prefix: 32,
-};
-
-pub(crate) const CAMPUS: Network = Network {
-    address: 0xC0A8_0100,
-    prefix: 24,
-};
-
-/// 192.168.1.20, which is in the network.
-pub(crate) const SECOND: Network = Network {
-    address: 0xC0A8_0114,
-    prefix: 32,
-};
 
 pub(crate) const SPANS: &str = "window = 30\nhold = 60\n";
 
@@ -247,7 +228,6 @@ pool = "one"
 pub(crate) const OLD: Text = Text {
     spans: SPANS,
     clients: CLIENTS,
-    networks: &[FIRST, CAMPUS],
     pools: POOLS,
     users: USERS,
 };

@@ -1,12 +1,15 @@
 use super::LOOPBACK;
 use super::client::CONFIGURATION;
+use super::shelf::Shelf;
 use crate::tests::holds;
 use rad_config::ConfigFault;
 use rad_journal::RestoreFault;
-use rad_serve::{Given, Options, Reports, ServeError, UdpPorts, Workers, serve, serve_with_state};
+use rad_serve::{
+    Given, HeldFault, Options, Reports, ServeError, Sockets, UdpPorts, Workers, serve,
+    serve_with_state,
+};
 use rad_shell::{JournalFault, ServeFault};
 use rad_state::OpenFault;
-use sqlite_disk::{Fuse, Memory};
 use std::alloc::{AllocGlobal, Global};
 use std::net::Net;
 use std::process::Abort;
@@ -49,9 +52,11 @@ pub(crate) fn options(alloc: Global, config: &str, seed: &str, auth: u16) -> Opt
         config: config.to_string(alloc).ok()?,
         seed: seed.to_string(alloc).ok()?,
         state: None,
-        address: LOOPBACK,
-        auth,
-        acct: auth.saturating_add(1),
+        sockets: Sockets::Bind {
+            address: LOOPBACK,
+            auth,
+            acct: auth.saturating_add(1),
+        },
         workers: Workers::new(1)?,
         rounds: Some(1),
         reports: UNREPORTED,
@@ -139,18 +144,14 @@ fn faults_in_their_order(rt: HostRuntime) -> Result<(), Fail> {
     Ok(())
 }
 
-// How one turn of serving ends over a new state whose files fail after so many calls each.
+// How one turn of serving ends over a new folder whose files fail after so many calls each.
 fn served_over<R: Files + Net + Clock + Print + Eprint + Threads + Wait + Sync + AllocGlobal>(
     rt: &R,
     calls: u64,
 ) -> Option<Result<(), ServeError>> {
     let options = options(rt.alloc(), STATE_CONFIG, STATE_SEED, STATE_FREE)?;
     let given = Given::read(rt, &options).ok()?;
-    let files = sqlite_disk::Files {
-        log: Fuse::new(Memory::new(rt.alloc()), calls),
-        db: Fuse::new(Memory::new(rt.alloc()), calls),
-    };
-    Some(serve_with_state(rt, &options, given, files, 7))
+    Some(serve_with_state(rt, &options, given, Shelf::new(calls), 2))
 }
 
 #[test]
@@ -184,6 +185,10 @@ const TEXTS: &[(ServeError, &str)] = &[
         "another process uses the state",
     ),
     (
+        ServeError::OtherConfig(ConfigFault::Syntax),
+        "the state's own configuration: config fault 1 Syntax",
+    ),
+    (
         ServeError::Restore(RestoreFault::OtherAnswer { entry: 7 }),
         "the answer of entry 7 is another",
     ),
@@ -192,6 +197,10 @@ const TEXTS: &[(ServeError, &str)] = &[
         "the boot's id or its clock can't be read",
     ),
     (ServeError::Bind, "bind failed"),
+    (
+        ServeError::Held(HeldFault::NoUdp(3)),
+        "descriptor 3 is no UDP socket with an IPv4 address and a port",
+    ),
     (ServeError::Rounds(ServeFault::Receive), "receive failed"),
     (ServeError::Rounds(ServeFault::Send), "send failed"),
     (ServeError::Rounds(ServeFault::Mismatch), "mismatch"),

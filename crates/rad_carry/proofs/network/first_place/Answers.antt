@@ -3,7 +3,7 @@ use Rattle.std.specs.Prelude.{nat_lt, position}
 use Rattle.std.proofs.lemmas.Bool.{le-ltb, lt-ltb}
 use Rattle.std.proofs.lemmas.List.Sums.{position_or_len_is}
 use Rattle.rad_carry.specs.Places.{same_network}
-use Rattle.rad_carry.specs.declared.network.Network.{Network}
+use Rattle.rad_auth.specs.declared.network.Network.{Network}
 use Rattle.rad_carry.proofs.network.first_place.Goals as goal
 
 -- the first that passes is at a place
@@ -19,11 +19,11 @@ none_at p xs i d all before =
     ap (λ (n : ℕ). cond (nat_lt n (length xs)) (Some n) None) (position_or_len_is p xs i d (omega (arith, all)) before (λ inside. absurd (omega (arith, inside, all))))
     ∙ ap (λ b. cond b (Some i) None) (le-ltb i (length xs) (omega (arith, all)))
 
-pub returns-then-is : goal.returns-then-is
-returns-then-is c =
+pub returns-then-same_network : goal.returns-then-same_network
+returns-then-same_network c =
     let d : Network = record { address = 0; prefix = 0 } in
     sym (first_at (same_network c.args.network.now) c.args.new.now c.loop-place.place d c.loop-place-test.true (λ k below. c.loop-place.invariant k d below)
-    (sym c.is.ensures ∙ c.if-is.true))
+    (sym c.same_network.ensures ∙ c.if-same_network.true))
 
 pub returns : goal.returns
 returns c =

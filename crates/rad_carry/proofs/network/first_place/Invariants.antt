@@ -1,6 +1,6 @@
 use Rattle.std.proofs.Common.{◌≡◌, ℕ, ◌<◌, false, get_or}
 use Rattle.rad_carry.specs.Places.{same_network}
-use Rattle.rad_carry.specs.declared.network.Network.{Network}
+use Rattle.rad_auth.specs.declared.network.Network.{Network}
 use Rattle.rad_carry.proofs.network.first_place.Given as goal
 
 -- no place so far has the network

@@ -25,6 +25,7 @@ loop-init g c =
           (subst (λ (s : Server). IsConfiguration s.configuration) c.server.ensures c.state_is_lawful.ensures.configuration)
           (subst (λ (s : Server). IsLawful s.configuration s.state) c.server.ensures c.state_is_lawful.ensures.state)
           configured restored one (λ clean journal_clean. (refl, was_open, has));
+      same = refl;
       reported = refl;
       back = λ reaches is. is;
     }
@@ -208,7 +209,9 @@ returns-in-Err-clause-called g c =
           old.0 (g.met.J.Journal.settled c.run_keeping.new.journal known.1 left.entries old.1 ∙ known.0))
           (λ new. anew_leaves first (first ++ J.kept c.args.keeping.now.journal) K.is_alone made.0.tally earlier before.passed after mid_known here left
           new.0 (new.1 ∙ ap just_begun c.server-in-loop.ensures))
-          (c.in-Err.ensures.crash clean journal_clean here.base known.2 left may),
+          (c.in-Err.ensures.crash clean journal_clean here.base known.2
+          (ap (λ (server : Server). server.configuration) c.server-in-loop.ensures ∙ here.stands.configured
+          ∙ g.met.K.Generations.configured c.loop.keeping.generations c.run_keeping.new.journal here.base known.2) left may),
     )
 
 pub loop-preserved : goal.loop-preserved
@@ -279,12 +282,15 @@ loop-preserved g c =
           → (J.kept k.journal ≡ entries) × J.is_open k.journal × K.has_base k.generations k.journal base)) (sym same) mid)
           (λ begun. here_anew first all_kept K.is_alone earlier before.passed after mid_known now_known begun.0 mid
           (λ clean journal_clean.
-          let is_begun = begun.1 clean journal_clean in (
+          let is_begun = begun.1 clean journal_clean
+          (ap (λ (server : Server). server.configuration) c.server-in-loop.ensures ∙ made.0.run.configuration ∙ configured
+          ∙ g.met.K.Generations.configured c.args.keeping.now.generations c.args.keeping.now.journal base has ∙ sym i.same) in (
             is_begun.none,
             is_begun.opened,
             subst (λ server. K.has_base c.begin_if_due.new.keeping.generations c.begin_if_due.new.keeping.journal server) c.server-in-loop.ensures is_begun.base,
           )))
           c.in_default.ensures.begun;
+      same = c.begin_if_due.ensures.configuration ∙ i.same;
       reported = omega (arith, c.run_keeping.ensures.reported, none, i.reported);
       back = λ reaches is. i.back reaches (c.run_keeping.ensures.clean (c.begin_if_due.ensures.back reaches is));
     }

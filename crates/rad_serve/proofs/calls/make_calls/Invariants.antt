@@ -25,6 +25,7 @@ invariant-loop g l =
           (λ base entries. g.K.Generations.is_clean l.keeping.generations → g.J.Journal.is_clean l.keeping.journal
           → (g.J.Journal.kept l.keeping.journal ≡ entries) × g.J.Journal.is_open l.keeping.journal
           × g.K.Generations.has_base l.keeping.generations l.keeping.journal base);
+      same : g.K.Generations.configuration l.keeping.generations ≡ g.K.Generations.configuration l.fn.keeping.generations;
       reported : g.P.Ports.reported l.ports ≡ g.P.Ports.reported l.fn.ports;
       back : g.K.Generations.reaches_back → g.J.Journal.is_clean l.keeping.journal → g.J.Journal.is_clean l.fn.keeping.journal;
     }

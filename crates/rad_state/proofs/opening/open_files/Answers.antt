@@ -8,7 +8,7 @@ use Rattle.rad_state.proofs.opening.open_files.Goals as goal
 pub returns-clause-opened : goal.returns-clause-opened
 returns-clause-opened g c =
     subst (λ it. IsClean (view it) → IsOpened (view it)) (sym c.in_ok-store.ensures.same)
-    (ready_is_opened c.in_ok-ready.field-0 c.in_ok-ready.ensures.ready c.in_ok-store.ensures.journal c.in_ok-store.ensures.meta)
+    (ready_is_opened c.in_ok-ready.field-0 c.in_ok-ready.ensures.ready c.in_ok-store.ensures.tables)
 
 pub returns-clause-sums : goal.returns-clause-sums
 returns-clause-sums g c =
