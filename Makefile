@@ -52,7 +52,7 @@ test:
 	@trials/state/run
 	@trials/install/run > /dev/null
 
-# Installs the executable of `make demo`, its man pages, a unit for systemd, room for receive buffers, the example configuration and
+# Installs the executable of `make demo`, its man pages, two units for systemd, room for receive buffers, the example configuration and
 # four documents, below PREFIX, which the installed texts name. Nothing in /etc is touched.
 to = $(DESTDIR)$(PREFIX)
 text = sed 's,/usr/local,$(PREFIX),g' $(1) | install -D -m 644 /dev/stdin "$(to)/$(2)"
@@ -62,6 +62,7 @@ install:
 	$(call text,man/radpool.8,share/man/man8/radpool.8)
 	$(call text,man/radpool.toml.5,share/man/man5/radpool.toml.5)
 	$(call text,examples/radpool.service,lib/systemd/system/radpool.service)
+	$(call text,examples/radpool.socket,lib/systemd/system/radpool.socket)
 	$(call text,packaging/sysctl.conf,lib/sysctl.d/10-radpool.conf)
 	$(call text,examples/radpool.toml,share/doc/radpool/examples/radpool.toml)
 	$(call text,docs/OPERATING.md,share/doc/radpool/OPERATING.md)
@@ -71,7 +72,8 @@ install:
 
 # Removes what `install` installed, and the folder that only radpool uses.
 installed = bin/radpool share/man/man8/radpool.8 share/man/man5/radpool.toml.5 lib/systemd/system/radpool.service \
-	lib/sysctl.d/10-radpool.conf $(addprefix share/doc/radpool/,examples/radpool.toml OPERATING.md FORMATS.md TRYING.md SECURITY.md)
+	lib/systemd/system/radpool.socket lib/sysctl.d/10-radpool.conf \
+	$(addprefix share/doc/radpool/,examples/radpool.toml OPERATING.md FORMATS.md TRYING.md SECURITY.md)
 uninstall:
 	rm -f $(foreach file,$(installed),"$(to)/$(file)")
 	@test ! -d "$(to)/share/doc/radpool" || find "$(to)/share/doc/radpool" -type d -empty -delete

@@ -5,14 +5,15 @@ moment in between is one. Sessions have numbers in the order of their grants, wh
 """
 
 import collections
+import contextlib
 import itertools
-import os
 import shutil
 import sqlite3
 import time
 
 from gateways import ACCEPT, AUTH, CHALLENGE, INTERIM, ON, REJECT, START, STOP, without_sums
 from serving import attribute, judge, path
+from states import file_of, generations
 
 
 LAG = 1.0  # seconds that moments may be behind the boot clock
@@ -182,18 +183,20 @@ class Books:
 
 
 class Journal:
-    """What a state's database has, which nobody has open. It is read from a copy of the files, so that these stay as they are."""
+    """What a state's generations have, which nobody has open. It is read from a copy of the files, so that these stay as they are."""
 
     def __init__(self):
         self.last = 0
         self.answers = collections.defaultdict(set)
-        self.draws = set()
+        self.draws = {}  # in the order of the entries
         self.moment = 0
         self.zero = None
 
     def read(self, folder):
         """Reads the entries since those that were read, those of one life, and judges their order and moments."""
-        rows = rows_after(folder, self.last)
+        rows = rows_of(folder)
+        judge([row[6] for row in rows[: self.last]] == list(self.draws), f"the journal still has its {self.last} entries: {len(rows)}")
+        rows = rows[self.last :]
         if len(rows) >= 20:
             self.judge_zero(min(wall - moment for _, wall, moment, *_ in rows) / 1e3)
         for number, _, moment, address, port, door, draw, request, answer in rows:
@@ -201,7 +204,7 @@ class Journal:
             judge(moment >= self.moment, f"entry {number} has no earlier moment than the one before: {moment} and {self.moment}")
             judge(draw not in self.draws, f"entry {number} has a draw of its own")
             self.last, self.moment = number, moment
-            self.draws.add(draw)
+            self.draws[draw] = number
             self.answers[address, port, door, request].add(answer)
 
     def judge_zero(self, begun):
@@ -222,17 +225,21 @@ class Journal:
                 judge(without_sums(reply.octets) in answers, f"a reply was kept: {reply.octets.hex()} to {one.request.hex()}")
 
 
-def rows_after(folder, number):
-    """The entries of a state's database after this one. A shorter journal has none."""
+def rows_of(folder):
+    """The entries of all generations of a state, in their order, numbered over all of them."""
     copy = path("copy")
     shutil.rmtree(copy, ignore_errors=True)
     shutil.copytree(folder, copy)
-    database = sqlite3.connect(os.path.join(copy, "state.db"))
-    try:
+    rows = []
+    for number in generations(copy):
+        found = rows_in(file_of(copy, number))
+        judge([row[0] for row in found] == list(range(1, len(found) + 1)), f"the entries of generation {number} are numbered from 1")
+        rows += [(len(rows) + row[0], *row[1:]) for row in found]
+    return rows
+
+
+def rows_in(name):
+    """The entries of one generation, read from its file and its log, which must be a copy's or closed."""
+    with contextlib.closing(sqlite3.connect(name)) as database:
         columns = "rowid, wall, moment, address, port, door, draw, request, answer"
-        rows = database.execute(f"SELECT {columns} FROM exchange WHERE rowid > ? ORDER BY rowid", (number,)).fetchall()
-        (count,) = database.execute("SELECT max(rowid) FROM exchange").fetchone()
-        judge((count or 0) >= number, f"the journal still has its {number} entries: {count}")
-        return rows
-    finally:
-        database.close()
+        return database.execute(f"SELECT {columns} FROM exchange ORDER BY rowid").fetchall()

@@ -1,4 +1,4 @@
-"""Trials of clocks that a state goes on by: in another boot, with the time of day set, and while entries are restored."""
+"""Trials of clocks that a state goes on by: in another boot, with the time of day set, hour by hour, and while entries are restored."""
 
 import contextlib
 import re
@@ -8,8 +8,8 @@ import subprocess
 import uuid
 
 from gateways import Gateway, Load
-from serving import access_request, attribute, judge, path
-from states import RANDOM, Spans, ended, folder, living, mount, pap_log_in
+from serving import access_request, attribute, judge, path, status_server
+from states import RANDOM, Spans, ended, folder, generations, living, mount, pace, pap_log_in, untold
 from system import System
 
 BOOT_ID = "/proc/sys/kernel/random/boot_id"
@@ -56,6 +56,60 @@ def boots():
         subprocess.run(["umount", BOOT_ID], check=True, timeout=60)
 
 
+def hourly(configuration, ask):
+    """A generation begins while the server serves, an hour after the one before if anything was kept since, and its log tells the pause."""
+    state, system, request = folder("hourly"), System(), access_request(1, b"ann")
+    options = {"configuration": configuration, "env": system.environment}
+    with living(state, ["--log", "refused"], **options) as server:
+        passes(HOUR / 2, system, server, ask)
+        accept = ask(server.auth, request)
+        passes(HOUR / 2, system, server, ask)
+        judge(generations(state) == [1, 2], f"a generation begins after an hour: {generations(state)}")
+        judge(ask(server.auth, request) == accept, "a repeat gets the reply after that")
+        errors = ended(server)
+    told = re.findall(r"^radpool: began a generation, paused \d+ ms$", errors, re.M)
+    judge(len(told) == 1, f"the log tells that it paused: {errors}")
+    with living(state, **options) as server:
+        judge(ask(server.auth, request) == accept, "the reply is in what the generation began with")
+        judge(attribute(ask(server.auth, access_request(2, b"bo")), 18) == b"no address left", "the session is in it too")
+        ended(server)
+    with living(state, **options) as server:
+        passes(HOUR, system, server, ask)
+        judge(generations(state) == [1, 2, 3, 4], f"none begins after an hour in which nothing was kept: {generations(state)}")
+        ended(server)
+    print("clocks: a generation begins every hour in which anything was kept")
+
+
+def killed_while_one_begins(configuration, ask):
+    """A server that is killed while a generation begins leaves that one or the one before, and both lead to what was answered."""
+    state, system = folder("begins"), System()
+    options = {"configuration": configuration, "env": system.environment}
+    for number in range(8):
+        request = access_request(number)
+        with living(state, **options) as server:
+            passes(HOUR / 2, system, server, ask)
+            reply = ask(server.auth, request)
+            system.tell("passed", system.count("passed") + HOUR * 500)
+            seconds = RANDOM.uniform(0.0005, 0.01) * pace()
+            # It answers until one begins, and perhaps until that has begun.
+            for other in range(80):
+                if not server.ask(server.auth, status_server(other), seconds):
+                    break
+            ended(server)
+        with living(state, **options) as server:
+            again = ask(server.auth, request)
+            judge(again == reply, f"a repeat gets the reply after a kill {seconds} seconds after a generation began: {again}, not {reply}")
+            ended(server)
+    print("clocks: a server that is killed while a generation begins leaves what was answered")
+
+
+def passes(seconds, system, server, ask):
+    """Lets so much time pass, and so many turns that a generation can begin."""
+    system.tell("passed", system.count("passed") + round(seconds * 1_000))
+    for number in range(80):
+        ask(server.auth, status_server(number))
+
+
 def progress(configuration, user):
     """A start that takes long says each second how far it is."""
     state, load, system = folder("progress"), Load(RANDOM, 60), System()
@@ -65,8 +119,8 @@ def progress(configuration, user):
         ended(server)
     system.tell("pace", 400)
     with living(state, ["--rounds", "1"], configuration=configuration, env=system.environment) as server:
-        _, errors = server.process.communicate(timeout=60)
+        errors = untold(server.process.communicate(timeout=60)[1])
     told = [int(number) for number in re.findall(r"^radpool: (\d+) of 40 entries are restored$", errors, re.M)]
     judge(len(told) == errors.count("\n") and len(told) > 5, f"it is told how far a start is: {errors}")
-    judge(told == sorted(set(told)) and told[-1] < 40, f"it says so as it goes on: {told}")
+    judge(told == sorted(set(told)) and told[-1] <= 40, f"it says so as it goes on: {told}")
     print("progress: a start that takes long says how far it is")

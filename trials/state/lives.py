@@ -1,13 +1,15 @@
 """Lives of a server that end at any moment, beside gateways that go on, and what the gateways' books show of them."""
 
 import collections
+import itertools
+import re
 import signal
 import time
 
 from books import Books, Journal
 from gateways import ACCEPT, ON, START, STOP, Gateway, Load, User
-from serving import SECRET, attribute, judge, path
-from states import RANDOM, Spans, ended, entry, folder, killed_early, living, pap_log_in
+from serving import attribute, judge, path
+from states import RANDOM, Spans, client_of, ended, entry, folder, generations, killed_early, living, octets_of, pap_log_in, pool_of
 from transcripts import lines_of
 
 KILLS = 20
@@ -25,15 +27,35 @@ USERS = [
 ]
 NAMED = [User(f"named{number}") for number in range(60)]  # users of the last gateway
 STAYING = 4  # one visitor in so many stays
+POOLS_MAX = 16
 
 
-def configuration(spans):
-    """Two clients and the trial's own, a pool, and the users."""
-    networks = ("127.0.1.0/24", "127.0.2.1", "127.0.0.1")
-    clients = "".join(f'[[client]]\naddress = "{network}"\nsecret = "{SECRET.decode()}"\n' for network in networks)
-    pool = f'[[pool]]\nname = "all"\nfirst = "10.0.0.1"\nlast = "10.0.0.{ADDRESSES}"\n'
-    users = "".join(map(entry, (*USERS, *NAMED, FILLER)))
-    return f"window = {spans.window}\nhold = {spans.hold}\n{clients}{pool}{users}"
+NETWORKS = ("127.0.1.0/24", "127.0.2.1", "127.0.0.1")
+
+
+class Starts:
+    """What each start is given: a configuration that nobody was served under before, and which all that is kept fits."""
+
+    def __init__(self, spans, errors):
+        self.spans, self.errors, self.numbers = spans, errors, itertools.count(1)
+
+    def options(self):
+        self.number = next(self.numbers)
+        return {"configuration": configuration(self.spans, self.number), "errors": self.errors}
+
+
+def configuration(spans, number):
+    """Two clients and the trial's own, a pool, which is named after the number, the users, and other pools and users, all in any order."""
+    clients = [client_of(network) for network in NETWORKS]
+    pools = [pool_of(f"all{number}", "10.0.0", 1, ADDRESSES), *(pool_of(f"other{at}", "10.0.1", at, at) for at in range(number % POOLS_MAX))]
+    others = [User(f"other{at}") for at in range(1, number)]
+    users = [entry(user, f"all{number}") for user in (*USERS, *NAMED, FILLER, *others)]
+    tables = (*shuffled(clients), *shuffled(pools), *shuffled(users))
+    return f"window = {spans.window}\nhold = {spans.hold}\n# {number}\n{''.join(tables)}"
+
+
+def shuffled(tables):
+    return RANDOM.sample(tables, len(tables))
 
 
 def visited(spans):
@@ -58,29 +80,31 @@ def words_of(life):
 
 
 def lives():
-    """Lives that end at any moment, and what gateways saw over all of them."""
+    """Lives that end at any moment, each under another configuration, and what gateways saw over all of them."""
     spans, state, journal = Spans.of(3, 4), folder("lives"), Journal()
     load, gateways = visited(spans)
     signals = [signal.SIGKILL] * KILLS + [signal.SIGTERM] * TERMINATIONS
     RANDOM.shuffle(signals)
     with open(path("errors"), "w") as errors:
-        options = {"configuration": configuration(spans), "errors": errors}
+        starts = Starts(spans, errors)
         for life, number in enumerate(signals):
             if RANDOM.random() < EARLY:
-                killed_early(state, **options)
-            with living(state, words_of(life), **options) as server:
+                killed_early(state, **starts.options())
+            with living(state, words_of(life), **starts.options()) as server:
                 load.turn_to(server)
                 load.run(RANDOM.uniform(SHORTEST, LONGEST))
                 ended(server, number)
             load.read_all()
             journal.read(state)
             journal.judge_replies(load.books, load.life)
-        with living(state, **options) as server:
+        with living(state, **starts.options()) as server:
             load.turn_to(server)
             load.end()
             ended(server)
-        examined(state, load, gateways, spans, options)
-    lines_of(state)
+        examined(state, load, gateways, spans, starts)
+    judge_told()
+    for number in generations(state):
+        lines_of(state, number)
     journal.read(state)
     journal.judge_replies(load.books)
     books = Books(load.books, spans)
@@ -88,21 +112,28 @@ def lives():
     repeats, sessions, answers = books.over_lives()
     judge(min(repeats, sessions, answers) > 0, f"some of each outlive a life: {repeats} repeats, {sessions} sessions, {answers} challenges")
     print(
-        f"lives: {KILLS} ended by SIGKILL and {TERMINATIONS} by SIGTERM: {books.count} replies to {len(books.asked)} requests, "
+        f"lives: {KILLS} ended by SIGKILL and {TERMINATIONS} by SIGTERM, under a configuration that changed {starts.number - 1} times: "
+        f"{books.count} replies to {len(books.asked)} requests, "
         f"{journal.last} entries, {len(books.sessions)} sessions; "
         f"of an earlier life {repeats} repeats, {sessions} sessions, {answers} challenges"
     )
 
 
+def judge_told():
+    """Judges that each start told that it left nothing out, but the first one, and those that were killed."""
+    told = re.findall(r"^radpool: (left out .*|restored .* left out) (\S+)$", octets_of(path("errors")).decode(), re.M)
+    judge(len(told) >= KILLS + TERMINATIONS and all(number == "0" for _, number in told), f"nothing is left out: {told}")
+
+
 # ---- what is there after the lives
 
 
-def examined(state, load, gateways, spans, options):
+def examined(state, load, gateways, spans, starts):
     """Judges that those sessions are open that were granted and not ended, and that a Stop and an Accounting-On end theirs alone."""
     filler = Gateway(load, "127.0.0.1")
     # Until then a session may be open on which nobody reports, since the reply to its log-in was lost.
     time.sleep(spans.hold + 0.1)
-    with living(state, **options) as server:
+    with living(state, **starts.options()) as server:
         load.turn_to(server)
         known = Known(load, spans)
         pool = {bytes([10, 0, 0, number]) for number in range(1, ADDRESSES + 1)}
@@ -110,14 +141,14 @@ def examined(state, load, gateways, spans, options):
         known.judge_given(given, pool - addresses(known.open), "the addresses are given that are of no open session")
         known.judge_limits(load, filler)
         ended(server)
-    with living(state, **options) as server:
+    with living(state, **starts.options()) as server:
         load.turn_to(server)
         stopped = RANDOM.sample([session for session in known.open if session.address], 8)
         for session in stopped:
             load.ask_all(session.gateway, [session.gateway.report(STOP, session.user, session.accept)])
         known.judge_given(filled(load, filler, 12), addresses(stopped), "a Stop frees its address alone")
         ended(server)
-    with living(state, **options) as server:
+    with living(state, **starts.options()) as server:
         load.turn_to(server)
         here = [session for session in known.open if session.gateway is gateways[0] and session not in stopped]
         load.ask_all(gateways[0], [gateways[0].report(ON)])

@@ -1,21 +1,24 @@
-"""The transcript of a state, which `radpool replay --state` prints: what it has, how it is replayed, and which states have none."""
+"""The transcript of a generation, which `radpool replay --state` prints: what it has, how it is replayed, and which have none."""
 
 import contextlib
 import os
+import shutil
 import signal
 import socket
+import sqlite3
 import subprocess
 from typing import NamedTuple
 
 import serving
-from books import rows_after
+from books import rows_in, rows_of
 from gateways import ACCEPT, ACCT, AUTH, CHALLENGE, INTERIM, REJECT, RESPONSE, START, STOP, is_reply_to, without_sums
 from serving import CONFIGURATION, access_request, accounting_request, attribute, attributes_of, chap_request, judge, status_server
-from states import ended, folder, living, sums
+from states import ended, file_of, folder, generations, living, newest, sums
 
 # The clients are a network, and the last line has no end.
 TEXT = CONFIGURATION.replace("window = 1\nhold = 4\n", "window = 600\nhold = 600\n").replace("127.0.0.1", "127.0.0.0/8") + "# café"
 DIVIDED = TEXT + '\n[[user]]\nname = "eve"\npassword = "pw"\nmessage = """\n---\n"""\n'
+SNAPSHOT = "# This generation begins with a snapshot, which no transcript has: a replay may answer otherwise."
 PADDING = b"\0padding"  # octets of a datagram past the request's Length
 
 
@@ -117,28 +120,50 @@ def dotted(address):
     return socket.inet_ntoa(address.to_bytes(4, "big"))
 
 
-def transcript_of(state):
-    ran = replay(["--state", os.path.join(state, "state.db")])
-    judge((ran.returncode, ran.stderr) == (0, b""), f"a state has a transcript: {ran.returncode} {ran.stderr}")
+def transcript_of(state, number):
+    ran = replay(["--state", file_of(state, number)])
+    judge((ran.returncode, ran.stderr) == (0, b""), f"a generation has a transcript: {ran.returncode} {ran.stderr}")
     return ran.stdout
 
 
-def lines_of(state):
-    """What a state's transcript has before its lines, and these, which must be those of its rows. The files stay as they are."""
+def lines_of(state, number):
+    """What a generation's transcript has before its lines, and these, which must be those of its rows. The files stay as they are."""
     before = sums(state)
-    head, _, text = transcript_of(state).partition(b"\n---\n")
+    head, _, text = transcript_of(state, number).partition(b"\n---\n")
     judge(sums(state) == before, "the files of a state whose transcript was printed are as they were")
     lines = text.decode().splitlines()
-    rows = rows_after(state, 0)
+    copy = copied(state, number)
+    if begins_with_some(copy):
+        judge(lines[:1] == [SNAPSHOT], f"a transcript says that a generation begins with a snapshot: {lines[:1]}")
+        lines = lines[1:]
+    rows = rows_in(copy)
     wanted = [f"{row[2]} {('auth', 'acct')[row[5]]} {dotted(row[3])}:{row[4]} {row[7].hex()}" for row in rows]
     judge(lines == wanted, f"a transcript has a line for each row: {len(lines)} lines, {len(rows)} rows")
     return head, lines, rows
 
 
+def begins_with_some(name):
+    """Whether the generation in a copy of a file begins with sessions, replies or challenges, or after some."""
+    with contextlib.closing(sqlite3.connect(name)) as database:
+        return any(database.execute("SELECT session, challenge, (SELECT count(*) FROM reply) FROM snapshot").fetchone())
+
+
+def copied(state, number):
+    """The path of a copy of a generation's file and log."""
+    copy = folder("copy")
+    for name in os.listdir(state):
+        if name.startswith(f"generation-{number}.db"):
+            shutil.copy(os.path.join(state, name), copy)
+    return file_of(copy, number)
+
+
 def judge_transcript(talk):
-    """Judges that the transcript of a state has each exchange and no other one, in order. Returns its text."""
-    head, lines, rows = lines_of(talk.state)
-    judge(head == TEXT.encode(), f"a transcript begins with the configuration: {head}")
+    """Judges that the transcripts of a state have each exchange and no other one, in order. Returns the text of all together."""
+    lines, rows = [], rows_of(talk.state)
+    for number in generations(talk.state):
+        head, more, _ = lines_of(talk.state, number)
+        judge(head == TEXT.encode(), f"a transcript begins with the configuration: {head}")
+        lines.extend(more)
     judge(len(lines) == len(talk.exchanges), f"each exchange is kept once: {len(lines)} lines, {len(talk.exchanges)} exchanges")
     for exchange, line, row in zip(talk.exchanges, lines, rows):
         address, port = exchange.client.getsockname()
@@ -192,9 +217,9 @@ def transcripts():
         judge_replayed(talk, judge_transcript(talk))
         judge_answered(talk, given)
         with open("/dev/full", "wb") as full:
-            ran = replay(["--state", os.path.join(talk.state, "state.db")], out=full)
+            ran = replay(["--state", newest(talk.state)], out=full)
         judge((ran.returncode, ran.stderr) == (1, b"radpool: write failed\n"), f"a transcript can't be written: {ran}")
-        print(f"transcripts: the {len(talk.exchanges)} entries of a state, with what the clients sent; a replay answers as the server did")
+        print(f"transcripts: the {len(talk.exchanges)} entries of a state, with what the clients sent; a replay answers as the servers did")
     without()
 
 
@@ -204,8 +229,8 @@ def transcripts():
 def has_no_transcript(state, text, of=sums):
     """Judges that a state has no transcript, for this reason, and that its files stay as they are."""
     before = of(state)
-    ran = replay(["--state", os.path.join(state, "state.db")])
-    said = f"radpool: {state}/state.db: {text}\n"
+    ran = replay(["--state", newest(state)])
+    said = f"radpool: {newest(state)}: {text}\n"
     judge((ran.returncode, ran.stderr) == (1, said.encode()), f"there is no transcript, it says {said}: {ran}")
     judge(ran.stdout == b"", f"nothing is printed where it says {text}: {ran.stdout}")
     after = of(state)
@@ -221,11 +246,11 @@ def without():
     """A folder without a state, one with an empty file, a file in its place, and a configuration that can't be in a transcript."""
     has_no_transcript(folder("without"), "No such file or directory (os error 2)")
     state = folder("without")
-    with open(os.path.join(state, "state.db"), "w"):
+    with open(newest(state), "w"):
         pass
     has_no_transcript(state, "it is no state, or it is damaged")
     state = folder("without")
-    os.mkdir(os.path.join(state, "state.db"))
+    os.mkdir(newest(state))
     has_no_transcript(state, "Is a directory (os error 21)", of=os.listdir)
     state = folder("without")
     with living(state, configuration=DIVIDED) as server:
