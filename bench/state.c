@@ -1,5 +1,6 @@
-// What `radpool serve --state` costs: replies that wait for the disk, what isn't kept, log-ins, and starts. A server with its state on a
-// disk and one with its state in memory are measured beside one without a state, and beside bare syncs in the same folders.
+// What `radpool serve --state` costs: replies that wait for the disk, what isn't kept, log-ins, starts, and the beginning of a generation.
+// A server with its state on a disk and one with its state in memory are measured beside one without a state, and beside bare syncs in the
+// same folders.
 #include "serving.h"
 #include <fcntl.h>
 #include <sys/stat.h>
@@ -16,20 +17,23 @@ enum {
     ALONE = SYNCS / ALONE_TURNS,    // requests of a kind in a turn, one at a time
     UNKEPT_TURNS = 8,
     UNKEPT = 20000,     // Status-Servers in a turn, and repeats
-    TURNS = 16,         // of log-ins
-    LOG_INS = 16384,    // in a turn, and 262,144 in all
+    TURNS = 15,         // of log-ins, after which no generation is due yet
+    LOG_INS = 16384,    // in a turn, and 245,760 in all
+    FULL = 4,           // turns that fill the tables
+    DUE = 262144,       // entries after which a generation is due
     ROOM = 2,           // turns, after which there is a pause
     FEW = 256,          // log-ins of a state with few entries
     TRIES = 5,          // starts, of which the middle one counts
     LONGEST = 128,      // octets of a request, and of a reply
     LONG = 600,         // seconds for which replies and sessions are kept while a repeat has to be one
     SHORT = 1,          // while log-ins have to find room
+    WINDOW = 3,         // while kept replies have to be many when a generation begins
     PAUSE = 1200000,    // microseconds after which they do
     PATIENCE = 20000,   // milliseconds within which a reply has to come
     LIFE = 600,         // seconds within which all must end
 };
 
-static const double start_goal = 3e9;    // nanoseconds
+static const double start_goal = 3e9, pause_goal = 500;    // nanoseconds; milliseconds
 
 // ---- places
 
@@ -40,7 +44,8 @@ struct place {
     const char *name, *folder;      // no folder without a state
     char state[200];
     pid_t server;
-    FILE *lines;                    // its standard output
+    FILE *lines, *told;             // its standard output, and its log
+    uint16_t ports[DOORS];
     int sockets[DOORS][SOCKETS];    // connected to it
     int pages;                      // the file that is synced
     double syncs[SYNCS], alone[2][SYNCS];            // the times of syncs; of log-ins and Starts alone
@@ -51,6 +56,7 @@ enum { NONE, DISK, MEMORY, PLACES };
 
 static struct place places[PLACES] = {{.name = "none"}, {.name = "on a disk"}, {.name = "in memory"}};
 static const char *radpool;
+static bool is_logged;    // whether servers that begin have a log
 
 static const char *system_of(const char *name) {
     static const struct {
@@ -116,10 +122,26 @@ static void sync_pages(struct place *place, int turn, int count) {
 
 // ---- servers
 
+static void connect_all(struct place *place) {
+    for (int door = 0; door < DOORS; door++) {
+        for (int at = 0; at < SOCKETS; at++) {
+            place->sockets[door][at] = connected(place->ports[door]);
+        }
+    }
+}
+
+static void close_all(const struct place *place) {
+    for (int door = 0; door < DOORS; door++) {
+        for (int at = 0; at < SOCKETS; at++) {
+            close(place->sockets[door][at]);
+        }
+    }
+}
+
 // Begins a server. Returns the nanoseconds until it listened.
 static double begin_server(struct place *place) {
-    int ends[2];
-    if (pipe2(ends, O_CLOEXEC) != 0) {
+    int ends[2], told[2];
+    if (pipe2(ends, O_CLOEXEC) != 0 || pipe2(told, O_CLOEXEC) != 0) {
         end("no pipe");
     }
     fflush(stdout);
@@ -129,24 +151,35 @@ static double begin_server(struct place *place) {
         prctl(PR_SET_PDEATHSIG, SIGKILL);
         alarm(LIFE);
         dup2(ends[1], 1);
-        execl(radpool, radpool, "serve", "--config", in_folder("toml"), "--seed", in_folder("seed"), "--auth", "0", "--acct", "0",
-              place->folder ? "--state" : NULL, place->state, (char *)NULL);
+        dup2(told[1], 2);
+        const char *words[16] = {radpool, "serve", "--config", in_folder("toml"), "--seed", in_folder("seed"), "--auth", "0", "--acct", "0"};
+        size_t len = 10;
+        if (place->folder) {
+            words[len++] = "--state";
+            words[len++] = place->state;
+        }
+        if (is_logged) {
+            words[len++] = "--log";
+            words[len++] = "refused";
+        }
+        execv(radpool, (char *const *)words);
         _exit(1);
     }
     close(ends[1]);
+    close(told[1]);
     place->lines = fdopen(ends[0], "r");
+    place->told = fdopen(told[0], "r");
     char line[100];
     bool is_there = fgets(line, sizeof line, place->lines);
     double spent = now() - begun;
-    uint16_t ports[DOORS];
+    uint16_t *ports = place->ports;
     if (!is_there || sscanf(line, "listening %*s %hu %hu", &ports[AUTH], &ports[ACCT]) != DOORS) {
+        while (fgets(line, sizeof line, place->told)) {
+            fputs(line, stderr);
+        }
         end("no server");
     }
-    for (int door = 0; door < DOORS; door++) {
-        for (int at = 0; at < SOCKETS; at++) {
-            place->sockets[door][at] = connected(ports[door]);
-        }
-    }
+    connect_all(place);
     return spent;
 }
 
@@ -155,11 +188,8 @@ static void kill_server(struct place *place) {
     kill(place->server, SIGKILL);
     waitpid(place->server, NULL, 0);
     fclose(place->lines);
-    for (int door = 0; door < DOORS; door++) {
-        for (int at = 0; at < SOCKETS; at++) {
-            close(place->sockets[door][at]);
-        }
-    }
+    fclose(place->told);
+    close_all(place);
 }
 
 // Servers that keep replies and sessions for so many seconds, with new states.
@@ -351,6 +381,27 @@ static void measure_answers(void) {
     kill_all();
 }
 
+// A turn of log-ins or Starts whose replies are all kept: each 1,024 come from other ports.
+static void fill_once(struct place *place, enum kind kind, int turn) {
+    for (int number = turn * LOG_INS; number < (turn + 1) * LOG_INS; number += SLOTS) {
+        close_all(place);
+        connect_all(place);
+        ask(place, (struct load){.kind = kind, .first = (uint32_t)number, .made = SLOTS, .count = SLOTS, .waiting = SLOTS});
+    }
+}
+
+// Log-ins, in so many turns, or Starts after so many turns of them, of which each takes a little more than a quarter of the window.
+static void fill(struct place *place, enum kind kind, int first, int count) {
+    for (int turn = first; turn < first + count; turn++) {
+        double begun = now();
+        fill_once(place, kind, turn);
+        double rest = WINDOW * 1e9 / FULL * 1.3 - (now() - begun);
+        if (rest > 0) {
+            usleep((useconds_t)(rest / 1e3));
+        }
+    }
+}
+
 static void measure_log_ins(void) {
     begin_all(SHORT, "log-ins");
     for (int turn = 0; turn < TURNS; turn++) {
@@ -422,7 +473,7 @@ static void print_log_ins(void) {
     for (int at = 0; at < PLACES; at++) {
         struct place *place = &places[at];
         double log_ins = TURNS * LOG_INS / place->log_ins * 1e9;
-        double syncs = SYNCS / place->all_syncs * 1e9, lesser = syncs * ROUND < none ? syncs * ROUND : none;
+        double syncs = SYNCS / TURNS * TURNS / place->all_syncs * 1e9, lesser = syncs * ROUND < none ? syncs * ROUND : none;
         printf("| %s |", place->name);
         print_cell(place->folder, syncs);
         printf(" %.0f | %.2f |", log_ins, log_ins / none);
@@ -433,7 +484,7 @@ static void print_log_ins(void) {
 
 // ---- starts
 
-static const char *const names[] = {"state.db", "state.db-wal"};
+static const char *const names[] = {"generation-1.db", "generation-1.db-wal"};
 
 static double octets_of(const struct place *place) {
     double octets = 0;
@@ -449,39 +500,85 @@ static double octets_of(const struct place *place) {
     return octets;
 }
 
-// Leaves nothing of the files in the page cache.
-static void forget_pages(const struct place *place) {
-    for (size_t at = 0; at < sizeof names / sizeof *names; at++) {
-        char path[300];
-        snprintf(path, sizeof path, "%s/%s", place->state, names[at]);
-        int file = open(path, O_RDONLY | O_CLOEXEC);
-        if (file < 0 || fdatasync(file) != 0 || posix_fadvise(file, 0, 0, POSIX_FADV_DONTNEED) != 0) {
-            end("a state's files can't be read");
+// Copies a file, and leaves nothing of the copy in the page cache if it is not to be there.
+static void copy(const char *from, const char *to, bool is_cached) {
+    int there = open(from, O_RDONLY | O_CLOEXEC), here = open(to, O_WRONLY | O_CREAT | O_EXCL | O_CLOEXEC, 0600);
+    struct stat found;
+    if (there < 0 || here < 0 || fstat(there, &found) != 0) {
+        end("a state's files can't be copied");
+    }
+    while (found.st_size > 0) {
+        ssize_t len = copy_file_range(there, NULL, here, NULL, (size_t)found.st_size, 0);
+        if (len <= 0) {
+            end("a state's files can't be copied");
         }
-        close(file);
+        found.st_size -= len;
+    }
+    if (fdatasync(here) != 0 || (!is_cached && posix_fadvise(here, 0, 0, POSIX_FADV_DONTNEED) != 0)) {
+        end("a state's files can't be copied");
+    }
+    close(there);
+    close(here);
+}
+
+// Gives the place a copy of its state, since a start changes it.
+static void copy_state(struct place *place, const char *state, int try, bool is_cached) {
+    make_state(place, "copy", try);
+    for (size_t at = 0; at < sizeof names / sizeof *names; at++) {
+        char from[300], to[300];
+        snprintf(from, sizeof from, "%s/%s", state, names[at]);
+        snprintf(to, sizeof to, "%s/%s", place->state, names[at]);
+        copy(from, to, is_cached);
+    }
+}
+
+static void remove_copy(const struct place *place) {
+    char command[300];
+    snprintf(command, sizeof command, "rm -r '%s'", place->state);
+    if (system(command) != 0) {
+        end("a copy can't be removed");
     }
 }
 
 enum files { CACHED, UNCACHED, NONE_YET };
 
+// Starts from copies of a state with so many entries, after a snapshot of full tables or of nothing.
 static void print_start(struct place *place, const char *what, enum files files, int entries) {
-    double tries[TRIES], octets = place->folder && entries > 0 ? octets_of(place) : 0;
+    double tries[TRIES], octets = place->folder && files != NONE_YET ? octets_of(place) : 0;
+    char state[sizeof place->state];
+    memcpy(state, place->state, sizeof state);
     for (int try = 0; try < TRIES; try++) {
         if (files == NONE_YET) {
             make_state(place, "new", try);
-        } else if (files == UNCACHED) {
-            forget_pages(place);
+        } else if (place->folder) {
+            copy_state(place, state, try, files == CACHED);
         }
         tries[try] = begin_server(place);
         kill_server(place);
+        if (place->folder) {
+            remove_copy(place);
+        }
     }
+    memcpy(place->state, state, sizeof state);
     double middle = within(tries, TRIES, 500);
     printf("| %s%s | %d | %.1f |", place->name, what, entries, middle / 1e3);
-    print_cell(entries > 0, octets / 1048576);
-    print_cell(entries > 0, octets / entries);
-    print_cell(entries == TURNS * LOG_INS, middle * 1e3 / start_goal);
+    print_cell(octets > 0, octets / 1048576);
+    print_cell(octets > 0 && entries > 0, octets / entries);
+    print_cell(octets > 0 && files != NONE_YET, middle * 1e3 / start_goal);
     puts("");
     fflush(stdout);
+}
+
+// Leaves of a state with two generations the second, as the first.
+static void keep_second(const struct place *place) {
+    for (size_t at = 0; at < sizeof names / sizeof *names; at++) {
+        char second[300], first[300];
+        snprintf(second, sizeof second, "%s/generation-2%s", place->state, names[at] + sizeof "generation-1" - 1);
+        snprintf(first, sizeof first, "%s/%s", place->state, names[at]);
+        if (rename(second, first) != 0) {
+            end("a state has one generation");
+        }
+    }
 }
 
 // Starts from the states of the log-ins, and from others.
@@ -498,6 +595,56 @@ static void print_starts(void) {
     ask(&places[DISK], (struct load){.kind = LOG_IN, .first = 0, .made = FEW, .count = FEW, .waiting = SOME});
     kill_server(&places[DISK]);
     print_start(&places[DISK], "", CACHED, FEW);
+    write_configuration(LONG, LONG);
+    make_state(&places[DISK], "full", 0);
+    begin_server(&places[DISK]);
+    for (int turn = 0; turn < FULL; turn++) {
+        fill_once(&places[DISK], LOG_IN, turn);
+    }
+    kill_server(&places[DISK]);
+    print_start(&places[DISK], ", full tables", CACHED, FULL * LOG_INS);
+    // The next generation has the same as a snapshot, and no entry.
+    begin_server(&places[DISK]);
+    kill_server(&places[DISK]);
+    keep_second(&places[DISK]);
+    print_start(&places[DISK], ", full tables", CACHED, 0);
+}
+
+// ---- the beginning of a generation
+
+// The milliseconds of the next pause that a server's log tells of.
+static double pause_of(const struct place *place) {
+    char line[200];
+    unsigned pause;
+    while (fgets(line, sizeof line, place->told)) {
+        if (sscanf(line, "radpool: began a generation, paused %u ms", &pause) == 1) {
+            return pause;
+        }
+    }
+    end("no generation began");
+    return 0;
+}
+
+// A generation that begins under load, with all sessions and nearly all kept replies.
+static void print_pauses(void) {
+    puts("\n| state | sessions | pause: ms | a reply meanwhile: p50 ms | the longest ms | to 500 ms (goal: at most 1.00) |\n"
+         "|---|---|---|---|---|---|");
+    write_configuration(WINDOW, LONG);
+    is_logged = true;
+    for (int at = DISK; at < PLACES; at++) {
+        struct place *place = &places[at];
+        make_state(place, "pause", 0);
+        begin_server(place);
+        fill(place, LOG_IN, 0, FULL);
+        fill(place, START, FULL, DUE / LOG_INS - FULL - 1);
+        fill_once(place, START, DUE / LOG_INS - 1);
+        // Now the next one is due.
+        ask(place, (struct load){.kind = STATUS_SERVER, .made = SOME, .count = UNKEPT, .waiting = SOME});
+        double pause = pause_of(place), p50 = within(times, UNKEPT, 500) / 1e3, longest = times[UNKEPT - 1] / 1e6;
+        printf("| %s | %d | %.1f | %.1f | %.1f | %.2f |\n", place->name, USERS * SESSIONS, pause, p50, longest, pause / pause_goal);
+        fflush(stdout);
+        kill_server(place);
+    }
 }
 
 int main(int argc, char **argv) {
@@ -518,4 +665,5 @@ int main(int argc, char **argv) {
     measure_log_ins();
     print_log_ins();
     print_starts();
+    print_pauses();
 }
