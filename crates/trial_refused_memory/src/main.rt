@@ -12,6 +12,7 @@ mod journals;
 mod moments;
 mod packets;
 mod prepared;
+mod records;
 mod replays;
 mod requests;
 mod rounds;
@@ -59,6 +60,8 @@ enum Run {
     State(states::Call),
     /// A call of `rad_carry`.
     Carry,
+    /// A call of `rad_accounting`.
+    Record,
     /// A call of `rad_snapshot`.
     Snapshot(snapshots::Call),
 }
@@ -303,6 +306,7 @@ const RUNS: &[(&str, Run)] = &[
     ("FileGenerations::start", Run::State(states::Call::Start)),
     ("Generations::begin", Run::State(states::Call::Begin)),
     ("carry", Run::Carry),
+    ("fill", Run::Record),
     ("write of a snapshot", Run::Snapshot(snapshots::Call::Write)),
     ("read of a snapshot", Run::Snapshot(snapshots::Call::Read)),
 ];
@@ -321,6 +325,7 @@ fn judge<R: Threads + Wait + Sync + AllocGlobal>(rt: &R, run: Run) -> Verdict {
         Run::Journal(call) => journals::judge_call(rt.alloc(), call),
         Run::State(call) => states::judge_call(rt.alloc(), call),
         Run::Carry => carrying::judge_carry(rt.alloc()),
+        Run::Record => records::judge_fill(rt.alloc()),
         Run::Snapshot(call) => snapshots::judge_call(rt.alloc(), call),
     }
 }

@@ -1,0 +1,77 @@
+//! The columns of an Interim-Update as a gateway sends it.
+use crate::{Occasion, fill};
+use rad_packet::Packet;
+use sqlite_value::row::Row;
+use sqlite_value::value::ValueRef;
+use std::process::Abort;
+use std::test::Fail;
+
+/// The octets of an Accounting-Request: an Interim-Update of mira's session, whose Acct-Input-Octets have begun anew twice, with a second
+/// User-Name, an Acct-Delay-Time of three octets, and a Calling-Station-Id that is no text.
+const UPDATE: &[u8] = b"\
+    \x04\x01\x00\x63\x00\x00\x00\x00\x00\x00\x00\x00\x00\x00\x00\x00\x00\x00\x00\x00\
+    \x28\x06\x00\x00\x00\x03\x01\x06mira\x01\x05kay\x2c\x0a80f3e2c1\
+    \x08\x06\x0a\x14\x00\x07\x04\x06\xc0\x00\x02\x01\x1f\x05\xff\xfe\xfd\
+    \x2a\x06\x00\x00\x00\x05\x34\x06\x00\x00\x00\x02\x2b\x06\x00\x00\x00\x0a\
+    \x2f\x06\x00\x00\x00\x07\x2e\x06\x00\x00\x0e\x10\x29\x05\x00\x00\x09";
+
+const OCCASION: Occasion = Occasion {
+    entry: 9,
+    time: 1_700_000_000_123,
+    client: 0,
+    source: 0xC000_0201,
+    session: Some(412),
+};
+
+/// Columns and what they have.
+const COLUMNS: &[(usize, ValueRef<'static>, &str)] = &[
+    (0, ValueRef::Int(9), "entry"),
+    (1, ValueRef::Int(1_700_000_000_123), "time"),
+    (2, ValueRef::Int(1), "client"),
+    (3, ValueRef::Int(0xC000_0201), "source"),
+    (4, ValueRef::Text(b"mira"), "user"),
+    (5, ValueRef::Int(412), "session"),
+    (6, ValueRef::Int(3), "status"),
+    (7, ValueRef::Text(b"80f3e2c1"), "acct_session_id"),
+    (8, ValueRef::Null, "acct_multi_session_id"),
+    (9, ValueRef::Int(0x0A14_0007), "address"),
+    (10, ValueRef::Int(0xC000_0201), "nas_address"),
+    (11, ValueRef::Null, "nas_identifier"),
+    (12, ValueRef::Null, "nas_port"),
+    (13, ValueRef::Null, "nas_port_id"),
+    (14, ValueRef::Blob(b"\xff\xfe\xfd"), "calling_station_id"),
+    (15, ValueRef::Null, "called_station_id"),
+    (16, ValueRef::Int(3600), "session_time"),
+    (17, ValueRef::Int(8_589_934_597), "octets_in"),
+    (18, ValueRef::Int(10), "octets_out"),
+    (19, ValueRef::Int(7), "packets_in"),
+    (20, ValueRef::Null, "packets_out"),
+    (21, ValueRef::Null, "terminate_cause"),
+    (22, ValueRef::Null, "delay"),
+];
+
+fn same(one: ValueRef<'_>, other: ValueRef<'_>) -> bool {
+    match (one, other) {
+        (ValueRef::Null, ValueRef::Null) => true,
+        (ValueRef::Int(one), ValueRef::Int(other)) => one == other,
+        (ValueRef::Text(one), ValueRef::Text(other)) => one == other,
+        (ValueRef::Blob(one), ValueRef::Blob(other)) => one == other,
+        _ => false,
+    }
+}
+
+fn has(rt: &impl Abort, row: &Row, at: usize, value: ValueRef<'_>, what: &str) {
+    assert!(rt; same(row.get(at), value), "{what}");
+}
+
+#[test]
+fn an_update_in_columns(rt: HostRuntime) -> Result<(), Fail> {
+    let packet = Packet::read(UPDATE)?;
+    let mut row = Row::new(rt.alloc());
+    fill(&mut row, &OCCASION, &packet)?;
+    assert_eq!(rt; row.len(), 23);
+    for (at, value, what) in COLUMNS.iter() {
+        has(&rt, &row, *at, *value, *what);
+    }
+    Ok(())
+}
