@@ -326,12 +326,13 @@ fn begin<'c, S: Store + Drop, F: Folder<S> + Drop>(
     } = numbered;
     let (random, key) = random_of(given.seed, number.saturating_add(1));
     let carried = carry(alloc, before, given.config, key)?;
+    // Before the generation begins, so that no session is left out without a line.
+    push_restored(lines, MARK, before.config().users(), &carried)?;
     let meta = new_meta(alloc, beginning, given.text)?;
     let Keeping {
         generations,
         journal,
     } = FileGenerations::start(alloc, folder, files_max, number, meta, &carried.server)?;
-    push_restored(lines, MARK, before.config().users(), &carried);
     Ok(Life {
         service: Service::of(alloc, carried.server),
         random,

@@ -60,6 +60,6 @@ fn taken_over<'c, R: Files + Clock + Eprint + AllocGlobal, S: Store + Drop>(
         ..
     } = led_to(rt, newest, &meta, &before, key)?;
     let carried = carry(rt.alloc(), &server, config, key)?;
-    push_restored(lines, "", before.users(), &carried);
+    push_restored(lines, "", before.users(), &carried)?;
     Ok((carried, journal))
 }

@@ -6,6 +6,7 @@ use rad_pool::Session;
 use rad_replay::push_address;
 use rad_server::Server;
 use rad_watch::push_quoted;
+use std::alloc::AllocError;
 use std::io::{self, Write};
 
 /// With what a line on standard error begins.
@@ -13,19 +14,23 @@ pub(crate) const MARK: &str = "radpool: ";
 
 /// Appends lines that tell what was restored, and which sessions were left out. Each begins with this mark.
 ///
-/// `users` are those of the configuration before. A line for which memory is refused is left out.
-pub(crate) fn push_restored(lines: &mut String, mark: &str, users: &[User], carried: &Carried) {
+/// `users` are those of the configuration before.
+pub(crate) fn push_restored(
+    lines: &mut String,
+    mark: &str,
+    users: &[User],
+    carried: &Carried,
+) -> Result<(), AllocError> {
     for session in carried.left_out.iter() {
-        push_left_out(lines, mark, users, session);
+        push_left_out(lines, mark, users, session)?;
     }
     let server: &Server = &carried.server;
     let (sessions, replies, challenges) = counts_of(server);
     let left_out = carried.left_out.len();
-    if let Ok(line) = format!(in *lines.allocator();
+    let line = format!(in *lines.allocator();
         "{mark}restored sessions {sessions} replies {replies} challenges {challenges} left out {left_out}\n"
-    ) {
-        let _ = lines.push_str(&line);
-    }
+    )?;
+    lines.push_str(&line)
 }
 
 // How many sessions, kept replies and challenges a server has.
@@ -46,14 +51,21 @@ fn counts_of(server: &Server) -> (u64, u64, u64) {
 }
 
 // Appends a line that tells of a session that was left out.
-fn push_left_out(lines: &mut String, mark: &str, users: &[User], session: &Session) {
+fn push_left_out(
+    lines: &mut String,
+    mark: &str,
+    users: &[User],
+    session: &Session,
+) -> Result<(), AllocError> {
     let mut line = Vec::new(*lines.allocator());
+    // Only memory ends a write to it.
     if fill_left_out(&mut line, mark, users, session).is_err() {
-        return;
+        return Err(AllocError);
     }
     if let Ok(line) = std::str::from_utf8(&line) {
-        let _ = lines.push_str(line);
+        lines.push_str(line)?;
     }
+    Ok(())
 }
 
 fn fill_left_out(
