@@ -1,5 +1,6 @@
 -- What is recorded of an Accounting-Request: a row of a table, in whose columns its attributes are (RFC 2866, section 5; RFC 2869,
--- section 5). Where several attributes have one Type, the first counts; where none has, the column is NULL.
+-- section 5). Where several attributes have one Type, the first counts, and of numbers the first of four octets; where none has, the column
+-- is NULL.
 use Rattle.std.specs.Prelude.{ℕ, ◌+◌, ◌*◌, ◌^◌, ◌==◌, nat_lt, ℤ, pos, if◌then◌else◌, List, [], ◌∷◌, length, Option, Some, None, option_map, unwrap_or}
 use Rattle.std.specs.Str.{is_utf8}
 use Rattle.sqlite_value.specs.Order.{Row}
@@ -23,7 +24,7 @@ abbrev pub number_value : Option ℕ → Value
 number_value None = Null
 number_value (Some number) = Int (pos number)
 
--- A count of octets that began anew so often: Gigawords that aren't there are 0. From 2 ^ 63 on, which no connection reaches and no
+-- A count of octets that has wrapped around so many times: Gigawords that aren't there are 0. From 2 ^ 63 on, which no connection reaches and no
 -- column holds, it is NULL.
 abbrev pub octets_value : Option ℕ → Option ℕ → Value
 octets_value None gigawords = Null
@@ -41,7 +42,7 @@ integer_of value = if length value == integer_size then Some (from_be_bytes w32 
 abbrev pub text_of : ℕ → List Attribute → Value
 text_of kind list = text_value (first_value kind list)
 
--- the number that the first attribute of a Type is which has four octets; an address is one too
+-- the number in the first attribute of a Type that has four octets; an address is one too
 abbrev pub first_integer : ℕ → List Attribute → Option ℕ
 first_integer kind list = option_map (λ value. from_be_bytes w32 value) (first_value_of_len kind integer_size list)
 
@@ -54,17 +55,19 @@ octets_of low gigawords list = octets_value (first_integer low list) (first_inte
 
 -- ---- rows
 
--- the number of the session that a request means, if it means one
+-- the number of the session that a request names, if it names one
 abbrev pub session_value : Option ℤ → Value
 session_value None = Null
 session_value (Some number) = Int number
 
--- the row of a request's record, after its rowid, which is the number of its entry: who sent it, and what it says
+-- The row of a request's record: the number of its entry, as the rowid, for which the column that names it has NULL; then when it came,
+-- who sent it, and what it says.
 abbrev pub row_of : Occasion → List Attribute → Row
 row_of occasion list =
     Int (pos occasion.entry)
+    ∷ Null
     ∷ Int occasion.time
-    ∷ Int (pos (occasion.client + 1))
+    ∷ Int (pos occasion.client)
     ∷ Int (pos occasion.source)
     ∷ text_of type_user_name list
     ∷ session_value occasion.session

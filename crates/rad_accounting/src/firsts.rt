@@ -38,7 +38,7 @@ impl<'p, 'a> Firsts<'p, 'a> {
         self.values[kind as usize]
     }
 
-    /// The integer that the first attribute of a Type is which has four octets.
+    /// The integer in the first attribute of a Type that has four octets.
     pub fn integer(&self, kind: u8) -> Option<u32>
         ensures { result ≡ first_integer kind self.now.packet.now.attributes }
     {

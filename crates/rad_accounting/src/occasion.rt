@@ -11,6 +11,6 @@ pub struct Occasion {
     pub client: u32,
     /// The source address, most significant octet first.
     pub source: u32,
-    /// The number of the session that it means, if it means one.
+    /// The number of the session that it names, if it names one.
     pub session: Option<i64>,
 }

@@ -22,7 +22,7 @@ use std::str;
 
 /// Makes the row of what is recorded of an Accounting-Request.
 ///
-/// Its columns after the rowid, which is the number of the entry: time, client (its place counted from 1), source, user, session, status,
+/// Its columns: entry, which is the rowid and stored as NULL, time, client, source, user, session, status,
 /// acct_session_id, acct_multi_session_id, address, nas_address, nas_identifier, nas_port, nas_port_id, calling_station_id,
 /// called_station_id, session_time, octets_in, octets_out, packets_in, packets_out, terminate_cause, delay. Addresses have their most
 /// significant octet first. Octets have their Gigawords in them. A text is a blob where it is no UTF-8. Source: RFC 2866, section 5, and
@@ -33,8 +33,10 @@ pub fn fill(row: &mut Row, occasion: &Occasion, packet: &Packet) -> Result<(), A
     let firsts = Firsts::of(packet);
     row.clear();
     row.push(ValueRef::Int(i64::from(occasion.entry)))?;
+    // The column of the rowid itself.
+    row.push(ValueRef::Null)?;
     row.push(ValueRef::Int(occasion.time))?;
-    row.push(ValueRef::Int(i64::from(occasion.client) + 1))?;
+    row.push(ValueRef::Int(i64::from(occasion.client)))?;
     row.push(ValueRef::Int(i64::from(occasion.source)))?;
     push_text(row, &firsts, USER_NAME)?;
     row.push(session(occasion.session))?;
@@ -115,7 +117,7 @@ fn session(number: Option<i64>) -> ValueRef<'static>
     }
 }
 
-// A count of octets, which began anew so often.
+// A count of octets, which wrapped around so many times.
 fn octets(low: Option<u32>, gigawords: Option<u32>) -> ValueRef<'static>
     ensures { owned result ≡ octets_value low gigawords }
 {

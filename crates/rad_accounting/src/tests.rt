@@ -25,29 +25,30 @@ const OCCASION: Occasion = Occasion {
 
 /// Columns and what they have.
 const COLUMNS: &[(usize, ValueRef<'static>, &str)] = &[
-    (0, ValueRef::Int(9), "entry"),
-    (1, ValueRef::Int(1_700_000_000_123), "time"),
-    (2, ValueRef::Int(1), "client"),
-    (3, ValueRef::Int(0xC000_0201), "source"),
-    (4, ValueRef::Text(b"mira"), "user"),
-    (5, ValueRef::Int(412), "session"),
-    (6, ValueRef::Int(3), "status"),
-    (7, ValueRef::Text(b"80f3e2c1"), "acct_session_id"),
-    (8, ValueRef::Null, "acct_multi_session_id"),
-    (9, ValueRef::Int(0x0A14_0007), "address"),
-    (10, ValueRef::Int(0xC000_0201), "nas_address"),
-    (11, ValueRef::Null, "nas_identifier"),
-    (12, ValueRef::Null, "nas_port"),
-    (13, ValueRef::Null, "nas_port_id"),
-    (14, ValueRef::Blob(b"\xff\xfe\xfd"), "calling_station_id"),
-    (15, ValueRef::Null, "called_station_id"),
-    (16, ValueRef::Int(3600), "session_time"),
-    (17, ValueRef::Int(8_589_934_597), "octets_in"),
-    (18, ValueRef::Int(10), "octets_out"),
-    (19, ValueRef::Int(7), "packets_in"),
-    (20, ValueRef::Null, "packets_out"),
-    (21, ValueRef::Null, "terminate_cause"),
-    (22, ValueRef::Null, "delay"),
+    (0, ValueRef::Int(9), "the rowid"),
+    (1, ValueRef::Null, "entry"),
+    (2, ValueRef::Int(1_700_000_000_123), "time"),
+    (3, ValueRef::Int(0), "client"),
+    (4, ValueRef::Int(0xC000_0201), "source"),
+    (5, ValueRef::Text(b"mira"), "user"),
+    (6, ValueRef::Int(412), "session"),
+    (7, ValueRef::Int(3), "status"),
+    (8, ValueRef::Text(b"80f3e2c1"), "acct_session_id"),
+    (9, ValueRef::Null, "acct_multi_session_id"),
+    (10, ValueRef::Int(0x0A14_0007), "address"),
+    (11, ValueRef::Int(0xC000_0201), "nas_address"),
+    (12, ValueRef::Null, "nas_identifier"),
+    (13, ValueRef::Null, "nas_port"),
+    (14, ValueRef::Null, "nas_port_id"),
+    (15, ValueRef::Blob(b"\xff\xfe\xfd"), "calling_station_id"),
+    (16, ValueRef::Null, "called_station_id"),
+    (17, ValueRef::Int(3600), "session_time"),
+    (18, ValueRef::Int(8_589_934_597), "octets_in"),
+    (19, ValueRef::Int(10), "octets_out"),
+    (20, ValueRef::Int(7), "packets_in"),
+    (21, ValueRef::Null, "packets_out"),
+    (22, ValueRef::Null, "terminate_cause"),
+    (23, ValueRef::Null, "delay"),
 ];
 
 fn same(one: ValueRef<'_>, other: ValueRef<'_>) -> bool {
@@ -69,7 +70,7 @@ fn an_update_in_columns(rt: HostRuntime) -> Result<(), Fail> {
     let packet = Packet::read(UPDATE)?;
     let mut row = Row::new(rt.alloc());
     fill(&mut row, &OCCASION, &packet)?;
-    assert_eq!(rt; row.len(), 23);
+    assert_eq!(rt; row.len(), 24);
     for (at, value, what) in COLUMNS.iter() {
         has(&rt, &row, *at, *value, *what);
     }

@@ -1,16 +1,19 @@
 -- What calls do to a store with a log.
-use Rattle.std.proofs.Common.{◌≡◌, ◌<◌, ◌⊎◌, inl, inr, ⊎_elim, ℕ, suc, ◌+◌, Bool, true, false, IsTrue, List, [], ◌∷◌, ◌++◌, length, take, get_or, cond, ne_eqb, Some, None, refl, sym, ap, subst, ◌∙◌, arith, append_assoc, length-append}
+use Rattle.std.proofs.Common.{◌≡◌, ◌<◌, ◌⊎◌, inl, inr, ⊎_elim, ℕ, suc, ◌+◌, Bool, true, false, IsTrue, List, [], ◌∷◌, ◌++◌, length, take, get_or, slice_get, cond, ne_eqb, Some, None, refl, sym, ap, subst, ◌∙◌, arith, append-nil, append_assoc, length-append}
 use mathlib.Core.Path.{fun_ext}
 use Rattle.std.proofs.Math.Seq.{take-suc}
-use Rattle.std.proofs.lemmas.List.{length-map, length-take-le, map-append}
-use Rattle.sqlite_trees.specs.Tree.{Trees, from_key, order_of, put_row, sought}
+use Rattle.std.proofs.lemmas.List.{length-map, length-take-le, map-append, take_all}
+use Rattle.std.proofs.lemmas.Option.{get_or_from_slice_get, none-some, slice_get_cases}
+use Rattle.std.specs.Prelude.{option_to_list}
+use Rattle.sqlite_trees.specs.Tree.{Trees, order_of, put_row, sought}
 use Rattle.sqlite_trees.specs.declared.store.Direction.TheVariants.{Forward}
-use Rattle.sqlite_value.specs.declared.keys.Order.{Order}
 use Rattle.sqlite_trees.specs.View.{Advances, Commits, IsRolledBack, KeepsSchema, OnlyWrites, SetsTree, View, with_cursor}
 use Rattle.sqlite_value.specs.Order.{Row}
 use Rattle.rad_journal.specs.Rows.{IsCounted, IsLog, entries_of, entry_of, row_of, rows_from, table}
-use Rattle.rad_journal.specs.Stores.{IsAdded, IsSound, KeepsOthers, LeavesAdded, OnlyReads, others}
-use Rattle.rad_journal.proofs.RowLemmas.{entries_back, put_last, rows_push}
+use Rattle.rad_journal.specs.Records.{IsJournal, record_of, record_table, records_of, with_record}
+use Rattle.rad_journal.specs.Stores.{HasTables, IsAdded, IsRecorded, IsSound, KeepsOthers, LeavesAdded, OnlyReads, TakesRecord, others}
+use Rattle.rad_journal.proofs.CursorLemmas.{ends, gives, reads_on, seeks_first, some_rows, with_reads}
+use Rattle.rad_journal.proofs.RowLemmas.{entries_back, put_last, record_last, records_push, rows_push}
 use Rattle.rad_journal.specs.declared.kept.Kept.{Kept}
 
 pub frames : (first second third : View) → OnlyWrites first second → OnlyWrites second third → OnlyWrites first third
@@ -56,26 +59,71 @@ put_so_far old new before entries i count m x it lt sets is was counted =
 pub set_beside : (old new : View) (edit : List Row → List Row) → SetsTree old new table edit → others new.trees ≡ others old.trees
 set_beside old new edit sets =
     ap (λ (v : View). others v.trees) sets.is
-    ∙ fun_ext (λ tree. ap (λ (b : Bool). cond b (edit (old.trees table)) (old.trees (suc tree))) (ne_eqb (suc tree) 0 (λ is. omega (arith, is))))
+    ∙ fun_ext (λ tree. ap (λ (b : Bool). cond b (edit (old.trees table)) (old.trees (suc (suc tree)))) (ne_eqb (suc (suc tree)) 0 (λ is. omega (arith, is))))
+
+-- and so are the records
+pub set_records : (old new : View) (edit : List Row → List Row) → SetsTree old new table edit → new.trees record_table ≡ old.trees record_table
+set_records old new edit sets = ap (λ (v : View). v.trees record_table) sets.is
+
+-- a record is put
+pub put_record : (old new : View) (row : Row) → SetsTree old new record_table (put_row row) → IsRecorded old new (Some row)
+put_record old new row sets = record {
+  records = ap (λ (v : View). v.trees record_table) sets.is;
+  entries = ap (λ (v : View). v.trees table) sets.is;
+  others = ap (λ (v : View). others v.trees) sets.is
+      ∙ fun_ext (λ tree. ap (λ (b : Bool). cond b (put_row row (old.trees record_table)) (old.trees (suc (suc tree)))) (ne_eqb (suc (suc tree)) 1 (λ is. omega (arith, is))));
+}
+
+-- so many records were put, and then one more
+pub recorded_so_far : (old new : View) (before entries : List Kept) (i count m : ℕ) (x : Kept) → x ≡ get_or entries i x → i < length entries
+    → IsRecorded old new (record_of m x) → m ≡ count + i + 1 → length before ≡ count
+    → old.trees record_table ≡ records_of (before ++ take i entries)
+    → new.trees record_table ≡ records_of (before ++ take (i + 1) entries)
+recorded_so_far old new before entries i count m x it lt put is counted was =
+    let done = before ++ take i entries in
+    let taken : length (take i entries) ≡ i = length-take-le i entries (omega (arith, lt)) in
+    let long : m ≡ 1 + length done = omega (arith, is, length-append before (take i entries), counted, taken) in
+    put.records ∙ ap (λ (rows : List Row). with_record (record_of m x) rows) was
+    ∙ record_last m 1 done x long
+    ∙ ap (λ (l : List Kept). records_of l) (append_assoc before (take i entries) (x ∷ []) ∙ ap (λ (l : List Kept). before ++ l) (sym (take_next entries i x it lt)))
+
+-- the tables stay where the shapes do
+pub same_tables : (old new : View) → new.shape ≡ old.shape → HasTables old → HasTables new
+same_tables old new same were = record {
+  entries = ap (λ f. f table) same ∙ were.entries;
+  records = ap (λ f. f record_table) same ∙ were.records;
+}
 
 -- ---- a commit
 
 module _ (old mid new : View) (recovers_old recovers_mid recovers_new : Trees → Type 0) (count : ℕ) (entries : List Kept)
     (was : IsSound old recovers_old true (Some count)) (outcomes : (db : Trees) → recovers_mid db → recovers_old db) where
   abbrev Puts : Type 0
-  Puts = mid.trees table ≡ rows_from 1 (entries_of (old.trees table) ++ entries)
+  Puts = (mid.trees table ≡ rows_from 1 (entries_of (old.trees table) ++ entries))
+      × ((before : List Kept) → length before ≡ count → old.trees record_table ≡ records_of before
+      → mid.trees record_table ≡ records_of (before ++ entries))
 
   abbrev Leaves : Type 0
   Leaves = (db : Trees) → recovers_new db → ((mid.is_broken ≡ false) × (db ≡ mid.trees)) ⊎ recovers_mid db
 
-  mid_log : Puts → IsLog (mid.trees table)
-  mid_log puts = is_log (mid.trees table) (entries_of (old.trees table) ++ entries) puts
+  before_entries : length (entries_of (old.trees table)) ≡ count
+  before_entries = ap (λ (t : Trees). length (entries_of (t table))) (was.settled refl) ∙ was.counted count refl
+
+  before_records : old.trees record_table ≡ records_of (entries_of (old.trees table))
+  before_records = subst (λ (t : Trees). t record_table ≡ records_of (entries_of (t table))) (sym (was.settled refl)) (was.journal refl).records
+
+  mid_journal : Puts → IsJournal mid.trees
+  mid_journal puts = record {
+    log = is_log (mid.trees table) (entries_of (old.trees table) ++ entries) puts.0;
+    records = puts.1 (entries_of (old.trees table)) before_entries before_records
+        ∙ ap (λ (l : List Kept). records_of l) (sym (stands_for (mid.trees table) (entries_of (old.trees table) ++ entries) puts.0));
+  }
 
   mid_entries : Puts → entries_of (mid.trees table) ≡ entries_of (old.committed table) ++ entries
-  mid_entries puts = stands_for (mid.trees table) (entries_of (old.trees table) ++ entries) puts ∙ ap (λ (t : Trees). entries_of (t table) ++ entries) (was.settled refl)
+  mid_entries puts = stands_for (mid.trees table) (entries_of (old.trees table) ++ entries) puts.0 ∙ ap (λ (t : Trees). entries_of (t table) ++ entries) (was.settled refl)
 
-  each : Puts → Leaves → (db : Trees) → recovers_new db → IsLog (db table)
-  each puts leaves db left = ⊎_elim (λ now. subst (λ (t : Trees). IsLog (t table)) (sym now.1) (mid_log puts)) (λ before. was.outcomes db (outcomes db before)) (leaves db left)
+  each : Puts → Leaves → (db : Trees) → recovers_new db → IsJournal db
+  each puts leaves db left = ⊎_elim (λ now. subst IsJournal (sym now.1) (mid_journal puts)) (λ before. was.outcomes db (outcomes db before)) (leaves db left)
 
   pub commit_leaves : Puts → Leaves → LeavesAdded old recovers_old recovers_new entries
   commit_leaves puts leaves db left = ⊎_elim (λ now. inr (ap (λ (t : Trees). entries_of (t table)) now.1 ∙ mid_entries puts)) (λ before. inl (outcomes db before)) (leaves db left)
@@ -95,11 +143,11 @@ module _ (old mid new : View) (recovers_old recovers_mid recovers_new : Trees �
       let shape : new.shape ≡ old.shape = ap (λ (v : View). v.shape) commits.is ∙ ap (λ (v : View). v.shape) frame in
       record {
         outcomes = each puts leaves;
-        shape = λ _. ap (λ f. f table) shape ∙ was.shape refl;
+        shapes = λ _. same_tables old new shape (was.shapes refl);
         committed_shape = λ _. ap (λ (v : View). v.shape) commits.is ∙ sym (ap (λ (v : View). v.committed_shape) commits.is);
         known = λ _. refl;
         settled = λ _. ap (λ (v : View). v.trees) commits.is ∙ sym committed;
-        log = λ _. subst (λ (t : Trees). IsLog (t table)) (sym committed) (mid_log puts);
+        journal = λ _. subst IsJournal (sym committed) (mid_journal puts);
         counted = λ n is.
             let sum : count + length entries ≡ n = cc is in
             let long : length (entries_of (new.committed table)) ≡ length (entries_of (old.committed table) ++ entries) = ap (λ (t : Trees). length (entries_of (t table))) committed ∙ ap (λ (l : List Kept). length l) (mid_entries puts) in
@@ -120,22 +168,22 @@ module _ (old mid new : View) (recovers_old recovers_mid recovers_new : Trees �
       let shape : new.shape ≡ mid.shape = back.shape same in
       record {
         outcomes = each puts leaves;
-        shape = λ _. ap (λ f. f table) (shape ∙ schema.shape) ∙ was.shape refl;
+        shapes = λ _. same_tables old new (shape ∙ schema.shape) (was.shapes refl);
         committed_shape = λ _. shape ∙ same ∙ sym back.committed_shape;
         known = λ none. absurd (cc none);
         settled = λ none. absurd (cc none);
-        log = λ none. absurd (cc none);
+        journal = λ none. absurd (cc none);
         counted = λ n none. absurd (cc none);
       }
 
   pub put_failed : KeepsSchema old mid → IsSound mid recovers_mid true None
   put_failed schema = record {
     outcomes = λ db left. was.outcomes db (outcomes db left);
-    shape = λ _. ap (λ f. f table) schema.shape ∙ was.shape refl;
+    shapes = λ _. same_tables old mid schema.shape (was.shapes refl);
     committed_shape = λ _. schema.shape ∙ was.committed_shape refl ∙ sym schema.committed_shape;
     known = λ none. absurd (cc none);
     settled = λ none. absurd (cc none);
-    log = λ none. absurd (cc none);
+    journal = λ none. absurd (cc none);
     counted = λ n none. absurd (cc none);
   }
 
@@ -148,10 +196,6 @@ pub still_open : (old mid : View) → (old.is_open ≡ false → IsTrue old.is_b
 still_open old mid law frame sound = open_if old.is_open old.is_broken law (sym (ap (λ (v : View). v.is_broken) frame) ∙ sound)
 
 -- ---- the check of the rows
-
-pub from_no_key : (o : Order) (rows : List Row) → from_key o [] rows ≡ rows
-from_no_key o [] = refl
-from_no_key o (row ∷ rows) = refl
 
 -- one more row is that of an entry
 pub one_more : (rows done left : List Row) (row : Row) (n : ℕ) → rows ≡ done ++ row ∷ left → done ≡ rows_from 1 (entries_of done) → length done ≡ n → row ≡ row_of (1 + n) (entry_of row)
@@ -168,13 +212,8 @@ SoFar rows v n = (done left : List Row) × (rows ≡ done ++ left) × (v.cursors
 
 pub seeks : (old new : View) (key : Row) → key ≡ [] → new ≡ with_cursor old 0 (sought (order_of (old.shape table)) Forward key (old.trees table)) → SoFar (old.trees table) new 0 × OnlyReads old new
 seeks old new key none is =
-    let all : from_key (order_of (old.shape table)) key (old.trees table) ≡ old.trees table = ap (λ (k : Row). from_key (order_of (old.shape table)) k (old.trees table)) none ∙ from_no_key (order_of (old.shape table)) (old.trees table) in (
-      ([], old.trees table, refl, ap (λ (v : View). v.cursors 0) is ∙ ap (λ (l : List Row). Some l) all, refl, refl),
-      is ∙ ap (λ cs. record old { cursors = cs }) (sym (ap (λ (v : View). v.cursors) is)),
-    )
-
-some_rows : (a b : List Row) → Some a ≡ Some b → a ≡ b
-some_rows a b is = cc is
+    let first = seeks_first old new table key none is in
+    (([], old.trees table, refl, first.0, refl, refl), first.1)
 
 pub advances : (first old new : View) (rows : List Row) (row : Row) (n : ℕ) → Advances old new 0 row true → row ≡ row_of (1 + n) (entry_of row) → SoFar rows old n → OnlyReads first old → SoFar rows new (n + 1) × OnlyReads first new
 advances first old new rows row n step same (done, left, split, cursor, is, long) reads =
@@ -190,3 +229,59 @@ advances first old new rows row n step same (done, left, split, cursor, is, long
       ),
       step.2 ∙ ap (λ (v : View). with_cursor v 0 step.0) reads ∙ ap (λ cs. record first { cursors = cs }) (sym (ap (λ (v : View). v.cursors) (step.2 ∙ ap (λ (v : View). with_cursor v 0 step.0) reads))),
     )
+
+-- ---- the check of the records
+
+-- there is none
+pub takes_none : (old new : View) → new ≡ old → TakesRecord old new None
+takes_none old new same = record {
+  reads = same ∙ ap (λ cs. record old { cursors = cs }) (sym (ap (λ (v : View). v.cursors) same));
+  takes = λ left at. (left, refl, ap (λ (v : View). v.cursors 0) same ∙ at);
+}
+
+-- it was read, and is this one
+pub takes_one : (old mid new : View) (row wanted : Row) → mid ≡ old → Advances mid new 0 row true → row ≡ wanted → TakesRecord old new (Some wanted)
+takes_one old mid new row wanted same step is = record {
+  reads = reads_on old mid new (takes_none old mid same).reads (with_reads mid new step.0 step.2);
+  takes = λ left at.
+      let (rest, split, now, reads) = gives mid new left row step (ap (λ (v : View). v.cursors 0) same ∙ at) in
+      (rest, split ∙ ap (λ (r : Row). r ∷ rest) is, now);
+}
+
+-- the records of so many entries were read
+abbrev pub RecordsSoFar : View → View → ℕ → Type 0
+RecordsSoFar first v n = (left : List Row)
+    × (first.trees record_table ≡ records_of (take n (entries_of (first.trees table))) ++ left) × (v.cursors 0 ≡ Some left)
+
+-- an entry that is there
+found_get : (entries : List Kept) (n : ℕ) (entry : Kept) → slice_get entries n ≡ Some entry
+    → (n < length entries) × (entry ≡ get_or entries n entry)
+found_get entries n entry is = (
+  ⊎_elim (λ has. has.1) (λ none. absurd (none-some _ (sym none.1 ∙ is))) (slice_get_cases entries n).1,
+  sym (get_or_from_slice_get entries n entry entry is),
+)
+
+pub record_next : (first old new : View) (n : ℕ) (entry : Kept) → RecordsSoFar first old n
+    → slice_get (entries_of (first.trees table)) n ≡ Some entry → TakesRecord old new (record_of (1 + n) entry) → RecordsSoFar first new (n + 1)
+record_next first old new n entry (left, split, at) is takes =
+    let entries = entries_of (first.trees table) in
+    let (rest, parts, now) = takes.takes left at in
+    let found = found_get entries n entry is in
+    let taken : length (take n entries) ≡ n = length-take-le n entries (omega (arith, found.0)) in
+    let last : 1 + n ≡ 1 + length (take n entries) = omega (arith, taken) in (
+      rest,
+      split ∙ ap (λ (l : List Row). records_of (take n entries) ++ l) parts
+          ∙ sym (append_assoc (records_of (take n entries)) (option_to_list (record_of (1 + n) entry)) rest)
+          ∙ ap (λ (l : List Row). l ++ rest) (sym (records_push (1 + n) 1 (take n entries) entry last))
+          ∙ ap (λ (l : List Kept). records_of l ++ rest) (sym (take_next entries n entry found.1 found.0)),
+      now,
+    )
+
+-- and no more are left
+pub records_end : (first old new : View) (row : Row) (n : ℕ) → RecordsSoFar first old n → length (entries_of (first.trees table)) ≡ n
+    → Advances old new 0 row false → first.trees record_table ≡ records_of (entries_of (first.trees table))
+records_end first old new row n (left, split, at) long step =
+    let entries = entries_of (first.trees table) in
+    let none = (ends old new left row step at).0 in
+    split ∙ ap (λ (l : List Row). records_of (take n entries) ++ l) none ∙ append-nil (records_of (take n entries))
+    ∙ ap (λ (l : List Kept). records_of l) (take_all n entries (omega (arith, long)))

@@ -12,36 +12,40 @@ use Rattle.rad_config.specs.Configurations.{Configuration}
 use Rattle.rad_config.specs.Spans.{moment_max}
 use Rattle.rad_server.specs.Runs.{IsExchange, Run, datagram_of_entry}
 use Rattle.rad_server.specs.Servers.{Server}
-use Rattle.rad_server.specs.States.{State}
-use Rattle.rad_server.specs.Steps.{step}
+use Rattle.rad_server.specs.States.{State, at_moment}
+use Rattle.rad_server.specs.Steps.{session_at, step}
 use Rattle.rad_server.specs.declared.answer.Answer.{Answer}
 use Rattle.rad_server.specs.declared.entry.Entry.{Entry}
 use Rattle.rad_journal.specs.Kept.{answer_octets, kept_by}
-use Rattle.rad_journal.specs.Restores.{AreKept, CannotRestore, CannotStep, HasReason, IsNoRequest, IsRestored, datagram_of_kept}
+use Rattle.rad_journal.specs.Restores.{AreKept, CannotRestore, CannotStep, HasReason, IsKeptSo, IsNoRequest, IsRestored, datagram_of_kept}
 use Rattle.rad_journal.specs.declared.kept.Kept.{Kept}
 use Rattle.rad_journal.specs.declared.restore_fault.RestoreFault.{RestoreFault}
 use Rattle.rad_journal.specs.declared.restore_fault.RestoreFault.TheVariants.{NoMemory, Journal, TooLate, NotAdmitted, OtherAnswer}
 
 -- what was kept of an entry is in it
-record IsKeptAs (entry : Entry) (kept : Kept) : Type 0 where
-  datagram : datagram_of_entry entry ≡ datagram_of_kept kept
-  moment : entry.moment ≡ kept.moment
-  draw : entry.draw ≡ kept.draw
-  answer : answer_octets entry.answer ≡ Some kept.answer
+pub record IsKeptAs (entry : Entry) (kept : Kept) : Type 0 where
+  pub client : entry.client ≡ kept.client
+  pub session : entry.session ≡ kept.session
+  pub datagram : datagram_of_entry entry ≡ datagram_of_kept kept
+  pub moment : entry.moment ≡ kept.moment
+  pub draw : entry.draw ≡ kept.draw
+  pub answer : answer_octets entry.answer ≡ Some kept.answer
 
 abbrev pub as_kept : ℕ → Entry → List ℕ → Kept
 as_kept wall entry answer = record {
   wall = wall;
   moment = entry.moment;
+  client = entry.client;
   source = entry.source;
   port = entry.port;
   door = entry.door;
+  session = entry.session;
   draw = entry.draw;
   octets = entry.octets;
   answer = answer;
 }
 
-kept_as : (wall : ℕ) (entry : Entry) (kept : Kept) → kept_by wall entry ≡ Some kept → IsKeptAs entry kept
+pub kept_as : (wall : ℕ) (entry : Entry) (kept : Kept) → kept_by wall entry ≡ Some kept → IsKeptAs entry kept
 kept_as wall entry kept e = at (answer_octets entry.answer) refl e
   where
     at : (o : Option (List ℕ)) → answer_octets entry.answer ≡ o → option_map (as_kept wall entry) o ≡ Some kept → IsKeptAs entry kept
@@ -49,6 +53,8 @@ kept_as wall entry kept e = at (answer_octets entry.answer) refl e
     at (Some octets) is e =
         let same : as_kept wall entry octets ≡ kept = cc e in
         record {
+          client = ap (λ (k : Kept). k.client) same;
+          session = ap (λ (k : Kept). k.session) same;
           datagram = ap (λ (k : Kept). datagram_of_kept k) same;
           moment = ap (λ (k : Kept). k.moment) same;
           draw = ap (λ (k : Kept). k.draw) same;
@@ -73,6 +79,18 @@ same_exchange configuration state request kept entry after admitted own exchange
     (subst (λ m. step configuration state exchange.request m kept.draw ≡ (entry.answer, after)) parts.moment
     (subst (λ d. step configuration state exchange.request entry.moment d ≡ (entry.answer, after)) parts.draw exchange.answered))
 
+-- and so is the session that it names
+same_session : (configuration : Configuration) (state : State) (request : Request) (kept : Kept) (entry : Entry) (after : State)
+    → IsAdmitted configuration.clients request → own_datagram request ≡ datagram_of_kept kept
+    → IsExchange configuration state entry after → kept_by kept.wall entry ≡ Some kept
+    → session_at configuration (at_moment kept.moment state) request ≡ kept.session
+same_session configuration state request kept entry after admitted own exchange is =
+    let parts = kept_as kept.wall entry kept is in
+    let same : exchange.request ≡ request = one_request configuration.clients exchange.request request exchange.asked.admitted admitted (exchange.asked.own ∙ parts.datagram ∙ sym own) in
+    subst (λ r. session_at configuration (at_moment kept.moment state) r ≡ kept.session) same
+    (subst (λ m. session_at configuration (at_moment m state) exchange.request ≡ kept.session) parts.moment
+    (sym exchange.session ∙ parts.session))
+
 -- ---- no step
 
 too_late : (before : Server) (kept : Kept) → moment_max < kept.moment → CannotStep before kept
@@ -84,16 +102,21 @@ not_admitted : (before : Server) (kept : Kept) → IsNoRequest before.configurat
 not_admitted before kept none after s =
     let parts = kept_as kept.wall s.entry kept s.is_kept in
     none s.exchange.request s.exchange.asked.admitted (s.exchange.asked.own ∙ parts.datagram)
+    (sym s.exchange.asked.client ∙ parts.client)
 
 other_answer : (before : Server) (kept : Kept) (request : Request) (answer : Answer) (next : State)
     → IsAdmitted before.configuration.clients request → own_datagram request ≡ datagram_of_kept kept
     → step before.configuration before.state request kept.moment kept.draw ≡ (answer, next)
-    → (answer_octets answer ≡ Some kept.answer → ⊥) → CannotStep before kept
+    → (IsKeptSo kept answer (session_at before.configuration (at_moment kept.moment before.state) request) → ⊥)
+    → CannotStep before kept
 other_answer before kept request answer next admitted own stepped other after s =
     let parts = kept_as kept.wall s.entry kept s.is_kept in
     let there = same_exchange before.configuration before.state request kept s.entry after.state admitted own s.exchange s.is_kept in
     let same : answer ≡ s.entry.answer = ap (λ (x : Answer × State). x.0) (sym stepped ∙ there) in
-    other (ap (λ (a : Answer). answer_octets a) same ∙ parts.answer)
+    other (record {
+      answers = ap (λ (a : Answer). answer_octets a) same ∙ parts.answer;
+      names = same_session before.configuration before.state request kept s.entry after.state admitted own s.exchange s.is_kept;
+    })
 
 -- an entry that fails for a reason is no step
 pub cannot_step : (fault : RestoreFault) (before : Server) (kept : Kept) (after : Server) → HasReason fault before kept after → CannotStep before kept
@@ -146,6 +169,7 @@ refused n kept next before between restored is same cannot after whole =
 
 -- the verdict on what was kept gives no request that is all of it
 pub no_request : (clients : List Client) (kept : Kept) (verdict : Result Request Discard) → verdict ≡ admission clients (datagram_of_kept kept)
-    → ((request : Request) → verdict ≡ Ok request → packet_octets request.packet ≡ kept.octets → ⊥) → IsNoRequest clients kept
-no_request clients kept verdict is differs request admitted own =
-    differs request (is ∙ ap (λ (d : Datagram). admission clients d) (sym own) ∙ admitted) (ap (λ (d : Datagram). d.octets) own)
+    → ((request : Request) → verdict ≡ Ok request → request.client ≡ kept.client → packet_octets request.packet ≡ kept.octets → ⊥)
+    → IsNoRequest clients kept
+no_request clients kept verdict is differs request admitted own client =
+    differs request (is ∙ ap (λ (d : Datagram). admission clients d) (sym own) ∙ admitted) client (ap (λ (d : Datagram). d.octets) own)

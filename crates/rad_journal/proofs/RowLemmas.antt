@@ -1,13 +1,20 @@
 -- Rows of entries: found by their rowids, and put behind the others.
-use Rattle.std.proofs.Common.{◌≡◌, ◌<◌, ⊎_elim, ℕ, zero, suc, ◌+◌, pos, true, false, List, [], ◌∷◌, ◌++◌, length, filter, Some, None, slice_get, Less, is_eq, refl, sym, ap, subst, ◌∙◌, arith}
+use Rattle.std.proofs.Common.{◌≡◌, ◌<◌, ⊎_elim, ℕ, zero, suc, ◌+◌, pos, Bool, true, false, ◌==◌, if◌then◌else◌, List, [], ◌∷◌, ◌++◌, length, filter, Option, Some, None, IfSome, Result, Ok, Err, slice_get, Less, is_eq, refl, sym, ap, subst, ◌∙◌, arith, append-nil, append_assoc}
+use Rattle.std.specs.Ordering.{match_ordering}
+use Rattle.std.specs.Prelude.{option_to_list}
+use Rattle.rad_accounting.specs.Records.{row_of as record_row}
+use Rattle.rad_packet.specs.Codes.{code_accounting_request}
+use Rattle.rad_packet.specs.Packets.{Packet, packet_of}
+use Rattle.rad_packet.specs.declared.packet.ReadFault.{ReadFault}
 use Rattle.std.proofs.lemmas.Int.{ints}
 use Rattle.std.proofs.lemmas.Bool.Decides.{nat_tests}
 use Rattle.std.proofs.lemmas.Option.{none-some, slice_get_cases}
 use Rattle.sqlite_value.specs.declared.value.Value.TheVariants.{Int}
 use Rattle.sqlite_value.specs.Order.{Row, value_cmp}
 use Rattle.sqlite_value.proofs.OrderLemmas.{value_cmp-Int}
-use Rattle.sqlite_trees.specs.Tree.{has_rowid, put_row}
+use Rattle.sqlite_trees.specs.Tree.{has_rowid, put_row, rowid}
 use Rattle.sqlite_trees.specs.View.{Finds}
+use Rattle.rad_journal.specs.Records.{occasion_of, record_of, record_read, records_from, with_record}
 use Rattle.rad_journal.specs.Rows.{IsLog, entries_of, entry_back, entry_of, row_of, rows_from}
 use Rattle.rad_journal.specs.declared.kept.Kept.{Kept}
 
@@ -82,3 +89,55 @@ read_none m k rows row log is finds = ⊎_elim
 pub rows_push : (m n : ℕ) (entries : List Kept) (entry : Kept) → m ≡ n + length entries → rows_from n (entries ++ entry ∷ []) ≡ rows_from n entries ++ row_of m entry ∷ []
 rows_push m n [] entry is = let same : n ≡ m = omega (arith, is) in ap (λ (k : ℕ). row_of k entry ∷ []) same
 rows_push m n (first ∷ entries) entry is = ap (λ (l : List Row). row_of n first ∷ l) (rows_push m (suc n) entries entry (omega (arith, is)))
+
+-- ---- records
+
+-- a record has the number of its entry as its rowid
+has_number : (m : ℕ) (entry : Kept) → IfSome (record_of m entry) (λ row. rowid row ≡ Int (pos m))
+has_number m entry = read (packet_of entry.octets)
+  where
+    read : (r : Result Packet ReadFault) → IfSome (record_read m entry r) (λ row. rowid row ≡ Int (pos m))
+    read (Err fault) = tt
+    read (Ok packet) = at (packet.code == code_accounting_request)
+      where
+        at : (b : Bool) → IfSome (if b then Some (record_row (occasion_of m entry) packet.attributes) else None) (λ row. rowid row ≡ Int (pos m))
+        at true = refl
+        at false = tt
+
+-- a row goes behind one with a lower rowid
+put_behind : (m n : ℕ) (first new : Row) (rows : List Row) → n < m → rowid first ≡ Int (pos n) → rowid new ≡ Int (pos m)
+    → put_row new (first ∷ rows) ≡ first ∷ put_row new rows
+put_behind m n first new rows lt low high =
+    ap (λ o. match_ordering o (first ∷ put_row new rows) (new ∷ rows) (new ∷ first ∷ rows))
+    (ap (λ v. value_cmp v (rowid new)) low ∙ ap (λ v. value_cmp (Int (pos n)) v) high ∙ lower n m lt)
+
+-- a record with the next number goes behind
+pub record_last : (m n : ℕ) (entries : List Kept) (entry : Kept) → m ≡ n + length entries
+    → with_record (record_of m entry) (records_from n entries) ≡ records_from n (entries ++ entry ∷ [])
+record_last m n [] entry is =
+    let same : m ≡ n = omega (arith, is) in
+    at (record_of m entry) ∙ ap (λ k. option_to_list (record_of k entry) ++ []) same
+  where
+    at : (o : Option Row) → with_record o [] ≡ option_to_list o ++ []
+    at None = refl
+    at (Some row) = refl
+record_last m n (first ∷ entries) entry is =
+    behind (record_of m entry) (record_of n first) (has_number m entry) (has_number n first)
+    ∙ ap (λ (l : List Row). option_to_list (record_of n first) ++ l) (record_last m (suc n) entries entry (omega (arith, is)))
+  where
+    behind : (new old : Option Row) → IfSome new (λ row. rowid row ≡ Int (pos m)) → IfSome old (λ row. rowid row ≡ Int (pos n))
+        → with_record new (option_to_list old ++ records_from (suc n) entries)
+        ≡ option_to_list old ++ with_record new (records_from (suc n) entries)
+    behind None old high low = refl
+    behind (Some new) None high low = refl
+    behind (Some new) (Some row) high low = put_behind m n row new (records_from (suc n) entries) (omega (arith, is)) low high
+
+-- the records of entries and one more
+pub records_push : (m n : ℕ) (entries : List Kept) (entry : Kept) → m ≡ n + length entries
+    → records_from n (entries ++ entry ∷ []) ≡ records_from n entries ++ option_to_list (record_of m entry)
+records_push m n [] entry is =
+    let same : n ≡ m = omega (arith, is) in
+    append-nil (option_to_list (record_of n entry)) ∙ ap (λ k. option_to_list (record_of k entry)) same
+records_push m n (first ∷ entries) entry is =
+    ap (λ (l : List Row). option_to_list (record_of n first) ++ l) (records_push m (suc n) entries entry (omega (arith, is)))
+    ∙ sym (append_assoc (option_to_list (record_of n first)) (records_from (suc n) entries) (option_to_list (record_of m entry)))

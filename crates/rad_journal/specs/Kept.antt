@@ -17,9 +17,11 @@ kept_by wall entry = option_map
     (λ answer. record {
       wall = wall;
       moment = entry.moment;
+      client = entry.client;
       source = entry.source;
       port = entry.port;
       door = entry.door;
+      session = entry.session;
       draw = entry.draw;
       octets = entry.octets;
       answer = answer;

@@ -1,5 +1,5 @@
 -- What restoring a server from kept entries makes of it.
-use Rattle.std.specs.Prelude.{◌≡◌, ◌≤◌, ◌<◌, ℕ, List, [], ◌∷◌, take, slice_get, All, Some}
+use Rattle.std.specs.Prelude.{◌≡◌, ◌≤◌, ◌<◌, ℕ, List, [], ◌∷◌, take, slice_get, All, Option, Some}
 use Rattle.rad_packet.specs.Bodies.{Body}
 use Rattle.rad_auth.specs.Admission.{IsAdmitted, own_datagram}
 use Rattle.rad_auth.specs.Clients.{Client}
@@ -8,7 +8,8 @@ use Rattle.rad_auth.specs.declared.arrival.Request.{Request}
 use Rattle.rad_config.specs.Spans.{moment_max}
 use Rattle.rad_server.specs.Runs.{IsExchange, Run}
 use Rattle.rad_server.specs.Servers.{Server}
-use Rattle.rad_server.specs.Steps.{step}
+use Rattle.rad_server.specs.States.{at_moment}
+use Rattle.rad_server.specs.Steps.{session_at, step}
 use Rattle.rad_server.specs.declared.answer.Answer.{Answer}
 use Rattle.rad_server.specs.declared.answer.Answer.TheVariants.{Send}
 use Rattle.rad_server.specs.declared.entry.Entry.{Entry}
@@ -55,10 +56,11 @@ CannotStep before kept = (after : Server) → IsStep before kept after → ⊥
 abbrev pub CannotRestore : Server → List Kept → Type 0
 CannotRestore before kept = (after : Server) → IsRestored before kept after → ⊥
 
--- no request is the one that was kept
+-- no request is the one that was kept, of the client that was
 abbrev pub IsNoRequest : List Client → Kept → Type 0
 IsNoRequest clients kept =
-    (request : Request) → IsAdmitted clients request → own_datagram request ≡ datagram_of_kept kept → ⊥
+    (request : Request) → IsAdmitted clients request → own_datagram request ≡ datagram_of_kept kept
+    → request.client ≡ kept.client → ⊥
 
 -- the faults of an entry
 abbrev pub IsOfEntry : RestoreFault → Type 0
@@ -78,16 +80,22 @@ place_of (OtherAnswer entry) = entry
 
 -- ---- where restoring stops
 
--- the step of the request that was kept gives another answer, and leads from one server to another
+-- this answer and session are those that were kept
+pub record IsKeptSo (kept : Kept) (answer : Answer) (session : Option ℕ) : Type 0 where
+  pub answers : answer_octets answer ≡ Some kept.answer
+  pub names : session ≡ kept.session
+
+-- the step of the request that was kept gives another answer, or names another session, and leads from one server to another
 pub record IsAnsweredOtherwise (before : Server) (kept : Kept) (after : Server) : Type 0 where
   pub request : Request
   pub own : own_datagram request ≡ datagram_of_kept kept
   pub admitted : IsAdmitted before.configuration.clients request
+  pub client : request.client ≡ kept.client
   pub moment : kept.moment ≤ moment_max
   pub answer : Answer
   pub answered : step before.configuration before.state request kept.moment kept.draw ≡ (answer, after.state)
   pub configuration : after.configuration ≡ before.configuration
-  pub differs : answer_octets answer ≡ Some kept.answer → ⊥
+  pub differs : ¬ IsKeptSo kept answer (session_at before.configuration (at_moment kept.moment before.state) request)
 
 -- why a kept entry fails at a server, and the server after that; the moment is looked at first
 abbrev pub HasReason : RestoreFault → Server → Kept → Server → Type 0

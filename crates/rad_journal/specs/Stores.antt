@@ -1,9 +1,11 @@
--- What a store with the table of a journal shows.
-use Rattle.std.specs.Prelude.{◌≡◌, ◌⊎◌, ℕ, suc, List, ◌++◌, length, Bool, Option, Some, IsTrue, IsSome}
+-- What a store with the tables of a journal shows.
+use Rattle.std.specs.Prelude.{◌≡◌, ◌⊎◌, ℕ, suc, List, ◌++◌, length, Bool, Option, Some, option_to_list, IsTrue, IsSome}
 use Rattle.sqlite_trees.specs.Tree.{Trees}
 use Rattle.sqlite_trees.specs.View.{View}
 use Rattle.sqlite_trees.specs.declared.store.Shape.TheVariants.{Table}
-use Rattle.rad_journal.specs.Rows.{table, entries_of, IsLog}
+use Rattle.sqlite_value.specs.Order.{Row}
+use Rattle.rad_journal.specs.Records.{IsJournal, record_table, with_record}
+use Rattle.rad_journal.specs.Rows.{table, entries_of}
 use Rattle.rad_journal.specs.declared.kept.Kept.{Kept}
 
 -- the entries of the last commit
@@ -14,31 +16,46 @@ kept_in view = entries_of (view.committed table)
 abbrev pub MayLeave : (Trees → Type 0) → List Kept → Type 0
 MayLeave recovers left = (db : Trees) × recovers db × (left ≡ entries_of (db table))
 
--- what a database has beside the journal's table: its other tables
+-- a crash may leave these entries, and these records
+abbrev pub MayRecord : (Trees → Type 0) → List Kept → List Row → Type 0
+MayRecord recovers left rows = (db : Trees) × recovers db × (left ≡ entries_of (db table)) × (rows ≡ db record_table)
+
+-- what a database has beside the journal's tables: its other tables
 abbrev pub Beside : Type 0
 Beside = Trees
 
 abbrev pub others : Trees → Beside
-others db tree = db (suc tree)
+others db tree = db (suc (suc tree))
 
 -- each outcome of a crash has these other trees
 abbrev pub LeavesOthers : (Trees → Type 0) → Beside → Type 0
 LeavesOthers recovers beside = (db : Trees) → recovers db → others db ≡ beside
 
--- whatever each outcome of a crash has beside the journal's table, each has it later
+-- whatever each outcome of a crash has beside the journal's tables, each has it later
 abbrev pub KeepsOthers : (old new : Trees → Type 0) → Type 0
 KeepsOthers old new = (beside : Beside) → LeavesOthers old beside → LeavesOthers new beside
 
--- Each outcome of a crash is a log. A store that is usable may be opened again. Where the count is known, nothing is pending, and it
+-- a store has both tables
+pub record HasTables (view : View) : Type 0 where
+  pub entries : view.shape table ≡ Table
+  pub records : view.shape record_table ≡ Table
+
+-- Each outcome of a crash has entries and their records. A store that is usable may be opened again. Where the count is known, nothing is pending, and it
 -- counts the entries.
 pub record IsSound (view : View) (recovers : Trees → Type 0) (usable : Bool) (count : Option ℕ) : Type 0 where
-  pub outcomes : (db : Trees) → recovers db → IsLog (db table)
-  pub shape : IsTrue usable → view.shape table ≡ Table
+  pub outcomes : (db : Trees) → recovers db → IsJournal db
+  pub shapes : IsTrue usable → HasTables view
   pub committed_shape : IsTrue usable → view.shape ≡ view.committed_shape
   pub known : IsSome count → IsTrue usable
   pub settled : IsSome count → view.trees ≡ view.committed
-  pub log : IsSome count → IsLog (view.committed table)
+  pub journal : IsSome count → IsJournal view.committed
   pub counted : (n : ℕ) → count ≡ Some n → length (kept_in view) ≡ n
+
+-- a record was put among the records, if there is one
+pub record IsRecorded (old new : View) (put : Option Row) : Type 0 where
+  pub records : new.trees record_table ≡ with_record put (old.trees record_table)
+  pub entries : new.trees table ≡ old.trees table
+  pub others : others new.trees ≡ others old.trees
 
 -- entries were added and committed
 pub record IsAdded (old new : View) (entries : List Kept) : Type 0 where
@@ -55,9 +72,14 @@ LeavesAdded view old new entries = (db : Trees) → new db
 abbrev pub OnlyReads : View → View → Type 0
 OnlyReads old new = new ≡ record old { cursors = new.cursors }
 
--- a store that was just opened, with the table
+-- the record that is expected next was read, if one is
+pub record TakesRecord (old new : View) (next : Option Row) : Type 0 where
+  pub reads : OnlyReads old new
+  pub takes : (left : List Row) → old.cursors 0 ≡ Some left → (rest : List Row) × (left ≡ option_to_list next ++ rest) × (new.cursors 0 ≡ Some rest)
+
+-- a store that was just opened, with both tables
 pub record IsFresh (view : View) : Type 0 where
   pub is_open : IsTrue view.is_open
-  pub shape : view.shape table ≡ Table
+  pub shapes : HasTables view
   pub committed_shape : view.shape ≡ view.committed_shape
   pub settled : view.trees ≡ view.committed

@@ -1,19 +1,23 @@
-//! Adding entries to a store's table, and committing them.
-ghost use Rattle.std.specs.Prelude.{◌≡◌, ◌+◌, ◌-◌, ◌++◌, ◌≤◌, ◌<◌, ◌^◌, length, pos, true, None, Some, IfOk, OnErr, OnOk};
+//! Adding entries and their records to a store's tables, and committing them.
+ghost use Rattle.std.specs.Prelude.{◌≡◌, ◌+◌, ◌-◌, ◌++◌, ◌≤◌, ◌<◌, ◌^◌, List, length, pos, true, None, Some, IfOk, OnErr, OnOk};
+ghost use Rattle.sqlite_value.specs.Value.{owned};
 ghost use Rattle.sqlite_trees.specs.Tree.{Trees, put_row};
 ghost use Rattle.sqlite_trees.specs.View.{IsClean, IsQuiet, KeepsSchema, OnlyWrites, SetsTree, doubt};
 ghost use Rattle.sqlite_trees.specs.declared.store.Shape.TheVariants.{Table};
-ghost use Rattle.rad_journal.specs.Rows.{IsCounted, door_number, entries_of, row_of, rows_from, table};
-ghost use Rattle.rad_journal.specs.Stores.{IsAdded, IsSound, KeepsOthers, LeavesAdded, others};
+ghost use Rattle.rad_journal.specs.Records.{record_table, records_of};
+ghost use Rattle.rad_journal.specs.Rows.{IsCounted, door_number, entries_of, row_of, rows_from, session_value, table};
+ghost use Rattle.rad_journal.specs.declared.kept.Kept.{Kept};
+ghost use Rattle.rad_journal.specs.Stores.{HasTables, IsAdded, IsSound, KeepsOthers, LeavesAdded, others};
 
 use crate::journal::JournalFault;
 use crate::kept::Kept;
+use crate::recording::record_all;
 use rad_auth::Door;
 use sqlite_trees::store::Store;
 use sqlite_value::row::Row;
 use sqlite_value::value::ValueRef;
 
-/// The number of the table's tree.
+/// The number of the entries' tree.
 pub(crate) const TABLE: u32 = 0;
 
 /// The number of the authentication port in a row.
@@ -73,8 +77,38 @@ fn append<S: Store>(
     ensures others { IsClean (S.view store.new)
         → KeepsOthers (S.recovers store.old) (S.recovers store.new) }
 {
-    let number = put_all(store, row, count, entries)?;
+    let number = write(store, row, count, entries)?;
     store.commit()?;
+    Ok(number)
+}
+
+// Puts entries after so many, and their records, with no commit. Returns how many entries there are then.
+fn write<S: Store>(
+    store: &mut S,
+    row: &mut Row,
+    count: u32,
+    entries: &[Kept],
+) -> Result<u32, JournalFault>
+    requires shapes { IsClean (S.view store.old) → HasTables (S.view store.old) }
+    requires counted { IsClean (S.view store.old)
+        → IsCounted ((S.view store.old).trees table) count }
+    requires room { count + length entries.now < 2 ^ 32 - 1 }
+    ensures schema { KeepsSchema (S.view store.old) (S.view store.new) }
+    ensures clean { doubt (S.view store.old).is_clean ≤ doubt (S.view store.new).is_clean }
+    ensures outcomes { (db : Trees) → S.recovers store.new db → S.recovers store.old db }
+    ensures frame { OnOk result (IsClean (S.view store.new)
+        → OnlyWrites (S.view store.old) (S.view store.new)) }
+    ensures put { OnOk result (IsClean (S.view store.new) → (S.view store.new).trees table
+        ≡ rows_from 1 (entries_of ((S.view store.old).trees table) ++ entries.now)) }
+    ensures recorded { OnOk result (IsClean (S.view store.new) → (before : List Kept)
+        → length before ≡ count → (S.view store.old).trees record_table ≡ records_of before
+        → (S.view store.new).trees record_table ≡ records_of (before ++ entries.now)) }
+    ensures others { OnOk result (IsClean (S.view store.new)
+        → others (S.view store.new).trees ≡ others (S.view store.old).trees) }
+    ensures number { IfOk result (λ n. n ≡ count + length entries.now) }
+{
+    let number = put_all(store, row, count, entries)?;
+    record_all(store, row, count, entries)?;
     Ok(number)
 }
 
@@ -96,6 +130,8 @@ fn put_all<S: Store>(
         → OnlyWrites (S.view store.old) (S.view store.new)) }
     ensures put { OnOk result (IsClean (S.view store.new) → (S.view store.new).trees table
         ≡ rows_from 1 (entries_of ((S.view store.old).trees table) ++ entries.now)) }
+    ensures records { OnOk result (IsClean (S.view store.new)
+        → (S.view store.new).trees record_table ≡ (S.view store.old).trees record_table) }
     ensures others { OnOk result (IsClean (S.view store.new)
         → others (S.view store.new).trees ≡ others (S.view store.old).trees) }
     ensures number { IfOk result (λ n. n ≡ count + length entries.now) }
@@ -128,27 +164,46 @@ fn put<S: Store>(
     Ok(())
 }
 
-/// Makes the row of an entry, if its times are below 2 ^ 63.
+/// Makes the row of an entry, if its times and its session are below 2 ^ 63.
 pub(crate) fn fill(row: &mut Row, number: u32, entry: &Kept) -> Result<(), JournalFault>
     ensures { OnOk result (row.new ≡ row_of number entry.now) }
 {
-    let Ok(wall) = i64::try_from(entry.wall) else {
-        return Err(JournalFault::Full);
-    };
-    let Ok(moment) = i64::try_from(entry.moment) else {
-        return Err(JournalFault::Full);
-    };
+    let wall = small(entry.wall)?;
+    let moment = small(entry.moment)?;
+    let session = session(entry.session)?;
     row.clear();
     row.push(ValueRef::Int(i64::from(number)))?;
     row.push(ValueRef::Int(wall))?;
     row.push(ValueRef::Int(moment))?;
+    row.push(ValueRef::Int(i64::from(entry.client)))?;
     row.push(ValueRef::Int(i64::from(entry.source)))?;
     row.push(ValueRef::Int(i64::from(entry.port)))?;
     row.push(ValueRef::Int(number_of_door(entry.door)))?;
+    row.push(session)?;
     row.push(ValueRef::Blob(&entry.draw))?;
     row.push(ValueRef::Blob(entry.octets.octets()))?;
     row.push(ValueRef::Blob(entry.answer.octets()))?;
     Ok(())
+}
+
+/// A number, if it is below 2 ^ 63.
+pub(crate) fn small(number: u64) -> Result<i64, JournalFault>
+    ensures { IfOk result (λ small. small ≡ pos number) }
+{
+    match i64::try_from(number) {
+        Ok(small) => Ok(small),
+        Err(_) => Err(JournalFault::Full),
+    }
+}
+
+// The number of a session in a row.
+fn session(number: Option<u64>) -> Result<ValueRef<'static>, JournalFault>
+    ensures { IfOk result (λ value. owned value ≡ session_value number) }
+{
+    match number {
+        Some(number) => Ok(ValueRef::Int(small(number)?)),
+        None => Ok(ValueRef::Null),
+    }
 }
 
 // The number of a door in a row.

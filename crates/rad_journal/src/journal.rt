@@ -2,6 +2,8 @@
 ghost use Rattle.std.specs.Prelude.{◌≡◌, ◌⊎◌, ◌++◌, List, Bool, slice_get, IfErr, IfOk, IfSome, IsTrue, OnErr, OnOk};
 ghost use Rattle.rad_journal.specs.Journals.{added};
 ghost use Rattle.rad_journal.specs.Faults.{fault_of};
+ghost use Rattle.sqlite_value.specs.Order.{Row};
+ghost use Rattle.rad_journal.specs.Records.{records_of};
 ghost use Rattle.rad_journal.specs.Rows.{IsWithin};
 ghost use Rattle.rad_journal.specs.Stores.{Beside};
 ghost use Rattle.rad_journal.specs.declared.journal.JournalFault.TheVariants.{Damaged, NoMemory};
@@ -30,7 +32,7 @@ pub enum JournalFault {
     /// The disk or the database has no room.
     #[error("no room is left")]
     NoRoom,
-    /// There would be more than `ENTRIES_MAX` entries, or a time is 2 ^ 63 or more.
+    /// There would be more than `ENTRIES_MAX` entries, or a time or the number of a session is 2 ^ 63 or more.
     #[error("it is full")]
     Full,
 }
@@ -76,6 +78,9 @@ pub trait Journal {
     /// What a crash leaves beside them, which no call changes.
     ghost leaves_beside: { Self → Beside → Type 0 };
 
+    /// What the next open may find after a crash at this moment: these entries, and these records.
+    ghost may_record: { Self → List Kept → List Row → Type 0 };
+
     /// No wrong answer of the disk has been taken as true so far.
     ghost is_clean: { Self → Type 0 };
 
@@ -92,7 +97,7 @@ pub trait Journal {
     /// Adds the entries in their order, all or none. A journal that keeps nothing adds nothing, and succeeds.
     ///
     /// At `Ok` each crash from then on leaves them. At `Err` a crash may leave them or not. `NoRoom`: the disk or the database has
-    /// none. `Full`: there would be more than `ENTRIES_MAX` entries, or a time is 2 ^ 63 or more. `Disk`: the disk failed, or an
+    /// none. `Full`: there would be more than `ENTRIES_MAX` entries, or a time or the number of a session is 2 ^ 63 or more. `Disk`: the disk failed, or an
     /// earlier call has failed.
     fn commit(&mut self, entries: &[Kept]) -> Result<(), JournalFault>
         ensures clean { is_clean self.new → is_clean self.old }
@@ -121,6 +126,14 @@ pub trait Journal {
             → may_leave self.old left }
         ensures beside { is_clean self.new → (beside : Beside) → leaves_beside self.old beside
             → leaves_beside self.new beside };
+
+    /// With the entries that a crash leaves it leaves records.
+    ghost records: { (journal : Self) (left : List Kept) → may_leave journal left
+        → (rows : List Row) × may_record journal left rows };
+
+    /// They are those of these entries: the record of each Accounting-Request among them, under its number, and no other.
+    ghost recorded: { (journal : Self) → is_clean journal
+        → (left : List Kept) (rows : List Row) → may_record journal left rows → rows ≡ records_of left };
 
     /// While it is open, a crash leaves what was kept and nothing else.
     ghost settled: { (journal : Self) → is_open journal

@@ -16,12 +16,16 @@ pub struct Kept {
     pub wall: u64,
     /// The moment at which the request counted, in milliseconds.
     pub moment: u64,
+    /// The client's place in the configuration.
+    pub client: u32,
     /// The source address, most significant octet first.
     pub source: u32,
     /// The source port.
     pub port: u16,
     /// The server's port that it came to.
     pub door: Door,
+    /// The number of the session that it names, where it is a Start, an Interim-Update or a Stop and means one.
+    pub session: Option<u64>,
     /// The draw for the State of a challenge.
     pub draw: [u8; 16],
     /// The octets of the request up to Length.
@@ -50,9 +54,11 @@ impl Kept {
         Ok(Some(Kept {
             wall,
             moment: clock.max(entry.moment),
+            client: entry.client,
             source: entry.source,
             port: entry.port,
             door: entry.door,
+            session: entry.session,
             draw: entry.draw,
             octets: entry.octets.copy()?,
             answer,

@@ -18,12 +18,13 @@ mod kept;
 mod leading;
 mod no_journal;
 mod reading;
+mod recording;
 mod restore_fault;
 mod restoring;
 mod store_journal;
 
 pub use journal::{ENTRIES_MAX, Journal, JournalFault, Reopen};
-pub use keeping::{keep, kept_are_restored};
+pub use keeping::{accounting_is_recorded, keep, kept_are_restored};
 pub use kept::Kept;
 pub use leading::kept_is_enough;
 pub use no_journal::NoJournal;

@@ -1,5 +1,8 @@
 //! A journal that keeps nothing.
-ghost use Rattle.std.specs.Prelude.{◌≡◌, [], false, refl};
+ghost use Rattle.std.specs.Prelude.{◌≡◌, List, [], false, refl};
+ghost use Rattle.std.proofs.Common.{◌∙◌, ap, sym};
+ghost use Rattle.rad_journal.specs.Records.{records_of};
+ghost use Rattle.rad_journal.specs.declared.kept.Kept.{Kept};
 
 use crate::journal::{Journal, JournalFault, Reopen};
 use crate::kept::Kept;
@@ -18,11 +21,18 @@ impl Journal for NoJournal {
 
     ghost leaves_beside = { λ _ _. Unit {0} };
 
+    ghost may_record = { λ _ left rows. (left ≡ []) × (rows ≡ []) };
+
     ghost is_clean = { λ _. Unit {0} };
 
     ghost is_open = { λ _. Unit {0} };
 
     ghost has_failed = { λ _ _. ⊥ };
+
+    ghost records = { λ _ left is. ([], (is, refl)) };
+
+    ghost recorded = { λ _ _ left rows is.
+        is.1 ∙ ap (λ (l : List Kept). records_of l) (sym is.0) };
 
     ghost settled = { λ _ _ left is. is };
 

@@ -1,13 +1,13 @@
 //! Reading entries back from a store's table.
-ghost use Rattle.std.specs.Prelude.{◌≡◌, ◌≢◌, ℕ, ◌+◌, ◌≤◌, ◌<◌, ◌^◌, List, length, pos, IfErr, IfOk, IfSome, OnErr, OnOk, slice_get};
+ghost use Rattle.std.specs.Prelude.{◌≡◌, ◌≢◌, ℕ, ◌+◌, ◌≤◌, ◌<◌, ◌^◌, List, length, Option, pos, IfErr, IfOk, IfSome, OnErr, OnOk, slice_get};
 ghost use Rattle.rad_auth.specs.declared.arrival.Door.{Door};
 ghost use Rattle.sqlite_disk.specs.Disk.{MoreFaults};
 ghost use Rattle.sqlite_value.specs.Order.{column};
 ghost use Rattle.sqlite_value.specs.declared.value.Value.TheVariants.{Blob, Int};
 ghost use Rattle.sqlite_trees.specs.Tree.{Trees};
-ghost use Rattle.sqlite_trees.specs.View.{IsClean, KeepsSchema, doubt};
+ghost use Rattle.sqlite_trees.specs.View.{IsClean, KeepsSchema, StayLive, doubt};
 ghost use Rattle.sqlite_trees.specs.declared.store.Shape.TheVariants.{Table};
-ghost use Rattle.rad_journal.specs.Rows.{IsLog, IsRow, IsWithin, at_door, at_draw, at_port, at_source, door_number, entries_of, entry_of, table};
+ghost use Rattle.rad_journal.specs.Rows.{IsLog, IsRow, IsWithin, at_door, at_draw, at_port, at_session, door_number, entries_of, entry_of, session_value, table};
 
 use crate::append::{ACCT, AUTH, TABLE};
 use crate::journal::JournalFault;
@@ -24,17 +24,21 @@ const WALL: usize = 1;
 
 const MOMENT: usize = 2;
 
-const SOURCE: usize = 3;
+const CLIENT: usize = 3;
 
-const PORT: usize = 4;
+const SOURCE: usize = 4;
 
-const DOOR: usize = 5;
+const PORT: usize = 5;
 
-const DRAW: usize = 6;
+const DOOR: usize = 6;
 
-const OCTETS: usize = 7;
+const SESSION: usize = 7;
 
-const ANSWER: usize = 8;
+const DRAW: usize = 8;
+
+const OCTETS: usize = 9;
+
+const ANSWER: usize = 10;
 
 /// How many entries there are.
 pub(crate) fn count<S: Store>(
@@ -77,6 +81,7 @@ pub(crate) fn read<S: Store>(
         → MoreFaults (S.faults store.old) (S.faults store.new)) }
     ensures same { OnOk result (IsClean (S.view store.new)
         → S.view store.new ≡ S.view store.old) }
+    ensures stay { OnOk result (StayLive (S.view store.old) (S.view store.new)) }
     ensures schema { KeepsSchema (S.view store.old) (S.view store.new) }
     ensures clean { doubt (S.view store.old).is_clean ≤ doubt (S.view store.new).is_clean }
     ensures outcomes { (db : Trees) → S.recovers store.new db → S.recovers store.old db }
@@ -102,32 +107,35 @@ pub(crate) fn entry(alloc: Global, row: &Row) -> Result<Kept, JournalFault>
 {
     let wall = number(row, WALL)?;
     let moment = number(row, MOMENT)?;
-    let source = source(row)?;
+    let client = word(row, CLIENT)?;
+    let source = word(row, SOURCE)?;
     let port = port(row)?;
     let door = door(row)?;
+    let session = session(row)?;
     let draw = draw(row)?;
     let octets = blob(alloc, row, OCTETS)?;
     let answer = blob(alloc, row, ANSWER)?;
     Ok(Kept {
         wall,
         moment,
+        client,
         source,
         port,
         door,
+        session,
         draw,
         octets,
         answer,
     })
 }
 
-// The source address of a row.
-fn source(row: &Row) -> Result<u32, JournalFault>
-    ensures value { IfOk result (λ n. column row.now at_source ≡ Int (pos n)) }
-    ensures other { OnErr result ((n : ℕ) → n < 2 ^ 32
-        → column row.now at_source ≢ Int (pos n)) }
+// The number below 2 ^ 32 in a column.
+fn word(row: &Row, at: usize) -> Result<u32, JournalFault>
+    ensures value { IfOk result (λ n. column row.now at ≡ Int (pos n)) }
+    ensures other { OnErr result ((n : ℕ) → n < 2 ^ 32 → column row.now at ≢ Int (pos n)) }
 {
-    match u32::try_from(number(row, SOURCE)?) {
-        Ok(source) => Ok(source),
+    match u32::try_from(number(row, at)?) {
+        Ok(number) => Ok(number),
         Err(_) => Err(JournalFault::Damaged),
     }
 }
@@ -156,6 +164,19 @@ fn door(row: &Row) -> Result<Door, JournalFault>
         ACCT => Ok(Door::Acct),
         _ => Err(JournalFault::Damaged),
     }
+}
+
+// The number of the session of a row, if it has one.
+fn session(row: &Row) -> Result<Option<u64>, JournalFault>
+    ensures value { IfOk result (λ number.
+        column row.now at_session ≡ session_value number) }
+    ensures other { OnErr result ((number : Option ℕ)
+        → column row.now at_session ≢ session_value number) }
+{
+    if let ValueRef::Null = row.get(SESSION) {
+        return Ok(None);
+    }
+    Ok(Some(number(row, SESSION)?))
 }
 
 // The number in a column, from 0 up.

@@ -18,10 +18,10 @@ pub enum RestoreFault {
     /// The moment of this entry is later than any that a server takes.
     #[error("the moment of entry {entry} is too late")]
     TooLate { entry: u32 },
-    /// The request of this entry isn't admitted, or more was kept than its octets up to Length.
+    /// The request of this entry isn't admitted, or is of another client, or more was kept than its octets up to Length.
     #[error("the request of entry {entry} is not admitted")]
     NotAdmitted { entry: u32 },
-    /// The server's answer to the request of this entry isn't the one that was kept.
+    /// The server's answer to the request of this entry, or the session that the request names, isn't the one that was kept.
     #[error("the answer of entry {entry} is another")]
     OtherAnswer { entry: u32 },
 }

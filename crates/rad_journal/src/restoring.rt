@@ -3,7 +3,7 @@ ghost use Rattle.std.specs.Prelude.{◌≡◌, ◌↔◌, List, Some, IfErr, IfN
 ghost use Rattle.rad_auth.specs.Admission.{IsAdmitted, admission, own_datagram};
 ghost use Rattle.rad_auth.specs.Datagrams.{datagram_of};
 ghost use Rattle.rad_journal.specs.Kept.{answer_octets};
-ghost use Rattle.rad_journal.specs.Restores.{CannotRestore, HasReason, IsBegun, IsNoRequest, IsOfEntry, IsRestored, IsStep, StopsAt, datagram_of_kept, place_of};
+ghost use Rattle.rad_journal.specs.Restores.{IsKeptSo, CannotRestore, HasReason, IsBegun, IsNoRequest, IsOfEntry, IsRestored, IsStep, StopsAt, datagram_of_kept, place_of};
 ghost use Rattle.rad_journal.specs.Stores.{Beside};
 ghost use Rattle.rad_journal.specs.declared.kept.Kept.{Kept};
 
@@ -68,17 +68,18 @@ fn step_again(server: &mut Server, kept: &Kept, place: u32) -> Result<(), Restor
     let Some(request) = admit_again(server.config().clients(), kept) else {
         return Err(RestoreFault::NotAdmitted { entry: place });
     };
-    let answer = server.step(&request, kept.moment, &kept.draw)?;
-    if !is_answer(&answer, kept.answer.octets()) {
+    let (answer, session) = server.step_naming(&request, kept.moment, &kept.draw)?;
+    if !is_kept(&answer, session, kept) {
         return Err(RestoreFault::OtherAnswer { entry: place });
     }
     Ok(())
 }
 
-// The request that was kept, if it is admitted, and its octets up to Length are all that was kept.
+// The request that was kept, if it is admitted, of the client that was, and its octets up to Length are all that was kept.
 fn admit_again<'a>(clients: &Clients, kept: &'a Kept) -> Option<Request<'a>>
     ensures admitted { IfSome result (IsAdmitted clients.now) }
     ensures own { IfSome result (λ request. own_datagram request ≡ datagram_of_kept kept.now) }
+    ensures client { IfSome result (λ request. request.client ≡ kept.now.client) }
     ensures refused { IfNone result (IsNoRequest clients.now kept.now) }
 {
     let octets = kept.octets.octets();
@@ -89,7 +90,7 @@ fn admit_again<'a>(clients: &Clients, kept: &'a Kept) -> Option<Request<'a>>
         octets,
     };
     let request = admit(clients, arrival).ok()?;
-    if request.packet.octets() != octets {
+    if request.client != kept.client || request.packet.octets() != octets {
         return None;
     }
     Some(request)
@@ -106,6 +107,13 @@ pub(crate) fn admit<'a>(clients: &Clients, arrival: Arrival<'a>) -> Result<Reque
         Some(Some(verdict)) => verdict,
         _ => unreachable!(),
     }
+}
+
+// Whether this was kept of an answer and the session that its request names.
+fn is_kept(answer: &Answer, session: Option<u64>, kept: &Kept) -> bool
+    ensures { IsTrue result ↔ IsKeptSo kept.now answer.now session }
+{
+    session == kept.session && is_answer(answer, kept.answer.octets())
 }
 
 // Whether an answer is kept as these octets.

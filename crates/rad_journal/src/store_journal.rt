@@ -1,11 +1,13 @@
-//! A journal in a table of a store.
+//! A journal in two tables of a store.
 ghost use Rattle.std.specs.Prelude.{◌≡◌, ◌≤◌, true, length, refl, IfSome, IsTrue, IsSome, None, Some};
-ghost use Rattle.std.proofs.Common.{◌∙◌, ap};
+ghost use Rattle.std.proofs.Common.{◌∙◌, ap, sym, List};
 ghost use Rattle.sqlite_disk.specs.Disk.{MoreFaults};
 ghost use Rattle.sqlite_trees.specs.Tree.{Trees};
 ghost use Rattle.sqlite_trees.specs.View.{IsClean, doubt};
-ghost use Rattle.rad_journal.specs.Rows.{IsCounted, entries_of, table};
-ghost use Rattle.rad_journal.specs.Stores.{IsSound, LeavesOthers, MayLeave, kept_in};
+ghost use Rattle.rad_journal.specs.Records.{IsJournal, record_table, records_of};
+ghost use Rattle.rad_journal.specs.declared.kept.Kept.{Kept};
+ghost use Rattle.rad_journal.specs.Rows.{entries_of, table};
+ghost use Rattle.rad_journal.specs.Stores.{IsSound, LeavesOthers, MayLeave, MayRecord, kept_in};
 
 use crate::append::add;
 use crate::checking::check;
@@ -16,10 +18,12 @@ use sqlite_trees::store::{Reopen as ReopenStore, Store};
 use sqlite_value::row::Row;
 use std::alloc::Global;
 
-/// A journal in the first table of a store, whose rows are numbered from 1.
+/// A journal in the first two tables of a store: entries, numbered from 1, and the record of each Accounting-Request among them, under
+/// its number (`recorded`).
 ///
-/// Its columns are wall time and moment (milliseconds), source address and port, door (0 authentication, 1 accounting), draw, request
-/// and answer: five integers and three blobs.
+/// The columns of an entry are wall time and moment (milliseconds), client, source address and port, door (0 authentication,
+/// 1 accounting), session (or NULL), draw, request and answer: seven integers and three blobs. Those of a record are told by
+/// `rad_accounting::fill`.
 #[derive(Drop)]
 pub struct StoreJournal<S: Store> {
     store: S,
@@ -38,7 +42,7 @@ impl<S: Store + Drop> StoreJournal<S> {
 
     /// The journal of a store that was just opened, if its rows are those of entries.
     ///
-    /// `Damaged`: a row is none of an entry, or not the next one's. `Full`: there are more than `ENTRIES_MAX`.
+    /// `Damaged`: a row is none of an entry, or not the next one's, or the records aren't those of the entries. `Full`: there are more than `ENTRIES_MAX`.
     pub fn open(alloc: Global, store: S) -> Result<StoreJournal<S>, JournalFault>
         requires { IsClean (S.view store) → IsFresh (S.view store) }
         ensures opened { IfOk result (λ journal. IsClean (S.view journal.store)
@@ -58,8 +62,9 @@ impl<S: Store + Drop> StoreJournal<S> {
     /// The journal of a store that was just opened, whose rows are known to be those of so many entries.
     pub fn counted(alloc: Global, store: S, count: u32) -> StoreJournal<S>
         requires fresh { IsClean (S.view store) → IsFresh (S.view store) }
+        requires journal { IsClean (S.view store) → IsJournal (S.view store).committed }
         requires counted { IsClean (S.view store)
-            → IsCounted ((S.view store).committed table) count }
+            → length (kept_in (S.view store)) ≡ count }
         ensures store { result.store ≡ store }
         ensures count { result.count ≡ Some count }
     {
@@ -86,8 +91,10 @@ impl<S: Store + Drop> StoreJournal<S> {
             (parts.0 ≡ self.store) × (self.count ≡ Some parts.1)) }
         ensures fresh { IfSome result (λ parts. IsClean (S.view parts.0)
             → IsTrue (S.view parts.0).is_open → IsFresh (S.view parts.0)) }
+        ensures journal { IfSome result (λ parts. IsClean (S.view parts.0)
+            → IsJournal (S.view parts.0).committed) }
         ensures counted { IfSome result (λ parts. IsClean (S.view parts.0)
-            → IsCounted ((S.view parts.0).committed table) parts.1) }
+            → length (kept_in (S.view parts.0)) ≡ parts.1) }
         ensures none { result ≡ None → self.count ≡ None }
     {
         let StoreJournal {
@@ -109,11 +116,19 @@ impl<S: Store> Journal for StoreJournal<S> {
 
     ghost leaves_beside = { λ journal. LeavesOthers (S.recovers journal.store) };
 
+    ghost may_record = { λ journal. MayRecord (S.recovers journal.store) };
+
     ghost is_clean = { λ journal. IsClean (S.view journal.store) };
 
     ghost is_open = { λ journal. IsTrue (S.view journal.store).is_open × IsSome journal.count };
 
     ghost has_failed = { λ old new. MoreFaults (S.faults old.store) (S.faults new.store) };
+
+    ghost records = { λ journal left is. (is.0 record_table, (is.0, is.1, is.2, refl)) };
+
+    ghost recorded = { λ journal clean left rows is. is.3
+        ∙ ((journal.sound clean).outcomes is.0 is.1).records
+        ∙ ap (λ (l : List Kept). records_of l) (sym is.2) };
 
     ghost settled = { λ journal is_open left is. is.2
         ∙ ap (λ (t : Trees). entries_of (t table)) (S.settled journal.store is.0 is_open.0 is.1) };

@@ -139,7 +139,7 @@ run_stands laws base kept sent before history marks wall went after valid stands
     plain configuration before (entry ∷ rest) [] after run = absurd run
     plain configuration before (entry ∷ rest) (mark ∷ marks) after run = (
       run.0,
-      record { request = run.1.request; asked = run.1.asked; answered = run.1.answered },
+      record { request = run.1.request; asked = run.1.asked; answered = run.1.answered; session = run.1.session },
       plain configuration run.0 rest marks after run.2,
     )
 

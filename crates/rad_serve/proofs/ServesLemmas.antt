@@ -13,7 +13,7 @@ use Rattle.rad_server.specs.Lawful.{IsLawful}
 use Rattle.rad_server.specs.Runs.{FreshAreEnough, IsLikeFromNow, IsMarked, LeadsAlike, MarkedRun, Run, RunsAreLawful, counted, fresh_of}
 use Rattle.rad_server.specs.Shares.{lacks_room}
 use Rattle.rad_server.specs.States.{State, at_moment}
-use Rattle.rad_server.specs.Steps.{answer, answer_with, is_fresh, reply_by_port, reply_kept, sent_and_kept, without_reply}
+use Rattle.rad_server.specs.Steps.{answer, answer_with, is_fresh, reply_by_port, reply_kept, sent_and_kept, session_at, without_reply}
 use Rattle.rad_server.specs.declared.answer.Answer.{Answer}
 use Rattle.rad_server.specs.declared.entry.Entry.{Entry}
 use Rattle.rad_server.proofs.FreshLemmas.{at_counted}
@@ -85,7 +85,7 @@ serves_counted enough all_lawful configuration before after other (entry ∷ res
 
     next_lawful : IsLawful configuration next
     next_lawful = all_lawful configuration before (entry ∷ []) valid lawful (entry ∷ []) [] next refl
-        (next, record { request = marked.request; asked = marked.asked; answered = marked.answered }, refl)
+        (next, record { request = marked.request; asked = marked.asked; answered = marked.answered; session = marked.session }, refl)
 
     clock : next.clock ≡ now
     clock = ap (λ (r : Answer × State). r.1.clock) (sym marked.answered)
@@ -100,10 +100,12 @@ serves_counted enough all_lawful configuration before after other (entry ∷ res
       asked = record {
         own = marked.asked.own;
         admitted = marked.asked.admitted;
+        client = marked.asked.client;
         moment = omega (arith, lawful.clock, marked.asked.moment);
         draw = marked.asked.draw;
       };
       answered = ap (λ s. answer configuration s marked.request entry.draw) same ∙ marked.answered;
+      session = marked.session ∙ ap (λ s. session_at configuration s marked.request) (sym same);
       fresh = marked.fresh ∙ ap (λ s. is_fresh configuration s marked.request) (sym same);
     }
 
@@ -135,7 +137,7 @@ marked_run configuration before [] (mark ∷ marks) after serves = absurd serves
 marked_run configuration before (entry ∷ rest) [] after serves = absurd serves
 marked_run configuration before (entry ∷ rest) (true ∷ marks) after serves = (
   serves.0,
-  record { request = serves.1.request; asked = serves.1.asked; answered = serves.1.answered },
+  record { request = serves.1.request; asked = serves.1.asked; answered = serves.1.answered; session = serves.1.session },
   marked_run configuration serves.0 rest marks after serves.2,
 )
 marked_run configuration before (entry ∷ rest) (false ∷ marks) after serves = marked_run configuration before rest marks after serves.2

@@ -65,11 +65,17 @@ impl<'r, R: Clock + Eprint, J: Journal + Drop> Journal for ToldJournal<'r, R, J>
 
     ghost leaves_beside = { λ told. J.leaves_beside told.journal };
 
+    ghost may_record = { λ told. J.may_record told.journal };
+
     ghost is_clean = { λ told. J.is_clean told.journal };
 
     ghost is_open = { λ told. J.is_open told.journal };
 
     ghost has_failed = { λ old new. J.has_failed old.journal new.journal };
+
+    ghost records = { λ told. J.records told.journal };
+
+    ghost recorded = { λ told. J.recorded told.journal };
 
     ghost settled = { λ told. J.settled told.journal };
 

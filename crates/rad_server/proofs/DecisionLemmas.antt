@@ -17,14 +17,14 @@ use Rattle.rad_config.specs.Ranges.{IsConfiguration}
 use Rattle.rad_config.specs.declared.user.User.{User}
 use Rattle.rad_recent.specs.Challenges.{cut_challenges, has_state, is_challenge_live}
 use Rattle.rad_server.specs.Access.{access, access_with, answer_matches, decided, decision_on_answer, decision_on_password, is_name_of, password_matches, session_for, user_by_answer, user_by_password, user_challenged, user_decision, without_challenge}
-use Rattle.rad_server.specs.Accounting.{account}
-use Rattle.rad_server.specs.Changes.{CanBeMade, changed_by}
+use Rattle.rad_server.specs.Accounting.{account, session_reported}
+use Rattle.rad_server.specs.Changes.{CanBeMade, changed_by, session_by}
 use Rattle.rad_server.specs.Credentials.{Credentials, credentials_in}
 use Rattle.rad_server.specs.Decisions.{decision_answering, is_named, user_answering}
 use Rattle.rad_server.specs.Prepared.{AreUsers, IsAnswer, IsFixed, IsLogin, IsPasswordOf, wanted_of}
 use Rattle.rad_server.specs.Replies.{accounting_response}
 use Rattle.rad_server.specs.States.{State}
-use Rattle.rad_server.specs.Steps.{reply_by_port}
+use Rattle.rad_server.specs.Steps.{reply_by_port, session_by_port}
 use Rattle.rad_server.specs.TableStates.{AreUsable, state_for}
 use Rattle.rad_server.specs.Users.{user_at}
 use Rattle.rad_server.specs.declared.change.Change.{Change}
@@ -35,7 +35,7 @@ use Rattle.rad_server.specs.declared.fixed_reply.FixedReply.TheVariants.{Account
 use Rattle.rad_server.specs.declared.inquiry.Login.{Login}
 use Rattle.rad_server.specs.declared.access.ChallengeAnswer.{ChallengeAnswer}
 use Rattle.rad_server.specs.declared.tables.Tables.{Tables}
-use Rattle.rad_server.proofs.PlanLemmas.{found_has, image_has}
+use Rattle.rad_server.proofs.PlanLemmas.{found_has, image_has, names_none}
 
 -- ---- names
 
@@ -146,16 +146,20 @@ pub denied_unread : (configuration : Configuration) (request : Request) (denial 
 denied_unread configuration request denial door read = record {
   says = λ state draw. by_access configuration request door state draw ∙ ap (access_with configuration state request draw) read;
   possible = λ state. tt;
+  session = λ state. sym (names_none configuration request door state.sessions);
 }
 
 -- what an Accounting-Request reports
 pub reported_is : (configuration : Configuration) (request : Request) (change : Change) → request.door ≡ Acct
     → ((state : State) (draw : List ℕ) → (account configuration state request).1 ≡ changed_by request draw change state)
-    → ((state : State) → CanBeMade state change) → IsFixed configuration request Accounting change
-reported_is configuration request change door reported possible = record {
+    → ((state : State) → CanBeMade state change)
+    → ((state : State) → session_by request change state.sessions ≡ session_reported configuration request state.sessions)
+    → IsFixed configuration request Accounting change
+reported_is configuration request change door reported possible session = record {
   says = λ state draw.
       ap (λ port. reply_by_port port configuration state request draw) door ∙ (λ i. (accounting_response request.packet, reported state draw i));
   possible = possible;
+  session = λ state. session state ∙ ap (λ port. session_by_port port configuration request state.sessions) (sym door);
 }
 
 -- the reply to credentials with this State, or without one
@@ -177,12 +181,15 @@ pub answer_is : (configuration : Configuration) (request : Request) (login : Log
     → IsConfiguration configuration → request.door ≡ Auth → (known : IsLogin configuration request login) → known.credentials.state ≡ Some answer.state.now
     → answer.user ≡ login.user → answer.is_right ≡ is_right_in login.check → IsAnswer configuration request answer
 unfolding decision_answering decision_on_answer
-answer_is configuration request login answer ranges door known sent user right = λ state draw users.
-    let value : Option (List ℕ) = Some answer.state.now in
-    let left : State = without_challenge request.client value state in
-    by_access configuration request door state draw ∙ reads configuration request login value known sent state draw
-    ∙ ap (λ found. decided configuration left request draw (found >>= (λ place. session_for configuration left place)))
-    (sym (answering configuration request login answer (user_challenged request value state) ranges known (ap is_some sent) user right (users value)))
+answer_is configuration request login answer ranges door known sent user right = record {
+  door = door;
+  says = λ state draw users.
+      let value : Option (List ℕ) = Some answer.state.now in
+      let left : State = without_challenge request.client value state in
+      by_access configuration request door state draw ∙ reads configuration request login value known sent state draw
+      ∙ ap (λ found. decided configuration left request draw (found >>= (λ place. session_for configuration left place)))
+      (sym (answering configuration request login answer (user_challenged request value state) ranges known (ap is_some sent) user right (users value)));
+}
 
 -- a password was sent
 after_password : (configuration : Configuration) (request : Request) (login : Login) (known : IsLogin configuration request login)
@@ -199,6 +206,7 @@ after_password configuration request login known none state draw =
 pub password_is : (configuration : Configuration) (request : Request) (login : Login) (user : ℕ) → request.door ≡ Auth → (known : IsLogin configuration request login)
     → known.credentials.state ≡ None → login.user ≡ Some user → is_right_in login.check ≡ true → IsPasswordOf configuration request user
 password_is configuration request login user door known none found right = record {
+  door = door;
   within = subst (λ o. IfSome o (λ place. place < length configuration.users)) found known.within;
   says = λ state draw.
       by_access configuration request door state draw ∙ after_password configuration request login known none state draw
@@ -215,6 +223,7 @@ denied_is configuration request login door known none refused = record {
       by_access configuration request door state draw ∙ after_password configuration request login known none state draw
       ∙ ap (λ o. decided configuration state request draw (o >>= (λ place. user_decision configuration state request.client place))) refused;
   possible = λ state. tt;
+  session = λ state. sym (names_none configuration request door state.sessions);
 }
 
 -- the users who are challenged are those of the configuration

@@ -18,7 +18,7 @@ use Rattle.rad_server.specs.Lawful.{IsLawful, IsOwned, PassingKeepsTheLaw, StepK
 use Rattle.rad_server.specs.Runs.{FreshAreEnough, IsExchange, IsLikeFromNow, IsMarked, LeadsAlike, LikeAfterTime, counted, fresh_of}
 use Rattle.rad_server.specs.Shares.{IsWithin, lacks_room, replies_share}
 use Rattle.rad_server.specs.States.{State, at_moment, without_expired}
-use Rattle.rad_server.specs.Steps.{answer, answer_with, is_fresh, key_of, reply_by_port, reply_kept, sent_and_kept, without_reply}
+use Rattle.rad_server.specs.Steps.{answer, answer_with, is_fresh, key_of, reply_by_port, reply_kept, sent_and_kept, session_at, without_reply}
 use Rattle.rad_server.specs.declared.answer.Answer.{Answer}
 use Rattle.rad_server.specs.declared.answer.Answer.TheVariants.{Send}
 use Rattle.rad_server.specs.declared.entry.Entry.{Entry}
@@ -197,10 +197,12 @@ fresh_enough answerable steps passing configuration before after other (entry �
           asked = record {
             own = marked.asked.own;
             admitted = marked.asked.admitted;
+            client = marked.asked.client;
             moment = omega (arith, lawful.clock, marked.asked.moment);
             draw = marked.asked.draw;
           };
           answered = ap (λ s. answer configuration s marked.request entry.draw) same ∙ marked.answered;
+          session = marked.session ∙ ap (λ s. session_at configuration s marked.request) (sym same);
         } in
         let on : LeadsAlike configuration next (fresh_of now rest marks) after =
         subst (λ c. LeadsAlike configuration next (fresh_of c rest marks) after) news.clock (more next (λ moment le. refl)) in

@@ -12,7 +12,7 @@ use Rattle.rad_recent.specs.Challenges.{Challenges, cut_challenges, is_challenge
 use Rattle.rad_recent.specs.Recent.{Replies, cut_replies, is_reply_live}
 use Rattle.rad_server.specs.Runs.{HistoriesAfterTime, IsExchange, LeadsTo, Run, StepsAfterTime, not_before}
 use Rattle.rad_server.specs.States.{State, at_moment, when_passed}
-use Rattle.rad_server.specs.Steps.{answer}
+use Rattle.rad_server.specs.Steps.{answer, session_at}
 use Rattle.rad_server.specs.declared.entry.Entry.{Entry}
 use Rattle.rad_server.proofs.RunLemmas.{run_append}
 
@@ -91,10 +91,12 @@ exchange_later configuration before passed entry after small exchange = record {
   asked = record {
     own = exchange.asked.own;
     admitted = exchange.asked.admitted;
+    client = exchange.asked.client;
     moment = omega (arith, small, exchange.asked.moment);
     draw = exchange.asked.draw;
   };
   answered = sym (steps_after_time configuration before exchange.request passed entry.moment entry.draw) ∙ exchange.answered;
+  session = exchange.session ∙ ap (λ s. session_at configuration s exchange.request) (at_both passed entry.moment before);
 }
 
 -- where a history leads from a state, though time passed before it and perhaps after it

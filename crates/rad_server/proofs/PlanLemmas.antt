@@ -4,8 +4,10 @@ use Rattle.std.specs.Prelude.{◌==◌, IfOk, option_copied, unwrap_or}
 use Rattle.std.proofs.lemmas.List.Elements.{All-head, All-tail}
 use Rattle.rad_packet.specs.Bodies.{Body}
 use Rattle.rad_packet.specs.Codes.{code_status_server}
+use Rattle.rad_auth.specs.declared.arrival.Door.TheVariants.{Auth}
 use Rattle.rad_auth.specs.declared.arrival.Request.{Request}
 use Rattle.rad_config.specs.Configurations.{Configuration}
+use Rattle.rad_pool.specs.Sessions.{Sessions}
 use Rattle.rad_recent.specs.Recent.{without_key}
 use Rattle.rad_recent.specs.declared.kept.Kept.{Kept}
 use Rattle.rad_server.specs.Access.{Decision, decided, without_challenge}
@@ -15,7 +17,7 @@ use Rattle.rad_server.specs.Plans.{IsDecidedReply, IsNewReply, IsPlanOf, is_new}
 use Rattle.rad_server.specs.Prepared.{IsBodyOf, IsFixed, fixed_reply}
 use Rattle.rad_server.specs.Shares.{lacks_room}
 use Rattle.rad_server.specs.States.{State}
-use Rattle.rad_server.specs.Steps.{answer, answer_with, is_fresh, key_of, reply_by_port, reply_kept, sent_and_kept, without_reply}
+use Rattle.rad_server.specs.Steps.{answer, answer_with, is_fresh, key_of, reply_by_port, reply_kept, sent_and_kept, session_by_port, without_reply}
 use Rattle.rad_server.specs.declared.access.Decision.{Decision as DecisionOfCode}
 use Rattle.rad_server.specs.declared.access.Decision.TheVariants as decisions
 use Rattle.rad_server.specs.declared.answer.Answer.TheVariants.{Send, Busy}
@@ -91,6 +93,11 @@ plan_tells_fresh configuration current request draw (plans.New reply kept) plann
 
 -- ---- new replies
 
+-- a request to the authentication port names no session
+pub names_none : (configuration : Configuration) (request : Request) → request.door ≡ Auth → (table : Sessions)
+    → session_by_port request.door configuration request table ≡ None
+names_none configuration request door table = ap (λ port. session_by_port port configuration request table) door
+
 -- a fixed reply, and what changes with it
 pub fixed_is_new : (configuration : Configuration) (current : State) (request : Request) (draw : List ℕ) (fixed : FixedReply) (change : Change) {E : Type 0} (r : Result NewReply E)
     → IsFixed configuration request fixed change
@@ -100,6 +107,7 @@ fixed_is_new configuration current request draw fixed change (Err fault) rule bo
 fixed_is_new configuration current request draw fixed change (Ok reply) rule body none changes = record {
   planned = rw (body, none, changes) (rule.says (without_reply request current) draw);
   possible = rw (none, changes) (rule.possible current);
+  session = rw (changes) (rule.session current);
 }
 
 -- what can be given in the current state can be given in that without a reply
@@ -115,16 +123,18 @@ given_without current request (Some state) (Ok (decisions.Session session)) give
 -- a reply to a request on which was decided, after the challenge of this State if one is answered
 pub decided_is_new : (configuration : Configuration) (current : State) (request : Request) (draw : List ℕ) (value : Option (List ℕ))
     (decision : Result DecisionOfCode Denial) (defined : Result Decision Denial) {E : Type 0} (r : Result NewReply E)
+    → request.door ≡ Auth
     → reply_by_port request.door configuration (without_reply request current) request draw
     ≡ decided configuration (without_challenge request.client value (without_reply request current)) request draw defined
     → Gives decision_of decision defined → IfOk decision (CanBeGiven (without_challenge request.client value current))
     → IfOk r (IsDecidedReply configuration request draw decision) → IfOk r (λ reply. option_copied reply.answered ≡ value)
     → IfOk r (IsNewReply configuration current request draw)
-decided_is_new configuration current request draw value decision defined (Err fault) by gives given says answered = tt
-decided_is_new configuration current request draw value decision defined (Ok reply) by gives given says answered = record {
+decided_is_new configuration current request draw value decision defined (Err fault) door by gives given says answered = tt
+decided_is_new configuration current request draw value decision defined (Ok reply) door by gives given says answered = record {
   planned = rw (answered)
       (by ∙ says.says (without_challenge request.client value (without_reply request current)) defined gives (given_without current request value decision given));
   possible = rw (answered) (says.possible (without_challenge request.client value current) given);
+  session = says.session current ∙ sym (names_none configuration request door current.sessions);
 }
 
 -- a body that was made in advance is that of the fixed reply

@@ -64,6 +64,16 @@ session_meant configuration request table =
     let list = request.packet.attributes in
     meant request.client (class_number list) (first_integer type_framed_ip_address list) (named_user configuration list) table.sessions
 
+-- the number of the session meant, where a status is that of a Start, an Interim-Update or a Stop
+abbrev pub number_for : Option ℕ → Option ℕ → Option ℕ
+number_for None number = None
+number_for (Some status) number = if shows_session status || (status == status_stop) then number else None
+
+-- the number of the session that an Accounting-Request names, if it is a Start, an Interim-Update or a Stop and means one
+abbrev pub session_reported : Configuration → Request → Sessions → Option ℕ
+session_reported configuration request table =
+    number_for (first_integer type_acct_status_type request.packet.attributes) (session_meant configuration request table)
+
 -- the table after a change of the session of this number, if there is one
 abbrev pub changed : (ℕ → Sessions → Sessions) → Option ℕ → Sessions → Sessions
 changed change None table = table

@@ -25,6 +25,19 @@ after_event request now (events.Renewal reference) table = changed (λ n. renewe
 after_event request now (events.Stop reference) table = changed stopped (session_of request.client reference table) table
 after_event request now events.Reset table = source_reset request.source table
 
+-- the number of the session that an event names, if it names one
+abbrev pub session_in : Request → Event → Sessions → Option ℕ
+session_in request (events.Renewal reference) table = session_of request.client reference table
+session_in request (events.Stop reference) table = session_of request.client reference table
+session_in request events.Reset table = None
+
+-- the number of the session that a change names, if it names one
+abbrev pub session_by : Request → Change → Sessions → Option ℕ
+session_by request changes.Nothing table = None
+session_by request (changes.Challenge user) table = None
+session_by request (changes.Grant session) table = None
+session_by request (changes.Report event) table = session_in request event table
+
 -- the state after a change that a request makes
 abbrev pub changed_by : Request → List ℕ → Change → State → State
 changed_by request draw changes.Nothing state = state

@@ -1,5 +1,5 @@
 -- What a plan says. No other crate cites these.
-use Rattle.std.specs.Prelude.{◌≡◌, ℕ, Bool, false, true, List, Some, option_copied, Result, IfOk}
+use Rattle.std.specs.Prelude.{◌≡◌, ℕ, Bool, false, true, List, Some, None, option_copied, Result, IfOk}
 use Rattle.rad_packet.specs.Bodies.{Body}
 use Rattle.rad_packet.specs.Packets.{packet_octets}
 use Rattle.rad_auth.specs.declared.arrival.Request.{Request}
@@ -8,7 +8,7 @@ use Rattle.rad_recent.specs.declared.kept.Kept.{Kept}
 use Rattle.rad_server.specs.Access.{Decision, decided, without_challenge}
 use Rattle.rad_server.specs.Decisions.{CanBeGiven, Gives, decision_of}
 use Rattle.rad_server.specs.States.{State}
-use Rattle.rad_server.specs.Steps.{answer, is_fresh, key_of, reply_by_port, sent_and_kept, without_reply}
+use Rattle.rad_server.specs.Steps.{answer, is_fresh, key_of, reply_by_port, sent_and_kept, session_by_port, without_reply}
 use Rattle.rad_server.specs.declared.access.Decision.{Decision as DecisionOfCode}
 use Rattle.rad_server.specs.declared.denial.Denial.{Denial}
 use Rattle.rad_server.specs.declared.answer.Answer.{Answer}
@@ -17,21 +17,23 @@ use Rattle.rad_server.specs.declared.plan.NewReply.{NewReply}
 use Rattle.rad_server.specs.declared.plan.Plan.{Plan}
 use Rattle.rad_server.specs.declared.plan.Plan.TheVariants as plans
 use Rattle.rad_server.specs.declared.tables.Tables.{Tables}
-use Rattle.rad_server.specs.Changes.{CanBeMade, IsReadyFor, after, changed_by}
+use Rattle.rad_server.specs.Changes.{CanBeMade, IsReadyFor, after, changed_by, session_by}
 
 -- A reply that carries out a decision: in each state in which what was decided can be given, body and change are as defined, and the
--- change can be made.
+-- change can be made. It names no session.
 pub record IsDecidedReply (configuration : Configuration) (request : Request) (draw : List ℕ) (decision : Result DecisionOfCode Denial) (reply : NewReply) : Type 0 where
   pub says : (state : State) (defined : Result Decision Denial) → Gives decision_of decision defined → IfOk decision (CanBeGiven state)
       → decided configuration state request draw defined ≡ (reply.body, changed_by request draw reply.change state)
   pub possible : (state : State) → IfOk decision (CanBeGiven state) → CanBeMade state reply.change
+  pub session : (state : State) → session_by request reply.change state.sessions ≡ None
 
 -- A new reply, given the current state: what it says and what changes are what the rule of the port gives in the state without a reply
--- to a request with the same key.
+-- to a request with the same key, and so is the session that it names.
 pub record IsNewReply (configuration : Configuration) (current : State) (request : Request) (draw : List ℕ) (reply : NewReply) : Type 0 where
   pub planned : reply_by_port request.door configuration (without_reply request current) request draw
       ≡ (reply.body, after request draw (option_copied reply.answered) reply.change (without_reply request current))
   pub possible : CanBeMade (without_challenge request.client (option_copied reply.answered) current) reply.change
+  pub session : session_by request reply.change current.sessions ≡ session_by_port request.door configuration request current.sessions
 
 -- what is kept of a reply at a moment is what it says, with what its request is recognised by
 pub record IsToBeKept (now : ℕ) (request : Request) (body : Body) (kept : Kept) : Type 0 where

@@ -11,12 +11,12 @@ use Rattle.rad_auth.specs.declared.arrival.Request.{Request}
 use Rattle.rad_auth.specs.declared.discard.Discard.{Discard}
 use Rattle.rad_config.specs.Configurations.{Configuration, user_place}
 use Rattle.rad_server.specs.Access.{answer_matches, decided, user_challenged, user_decision}
-use Rattle.rad_server.specs.Changes.{CanBeMade, changed_by}
+use Rattle.rad_server.specs.Changes.{CanBeMade, changed_by, session_by}
 use Rattle.rad_server.specs.Credentials.{Credentials, credentials_in}
 use Rattle.rad_server.specs.Decisions.{access_by_answer}
 use Rattle.rad_server.specs.FixedReplies.{fixed_body}
 use Rattle.rad_server.specs.States.{State}
-use Rattle.rad_server.specs.Steps.{reply_by_port}
+use Rattle.rad_server.specs.Steps.{reply_by_port, session_by_port}
 use Rattle.rad_server.specs.Users.{user_at}
 use Rattle.rad_server.specs.declared.change.Change.{Change}
 use Rattle.rad_server.specs.declared.change.Change.TheVariants.{Nothing}
@@ -46,11 +46,13 @@ prepared_in configuration (Some (Ok request)) = Some (record { configuration = c
 
 -- ---- rules
 
--- in every state a request is answered by a fixed reply, and the same changes, which can be made
+-- In every state a request is answered by a fixed reply. The same changes, which can be made, and the change names the session that the
+-- request does.
 pub record IsFixed (configuration : Configuration) (request : Request) (fixed : FixedReply) (change : Change) : Type 0 where
   pub says : (state : State) (draw : List ℕ)
       → reply_by_port request.door configuration state request draw ≡ (fixed_body request.packet fixed, changed_by request draw change state)
   pub possible : (state : State) → CanBeMade state change
+  pub session : (state : State) → session_by request change state.sessions ≡ session_by_port request.door configuration request state.sessions
 
 -- the rule by which access is denied in every state
 abbrev pub denied : Denial → Rule
@@ -58,6 +60,7 @@ denied denial = Fixed (Denied denial) Nothing
 
 -- in every state the user at a place is challenged or granted a session, as far as there is room
 pub record IsPasswordOf (configuration : Configuration) (request : Request) (user : ℕ) : Type 0 where
+  pub door : request.door ≡ Auth
   pub within : user < length configuration.users
   pub says : (state : State) (draw : List ℕ)
       → reply_by_port request.door configuration state request draw ≡ decided configuration state request draw (user_decision configuration state request.client user)
@@ -68,9 +71,10 @@ AreUsers configuration request state = (value : Option (List ℕ))
     → IfSome (user_challenged request value state) (λ user. user < length configuration.users)
 
 -- in every state with challenges of such users alone a request answers the challenge of its State with what the configuration tells
-abbrev pub IsAnswer : Configuration → Request → ChallengeAnswer → Type 0
-IsAnswer configuration request answer = (state : State) (draw : List ℕ) → AreUsers configuration request state
-    → reply_by_port request.door configuration state request draw ≡ access_by_answer configuration state request draw answer
+pub record IsAnswer (configuration : Configuration) (request : Request) (answer : ChallengeAnswer) : Type 0 where
+  pub door : request.door ≡ Auth
+  pub says : (state : State) (draw : List ℕ) → AreUsers configuration request state
+      → reply_by_port request.door configuration state request draw ≡ access_by_answer configuration state request draw answer
 
 -- the rule by which a request is answered
 abbrev pub IsRule : Configuration → Request → Rule → Type 0

@@ -12,7 +12,7 @@ use Rattle.rad_config.specs.Spans.{moment_max}
 use Rattle.rad_server.specs.Lawful.{IsLawful}
 use Rattle.rad_server.specs.Servers.{Server}
 use Rattle.rad_server.specs.States.{State, at_moment, when_passed}
-use Rattle.rad_server.specs.Steps.{is_fresh, step}
+use Rattle.rad_server.specs.Steps.{is_fresh, session_at, step}
 use Rattle.rad_server.specs.declared.answer.Answer.TheVariants.{Send}
 use Rattle.rad_server.specs.declared.entry.Entry.{Entry}
 
@@ -22,18 +22,21 @@ datagram_of_entry entry = record { source = entry.source; port = entry.port; doo
 
 -- ---- exchanges
 
--- the request of an entry: the one that the admission of its datagram gives, at a moment up to the last and with a draw of 16 octets
+-- the request of an entry: the one that the admission of its datagram gives, with its client, at a moment up to the last and with a
+-- draw of 16 octets
 pub record IsRequestOf (clients : List Client) (entry : Entry) (request : Request) : Type 0 where
   pub own : own_datagram request ≡ datagram_of_entry entry
   pub admitted : IsAdmitted clients request
+  pub client : entry.client ≡ request.client
   pub moment : entry.moment ≤ moment_max
   pub draw : length entry.draw ≡ length sixteen_zeros
 
--- the step at an entry's request gives the entry's answer, and leads from one state to another
+-- the step at an entry's request gives the entry's answer and leads from one state to another, and the request names the entry's session
 pub record IsExchange (configuration : Configuration) (before : State) (entry : Entry) (after : State) : Type 0 where
   pub request : Request
   pub asked : IsRequestOf configuration.clients entry request
   pub answered : step configuration before request entry.moment entry.draw ≡ (entry.answer, after)
+  pub session : entry.session ≡ session_at configuration (at_moment entry.moment before) request
 
 -- an entry holds what was asked: a tag, a request, its moment and its draw
 pub record IsAsked (tag : ℕ) (request : Request) (moment : ℕ) (draw : List ℕ) (entry : Entry) : Type 0 where
@@ -88,6 +91,7 @@ pub record IsMarked (configuration : Configuration) (before : State) (entry : En
   pub request : Request
   pub asked : IsRequestOf configuration.clients entry request
   pub answered : step configuration before request entry.moment entry.draw ≡ (entry.answer, after)
+  pub session : entry.session ≡ session_at configuration (at_moment entry.moment before) request
   pub fresh : mark ≡ is_fresh configuration (at_moment entry.moment before) request
 
 -- a history leads from one state to another, and there is a mark for each of its entries

@@ -10,12 +10,13 @@ use Rattle.rad_auth.specs.declared.arrival.Door.{Door}
 use Rattle.rad_auth.specs.declared.arrival.Door.TheVariants.{Auth, Acct}
 use Rattle.rad_auth.specs.declared.arrival.Request.{Request}
 use Rattle.rad_config.specs.Configurations.{Configuration}
+use Rattle.rad_pool.specs.Sessions.{Sessions}
 use Rattle.rad_recent.specs.Recent.{reply_to, without_key}
 use Rattle.rad_recent.specs.Recent as replies
 use Rattle.rad_recent.specs.declared.kept.Kept.{Kept}
 use Rattle.rad_recent.specs.declared.key.Key.{Key}
 use Rattle.rad_server.specs.Access.{access}
-use Rattle.rad_server.specs.Accounting.{account}
+use Rattle.rad_server.specs.Accounting.{account, session_reported}
 use Rattle.rad_server.specs.Replies.{status_reply}
 use Rattle.rad_server.specs.Shares.{lacks_room}
 use Rattle.rad_server.specs.States.{State, at_moment}
@@ -92,6 +93,16 @@ abbrev pub is_fresh : Configuration → State → Request → Bool
 is_fresh configuration current request = not ((request.packet.code == code_status_server)
     || (is_some (reply_kept request current)
     || lacks_room configuration request.client (without_reply request current).replies))
+
+-- the number of the session that a request to a port names, if it names one
+abbrev pub session_by_port : Door → Configuration → Request → Sessions → Option ℕ
+session_by_port Auth configuration request table = None
+session_by_port Acct configuration request table = session_reported configuration request table
+
+-- The number of the session that a request in the current state names, if it names one. What isn't fresh names none.
+abbrev pub session_at : Configuration → State → Request → Option ℕ
+session_at configuration current request =
+    if is_fresh configuration current request then session_by_port request.door configuration request current.sessions else None
 
 -- an answer that is sent says what a reply may say
 abbrev pub IsSealable : Answer → Type 0

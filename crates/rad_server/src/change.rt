@@ -3,8 +3,8 @@ ghost use Rattle.std.specs.Prelude.{◌≡◌, ℕ, List, option_copied, option_
 ghost use Rattle.rad_config.specs.Configurations.{user_place};
 ghost use Rattle.rad_pool.specs.Meant.{meant};
 ghost use Rattle.rad_pool.specs.declared.session.Session.{Session};
-ghost use Rattle.rad_server.specs.Accounting.{account};
-ghost use Rattle.rad_server.specs.Changes.{CanBeMade, IsReadyFor, after_event, changed_by, session_of};
+ghost use Rattle.rad_server.specs.Accounting.{account, session_reported};
+ghost use Rattle.rad_server.specs.Changes.{CanBeMade, IsReadyFor, after_event, changed_by, session_by, session_in, session_of};
 ghost use Rattle.rad_server.specs.Servers.{state_with};
 ghost use Rattle.rad_server.specs.States.{State};
 
@@ -54,6 +54,8 @@ pub(crate) fn reported_change(config: &Config, request: &Request) -> Change
     ensures changed { (state : State) (draw : List ℕ) →
         (account config.now state request.now).1 ≡ changed_by request.now draw result state }
     ensures possible { (state : State) → CanBeMade state result }
+    ensures session { (state : State) → session_by request.now result state.sessions
+        ≡ session_reported config.now request.now state.sessions }
 {
     let report = Report::of(request.packet.attributes());
     let reference = Reference {
@@ -93,19 +95,21 @@ fn named_user(config: &Config, name: Option<&[u8]>) -> Option<Option<u32>>
     }
 }
 
-/// Makes a change, for a request. It was planned, and memory is ready for it.
+/// Makes a change, for a request, and gives the number of the session that it names. It was planned, and memory is ready for it.
 pub(crate) fn make_change(
     tables: &mut Tables,
     now: u64,
     request: &Request,
     draw: &[u8; 16],
     change: &Change,
-)
+) -> Option<u64>
     requires possible { CanBeMade (state_with now tables.old) change.now }
     requires ready { IsReadyFor change.now tables.old }
     ensures changed { state_with now tables.new
         ≡ changed_by request.now draw.now change.now (state_with now tables.old) }
     ensures replies { tables.new.replies ≡ tables.old.replies }
+    ensures session { result
+        ≡ session_by request.now change.now (state_with now tables.old).sessions }
 {
     let Tables {
         sessions,
@@ -114,30 +118,40 @@ pub(crate) fn make_change(
     } = tables;
     let (client, source) = (request.client, request.source);
     match change {
-        Change::Nothing => {}
-        Change::Challenge(user) => challenges.add(client, *user, draw, now),
-        Change::Grant(session) => sessions.add(client, source, session.user, session.grant, now),
+        Change::Nothing => None,
+        Change::Challenge(user) => {
+            challenges.add(client, *user, draw, now);
+            None
+        }
+        Change::Grant(session) => {
+            sessions.add(client, source, session.user, session.grant, now);
+            None
+        }
         Change::Report(event) => record(sessions, now, request, event),
     }
 }
 
-// Records an event that a request reports.
-fn record(sessions: &mut Sessions, now: u64, request: &Request, event: &Event)
+// Records an event that a request reports, and gives the number of the session that it names.
+fn record(sessions: &mut Sessions, now: u64, request: &Request, event: &Event) -> Option<u64>
     ensures recorded { sessions.new.table
         ≡ after_event request.now now event.now sessions.old.table }
+    ensures session { result ≡ session_in request.now event.now sessions.old.table }
 {
     match event {
         Event::Renewal(reference) => {
-            if let Some(number) = find(sessions, request.client, reference) {
-                sessions.renew(number, now);
-            }
+            let number = find(sessions, request.client, reference)?;
+            sessions.renew(number, now);
+            Some(number)
         }
         Event::Stop(reference) => {
-            if let Some(number) = find(sessions, request.client, reference) {
-                sessions.stop(number);
-            }
+            let number = find(sessions, request.client, reference)?;
+            sessions.stop(number);
+            Some(number)
         }
-        Event::Reset => sessions.end_source(request.source),
+        Event::Reset => {
+            sessions.end_source(request.source);
+            None
+        }
     }
 }
 

@@ -6,7 +6,7 @@ ghost use Rattle.rad_server.specs.Changes.{challenges_without};
 ghost use Rattle.rad_server.specs.Plans.{IsPlanOf, IsReadyForPlan, planned_answer};
 ghost use Rattle.rad_server.specs.TableStates.{live_state};
 ghost use Rattle.rad_server.specs.Servers.{state_with};
-ghost use Rattle.rad_server.specs.Steps.{answer};
+ghost use Rattle.rad_server.specs.Steps.{answer, session_at};
 
 use crate::answer::Answer;
 use crate::change::{Change, make_change};
@@ -38,7 +38,8 @@ pub(crate) fn make_room(tables: &mut Tables, plan: &Plan) -> Result<(), AllocErr
     replies.make_ready(&kept.key)
 }
 
-/// Removes what is no longer live, does what is planned for a request, and gives the answer.
+/// Removes what is no longer live, does what is planned for a request, and gives the answer and the number of the session that the
+/// request names.
 pub(crate) fn commit(
     _config: &Config,
     tables: &mut Tables,
@@ -46,21 +47,23 @@ pub(crate) fn commit(
     request: &Request,
     draw: &[u8; 16],
     plan: Plan,
-) -> Answer
+) -> (Answer, Option<u64>)
     requires moment { now ≤ moment_max }
     requires planned { IsPlanOf _config.now (live_state now tables.old)
         request.now draw.now plan }
     requires ready { IsReadyForPlan plan tables.old }
     ensures answered { answer _config.now (live_state now tables.old) request.now draw.now
-        ≡ (result, state_with now tables.new) }
-    ensures planned { result ≡ planned_answer plan.entry }
+        ≡ (result.0, state_with now tables.new) }
+    ensures planned { result.0 ≡ planned_answer plan.entry }
+    ensures session { result.1
+        ≡ session_at _config.now (live_state now tables.old) request.now }
 {
     tables.expire(now);
     match plan {
-        Plan::Unchanged(body) => Answer::Send(body),
+        Plan::Unchanged(body) => (Answer::Send(body), None),
         Plan::Busy => {
             tables.replies.remove(&key_of(request));
-            Answer::Busy
+            (Answer::Busy, None)
         }
         Plan::New(reply, kept) => {
             let NewReply {
@@ -69,9 +72,9 @@ pub(crate) fn commit(
                 change,
             } = reply;
             take_answered(&mut tables.challenges, now, request.client, answered);
-            make_change(tables, now, request, draw, &change);
+            let session = make_change(tables, now, request, draw, &change);
             tables.replies.put(kept);
-            Answer::Send(body)
+            (Answer::Send(body), session)
         }
     }
 }

@@ -11,6 +11,8 @@ use std::alloc::AllocError;
 pub struct Entry {
     /// Any number by which the caller knows the request.
     pub tag: u64,
+    /// The place of the client in the configuration.
+    pub client: u32,
     /// The source address, most significant octet first.
     pub source: u32,
     /// The source port.
@@ -25,6 +27,8 @@ pub struct Entry {
     pub draw: [u8; 16],
     /// What the server did with it. The step would give it again, but a worker seals it after it has left the lock.
     pub answer: Answer,
+    /// The number of the session that it names, where it is a new Start, Interim-Update or Stop and means one.
+    pub session: Option<u64>,
 }
 
 impl Entry {
@@ -34,6 +38,7 @@ impl Entry {
     {
         Ok(Entry {
             tag: self.tag,
+            client: self.client,
             source: self.source,
             port: self.port,
             door: self.door,
@@ -41,6 +46,7 @@ impl Entry {
             moment: self.moment,
             draw: self.draw,
             answer: self.answer.copy()?,
+            session: self.session,
         })
     }
 
@@ -49,6 +55,7 @@ impl Entry {
         ensures { IsTrue result ↔ (self.now ≡ other.now) }
     {
         self.tag == other.tag
+            && self.client == other.client
             && self.source == other.source
             && self.port == other.port
             && self.door == other.door
@@ -56,5 +63,6 @@ impl Entry {
             && self.moment == other.moment
             && self.draw == other.draw
             && self.answer.same(&other.answer)
+            && self.session == other.session
     }
 }

@@ -49,6 +49,7 @@ pub fn exchange(
     let request = prepared.request();
     history.push_reserved(Entry {
         tag,
+        client: request.client,
         source: request.source,
         port: request.port,
         door: request.door,
@@ -56,9 +57,11 @@ pub fn exchange(
         moment,
         draw: *draw,
         answer: stepped.copy,
+        session: stepped.session,
     });
     let entry = Entry {
         tag,
+        client: request.client,
         source: request.source,
         port: request.port,
         door: request.door,
@@ -66,6 +69,7 @@ pub fn exchange(
         moment,
         draw: *draw,
         answer: stepped.answer,
+        session: stepped.session,
     };
     Ok((entry, stepped.is_fresh))
 }

@@ -8,7 +8,7 @@ ghost use Rattle.rad_row_fault.specs.Follows.{FollowsRules};
 ghost use Rattle.rad_server.specs.Lawful.{IsLawful};
 ghost use Rattle.rad_server.specs.Restored.{restorable, with_row};
 ghost use Rattle.rad_server.specs.States.{at_moment, opening};
-ghost use Rattle.rad_server.specs.Steps.{IsSealable, is_fresh, step};
+ghost use Rattle.rad_server.specs.Steps.{IsSealable, is_fresh, session_at, step};
 
 use crate::answer::Answer;
 use crate::commit::{commit, make_room};
@@ -46,6 +46,8 @@ pub(crate) struct Stepped {
     pub copy: Answer,
     /// Whether the request was fresh.
     pub is_fresh: bool,
+    /// The number of the session that the request names.
+    pub session: Option<u64>,
 }
 
 // Written out, so that for those who hold a server its end is one step.
@@ -167,9 +169,31 @@ impl<'c> Server<'c> {
         ensures configuration { self.new.configuration ≡ self.old.configuration }
         ensures unchanged { OnErr result (self.new ≡ self.old) }
     {
+        let (answer, _session) = self.step_naming(request, moment, draw)?;
+        Ok(answer)
+    }
+
+    /// The same, with the number of the session that the request names, where it is a new Start, Interim-Update or Stop and means one.
+    pub fn step_naming(
+        &mut self,
+        request: &Request,
+        moment: u64,
+        draw: &[u8; 16],
+    ) -> Result<(Answer, Option<u64>), AllocError>
+        requires moment { moment ≤ moment_max }
+        requires admitted { IsAdmitted self.old.configuration.clients request.now }
+        ensures answered { IfOk result (λ given.
+            step self.old.configuration self.old.state request.now moment draw.now
+            ≡ (given.0, self.new.state)) }
+        ensures session { IfOk result (λ given. given.1 ≡ session_at
+            self.old.configuration (at_moment moment self.old.state) request.now) }
+        ensures sealable { IfOk result (λ given. IsSealable given.0) }
+        ensures configuration { self.new.configuration ≡ self.old.configuration }
+        ensures unchanged { OnErr result (self.new ≡ self.old) }
+    {
         let prepared = Prepared::of(self.config, request);
         let stepped = self.step_with_copy(&prepared, None, moment, draw)?;
-        Ok(stepped.answer)
+        Ok((stepped.answer, stepped.session))
     }
 
     /// The step of a prepared request. The memory for the copy of its answer is there before the state changes.
@@ -192,6 +216,8 @@ impl<'c> Server<'c> {
         ensures copy { IfOk result (λ stepped. stepped.copy ≡ stepped.answer) }
         ensures fresh { IfOk result (λ stepped. stepped.is_fresh ≡ is_fresh
             self.old.configuration (at_moment moment self.old.state) prepared.now.request) }
+        ensures session { IfOk result (λ stepped. stepped.session ≡ session_at
+            self.old.configuration (at_moment moment self.old.state) prepared.now.request) }
         ensures sealable { IfOk result (λ stepped. IsSealable stepped.answer) }
         ensures configuration { self.new.configuration ≡ self.old.configuration }
         ensures unchanged { OnErr result (self.new ≡ self.old) }
@@ -211,11 +237,12 @@ impl<'c> Server<'c> {
         make_room(tables, &plan)?;
         let is_fresh = plan.is_fresh();
         *clock = now;
-        let answer = commit(config, tables, now, request, draw, plan);
+        let (answer, session) = commit(config, tables, now, request, draw, plan);
         Ok(Stepped {
             answer,
             copy,
             is_fresh,
+            session,
         })
     }
 

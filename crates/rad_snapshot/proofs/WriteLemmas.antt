@@ -129,9 +129,9 @@ module _ (first second third fourth fifth : Trees) (xs ys zs : List StateRow) (n
       let last_session : numbers.last_session ≡ state.sessions.next - 1 = omega (arith, next) in
       let last_challenge : numbers.last_challenge ≡ state.challenges.next - 1 = omega (arith, next') in
       record {
-        sessions = four.others 2 (λ e. omega (arith, e)) ∙ three.others 2 (λ e. omega (arith, e)) ∙ two.others 2 (λ e. omega (arith, e)) ∙ one.here ∙ ap (λ (l : List StateRow). rows_from 1 l) sessions;
-        replies = four.others 3 (λ e. omega (arith, e)) ∙ three.others 3 (λ e. omega (arith, e)) ∙ two.here ∙ ap (λ (l : List StateRow). rows_from 1 l) replies;
-        challenges = four.others 4 (λ e. omega (arith, e)) ∙ three.here ∙ ap (λ (l : List StateRow). rows_from 1 l) challenges;
+        sessions = four.others (tree_of tables.Sessions) (λ e. omega (arith, e)) ∙ three.others (tree_of tables.Sessions) (λ e. omega (arith, e)) ∙ two.others (tree_of tables.Sessions) (λ e. omega (arith, e)) ∙ one.here ∙ ap (λ (l : List StateRow). rows_from 1 l) sessions;
+        replies = four.others (tree_of tables.Replies) (λ e. omega (arith, e)) ∙ three.others (tree_of tables.Replies) (λ e. omega (arith, e)) ∙ two.here ∙ ap (λ (l : List StateRow). rows_from 1 l) replies;
+        challenges = four.others (tree_of tables.Challenges) (λ e. omega (arith, e)) ∙ three.here ∙ ap (λ (l : List StateRow). rows_from 1 l) challenges;
         numbers = four.here ∙ ap (λ (n : ℕ). numbers_row n numbers.last_session numbers.last_challenge ∷ []) clock
             ∙ ap (λ (n : ℕ). numbers_row state.clock n numbers.last_challenge ∷ []) last_session
             ∙ ap (λ (n : ℕ). numbers_row state.clock (state.sessions.next - 1) n ∷ []) last_challenge;

@@ -21,10 +21,10 @@ impl SnapshotTable {
         ensures { result ≡ tree_of self }
     {
         match self {
-            SnapshotTable::Sessions => 2,
-            SnapshotTable::Replies => 3,
-            SnapshotTable::Challenges => 4,
-            SnapshotTable::Numbers => 5,
+            SnapshotTable::Sessions => 3,
+            SnapshotTable::Replies => 4,
+            SnapshotTable::Challenges => 5,
+            SnapshotTable::Numbers => 6,
         }
     }
 }

@@ -4,6 +4,7 @@ use Rattle.rad_server.specs.States.{State}
 use Rattle.sqlite_value.specs.Order.{Row}
 use Rattle.sqlite_trees.specs.Tree.{Trees, put_row}
 use Rattle.sqlite_trees.specs.View.{Commits, OnlyWrites, SetsTree, View}
+use Rattle.rad_journal.specs.Records.{record_table}
 use Rattle.rad_journal.specs.Rows.{table}
 use Rattle.rad_journal.specs.Stores.{IsFresh}
 use Rattle.rad_snapshot.specs.Snapshots.{AreEmpty, IsSnapshotOf, KeepsOthers, tree_of}
@@ -19,10 +20,10 @@ blank_trees : (view : View) → IsBlank view → AreBlank view.trees
 blank_trees view blank tree few = ap (λ (t : Trees). t tree) blank.opened.fresh.settled ∙ blank.none tree few
 
 pub are_empty : (view : View) → IsBlank view → AreEmpty view.trees
-are_empty view blank Sessions = blank_trees view blank 2 (omega arith)
-are_empty view blank Replies = blank_trees view blank 3 (omega arith)
-are_empty view blank Challenges = blank_trees view blank 4 (omega arith)
-are_empty view blank Numbers = blank_trees view blank 5 (omega arith)
+are_empty view blank Sessions = blank_trees view blank 3 (omega arith)
+are_empty view blank Replies = blank_trees view blank 4 (omega arith)
+are_empty view blank Challenges = blank_trees view blank 5 (omega arith)
+are_empty view blank Numbers = blank_trees view blank 6 (omega arith)
 
 -- ---- a snapshot and a meta are put
 
@@ -31,6 +32,12 @@ not_journal Sessions is = absurd (omega (arith, is))
 not_journal Replies is = absurd (omega (arith, is))
 not_journal Challenges is = absurd (omega (arith, is))
 not_journal Numbers is = absurd (omega (arith, is))
+
+not_record : (of : SnapshotTable) → record_table ≡ tree_of of → ⊥
+not_record Sessions is = absurd (omega (arith, is))
+not_record Replies is = absurd (omega (arith, is))
+not_record Challenges is = absurd (omega (arith, is))
+not_record Numbers is = absurd (omega (arith, is))
 
 not_meta : (of : SnapshotTable) → meta_table ≡ tree_of of → ⊥
 not_meta Sessions is = absurd (omega (arith, is))
@@ -44,12 +51,13 @@ module _ (old mid new : View) (meta : Meta) (state : State) (blank : IsBlank old
     held = ap (λ (v : View). v.trees meta_table) sets.is
         ∙ ap (λ (rows : List Row). put_row (meta_row meta) rows) (others meta_table not_meta ∙ blank_trees old blank meta_table (omega arith));
     snapshot = record {
-      sessions = ap (λ (v : View). v.trees 2) sets.is ∙ snapshot.sessions;
-      replies = ap (λ (v : View). v.trees 3) sets.is ∙ snapshot.replies;
-      challenges = ap (λ (v : View). v.trees 4) sets.is ∙ snapshot.challenges;
-      numbers = ap (λ (v : View). v.trees 5) sets.is ∙ snapshot.numbers;
+      sessions = ap (λ (v : View). v.trees 3) sets.is ∙ snapshot.sessions;
+      replies = ap (λ (v : View). v.trees 4) sets.is ∙ snapshot.replies;
+      challenges = ap (λ (v : View). v.trees 5) sets.is ∙ snapshot.challenges;
+      numbers = ap (λ (v : View). v.trees 6) sets.is ∙ snapshot.numbers;
     };
     none = ap (λ (v : View). v.trees table) sets.is ∙ others table not_journal ∙ blank_trees old blank table (omega arith);
+    none_recorded = ap (λ (v : View). v.trees record_table) sets.is ∙ others record_table not_record ∙ blank_trees old blank record_table (omega arith);
   }
 
 -- ---- both are committed
@@ -59,7 +67,10 @@ commit_fresh old mid put new blank snapshot meta commits =
     let wrote : put ≡ record old { trees = put.trees; cursors = put.cursors } = meta ∙ ap (λ (v : View). record v { trees = put.trees; cursors = put.cursors }) snapshot in
     subst (λ (v : View). IsFresh v) (sym commits.is) (record {
       is_open = subst IsTrue (sym (ap (λ (v : View). v.is_open) wrote)) blank.opened.fresh.is_open;
-      shape = ap (λ (v : View). v.shape table) wrote ∙ blank.opened.fresh.shape;
+      shapes = record {
+        entries = ap (λ (v : View). v.shape table) wrote ∙ blank.opened.fresh.shapes.entries;
+        records = ap (λ (v : View). v.shape record_table) wrote ∙ blank.opened.fresh.shapes.records;
+      };
       committed_shape = refl;
       settled = refl;
     })

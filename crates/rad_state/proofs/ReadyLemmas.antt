@@ -6,6 +6,7 @@ use Rattle.sqlite_store.specs.declared.store.FileStore.{FileStore}
 use Rattle.sqlite_store.specs.FileStore.{IsReady, schema_of, state, view}
 use Rattle.sqlite_store.specs.Saved.{kept_schema}
 use Rattle.sqlite_store.specs.Listing.{all_shapes}
+use Rattle.rad_journal.specs.Records.{record_table}
 use Rattle.rad_journal.specs.Rows.{table}
 use Rattle.rad_snapshot.specs.Snapshots.{HasTables}
 use Rattle.rad_snapshot.specs.declared.snapshot_table.SnapshotTable.TheVariants.{Sessions, Replies, Challenges, Numbers}
@@ -13,10 +14,10 @@ use Rattle.rad_state.specs.Metas.{meta_table}
 use Rattle.rad_state.specs.Stores.{AreTables, IsBlank, IsOpened}
 
 has_tables : (view : View) → AreTables view → HasTables view
-has_tables view all Sessions = all 2 (omega arith)
-has_tables view all Replies = all 3 (omega arith)
-has_tables view all Challenges = all 4 (omega arith)
-has_tables view all Numbers = all 5 (omega arith)
+has_tables view all Sessions = all 3 (omega arith)
+has_tables view all Replies = all 4 (omega arith)
+has_tables view all Challenges = all 5 (omega arith)
+has_tables view all Numbers = all 6 (omega arith)
 
 clean_is : (clean : Bool) → doubt clean ≡ 0 → IsTrue clean
 unfolding doubt
@@ -28,7 +29,7 @@ module _ {D : Type 0} {g : Ghosts D} (it : FileStore D g) where
   ready_is_opened ready all clean = record {
     fresh = record {
       is_open = ready.is_open clean;
-      shape = all table (omega arith);
+      shapes = record { entries = all table (omega arith); records = all record_table (omega arith) };
       committed_shape = sym (ap (λ saved. all_shapes (kept_schema saved (schema_of it))) ready.unaltered);
       settled = ready.clean;
     };

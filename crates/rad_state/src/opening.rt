@@ -15,15 +15,24 @@ use sqlite_wal::PageSize;
 use std::alloc::Global;
 
 // How many tables there are.
-const TABLES: u32 = 6;
+const TABLES: u32 = 7;
 
 // The octets of a page.
 const PAGE: usize = 4096;
 
-// The table of the journal.
+// The tables of the journal.
 const EXCHANGE: &str =
-    "CREATE TABLE exchange (wall INTEGER NOT NULL, moment INTEGER NOT NULL, address INTEGER NOT NULL, \
-    port INTEGER NOT NULL, door INTEGER NOT NULL, draw BLOB NOT NULL, request BLOB NOT NULL, answer BLOB NOT NULL) STRICT";
+    "CREATE TABLE exchange (wall INTEGER NOT NULL, moment INTEGER NOT NULL, client INTEGER NOT NULL, \
+    address INTEGER NOT NULL, port INTEGER NOT NULL, door INTEGER NOT NULL, session INTEGER, draw BLOB NOT NULL, \
+    request BLOB NOT NULL, answer BLOB NOT NULL) STRICT";
+
+// What is no UTF-8 is a blob.
+const ACCOUNTING: &str =
+    "CREATE TABLE accounting (entry INTEGER PRIMARY KEY, time INTEGER NOT NULL, client INTEGER NOT NULL, \
+    source INTEGER NOT NULL, user ANY, session INTEGER, status INTEGER, acct_session_id ANY, acct_multi_session_id ANY, address INTEGER, \
+    nas_address INTEGER, nas_identifier ANY, nas_port INTEGER, nas_port_id ANY, calling_station_id ANY, \
+    called_station_id ANY, session_time INTEGER, octets_in INTEGER, octets_out INTEGER, packets_in INTEGER, \
+    packets_out INTEGER, terminate_cause INTEGER, delay INTEGER) STRICT";
 
 // The table of the meta.
 const META: &str =
@@ -147,6 +156,7 @@ fn make<D: Disk + Drop>(
 fn tables() -> [Object<'static>; TABLES as usize] {
     [
         object("exchange", EXCHANGE),
+        object("accounting", ACCOUNTING),
         object("meta", META),
         object("session", SESSION),
         object("reply", REPLY),

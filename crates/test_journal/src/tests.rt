@@ -5,6 +5,7 @@ mod disks;
 mod entries;
 mod journals;
 mod keeping;
+mod records;
 mod restoring;
 mod rotten;
 mod rows;

@@ -196,11 +196,11 @@ const RUNS: &[(&str, Run)] = &[
         Run::Server(servers::Call::Reject),
     ),
     (
-        "Server::step to an Accounting-Response",
+        "Server::step_naming to an Accounting-Response",
         Run::Server(servers::Call::Response),
     ),
     (
-        "Server::step to an Accounting-Response, when all expires",
+        "Server::step_naming to an Accounting-Response, when all expires",
         Run::Server(servers::Call::ResponseLater),
     ),
     (

@@ -29,7 +29,7 @@ fn try_fill(alloc: Global, time: Time) -> Verdict {
     let filled = fill(&mut row, &OCCASION, &packet);
     time.end(alloc);
     match filled {
-        Ok(()) => Verdict::of(row.len() == 23 && matches!(row.get(6), ValueRef::Int(1))),
+        Ok(()) => Verdict::of(row.len() == 24 && matches!(row.get(7), ValueRef::Int(1))),
         Err(_) => Verdict::Refused,
     }
 }

@@ -167,7 +167,13 @@ fn step(server: &mut Server, sent: Sent, moment: u64) -> Option<Result<Answer, A
     ensures { server.new.configuration ≡ server.old.configuration }
 {
     let request = admit(server.config().clients(), sent)?;
-    Some(server.step(&request, moment, DRAW))
+    Some(match sent.door {
+        Door::Auth => server.step(&request, moment, DRAW),
+        Door::Acct => match server.step_naming(&request, moment, DRAW) {
+            Ok((answer, _session)) => Ok(answer),
+            Err(error) => Err(error),
+        },
+    })
 }
 
 // Has as many replies kept as may be, to requests from the 256 ports above the others, with 256 Identifiers each.
@@ -305,6 +311,7 @@ pub(crate) fn unshared_entry(alloc: Global) -> Result<Entry, AllocError> {
     let octets = NEMO.octets.to_vec(alloc)?;
     Ok(Entry {
         tag: 1,
+        client: 0,
         source: CLIENT,
         port: NEMO.port,
         door: NEMO.door,
@@ -312,6 +319,7 @@ pub(crate) fn unshared_entry(alloc: Global) -> Result<Entry, AllocError> {
         moment: 0,
         draw: *DRAW,
         answer: answer(alloc)?,
+        session: None,
     })
 }
 

@@ -88,6 +88,7 @@ pub(crate) fn blank(alloc: Global) -> Result<MemStore, AllocError>
 {
     let tables = [
         table("exchange"),
+        table("accounting"),
         table("meta"),
         table("session"),
         table("reply"),
@@ -115,10 +116,10 @@ fn table(name: &'static str) -> Object<'static>
 pub(crate) fn has_tables<S: Store>(store: &S) -> bool
     ensures { IsTrue result → HasTables (S.view store.now) }
 {
-    store.shape(2) == Shape::Table
-        && store.shape(3) == Shape::Table
+    store.shape(3) == Shape::Table
         && store.shape(4) == Shape::Table
         && store.shape(5) == Shape::Table
+        && store.shape(6) == Shape::Table
 }
 
 /// The store, if it has the table of a meta and those of a snapshot.
@@ -127,7 +128,7 @@ pub(crate) fn with_tables<S: Store + Drop>(store: S) -> Option<S>
     ensures meta { OnSome result ((S.view store).shape meta_table ≡ Table) }
     ensures snapshot { OnSome result (HasTables (S.view store)) }
 {
-    if store.shape(1) != Shape::Table || !has_tables(&store) {
+    if store.shape(2) != Shape::Table || !has_tables(&store) {
         return None;
     }
     Some(store)

@@ -5,9 +5,9 @@ ghost use Rattle.sqlite_store.specs.Unopened.{AreUsable};
 ghost use Rattle.sqlite_trees.specs.View.{IsClean};
 ghost use Rattle.sqlite_trees.specs.declared.store.Shape.TheVariants.{Table};
 ghost use Rattle.rad_journal.specs.Rows.{table};
-ghost use Rattle.rad_journal.specs.Stores.{IsFresh};
+ghost use Rattle.rad_journal.specs.Stores.{HasTables, IsFresh};
 
-use super::stores::{TABLE, journal_of};
+use super::stores::{TABLES, journal_of};
 use rad_journal::{JournalFault, StoreJournal};
 use sqlite_disk::{Disk, Files, Fuse, Memory, Rot};
 use sqlite_pager::{Options, Pager};
@@ -47,18 +47,18 @@ fn unopened<D: Disk + Drop>(alloc: Global, files: Files<D>) -> Result<Unopened<D
     let Ok(pager) = Pager::new(alloc, files, size, OPTIONS) else {
         return Err(JournalFault::NoMemory);
     };
-    match Unopened::with_sums(alloc, pager, &[TABLE], true) {
+    match Unopened::with_sums(alloc, pager, &TABLES, true) {
         Ok(unopened) => Ok(unopened),
         Err(_) => Err(JournalFault::NoMemory),
     }
 }
 
-// The store, if its first tree is a table.
-fn with_table<S: Store + Drop>(store: S) -> Result<S, JournalFault>
+// The store, if its first two trees are tables.
+fn with_tables<S: Store + Drop>(store: S) -> Result<S, JournalFault>
     ensures same { IfOk result (λ it. it ≡ store) }
-    ensures table { OnOk result ((S.view store).shape table ≡ Table) }
+    ensures tables { OnOk result (HasTables (S.view store)) }
 {
-    if store.shape(0) != Shape::Table {
+    if store.shape(0) != Shape::Table || store.shape(1) != Shape::Table {
         return Err(JournalFault::Damaged);
     }
     Ok(store)
@@ -82,7 +82,7 @@ fn ready<D: Disk + Drop>(alloc: Global, files: Files<D>) -> Result<FileStore<D>,
 fn create<D: Disk + Drop>(alloc: Global, files: Files<D>) -> Result<FileStore<D>, JournalFault>
     ensures { IfOk result (λ store. IsClean (view store) → IsFresh (view store)) }
 {
-    let store = with_table(ready(alloc, files)?)?;
+    let store = with_tables(ready(alloc, files)?)?;
     Ok(store)
 }
 

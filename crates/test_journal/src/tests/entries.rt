@@ -42,14 +42,25 @@ fn wall(moment: u64) -> u64 {
     moment.wrapping_add(1_700_000_000_000)
 }
 
+// The session of an entry on the accounting port.
+fn session(brief: Brief) -> Option<u64> {
+    let (door, moment) = brief;
+    match door {
+        Acct => Some(moment),
+        Auth => None,
+    }
+}
+
 fn kept(alloc: Global, brief: Brief) -> Result<Kept, AllocError> {
     let (door, moment) = brief;
     Ok(Kept {
         wall: wall(moment),
         moment,
+        client: 7,
         source: CLIENT,
         port: PORT,
         door,
+        session: session(brief),
         draw: DRAW,
         octets: Octets::of(alloc, REQUEST)?,
         answer: Octets::of(alloc, ANSWER)?,
@@ -60,9 +71,11 @@ fn is_kept(kept: &Kept, brief: Brief) -> bool {
     let (door, moment) = brief;
     kept.wall == wall(moment)
         && kept.moment == moment
+        && kept.client == 7
         && kept.source == CLIENT
         && kept.port == PORT
         && kept.door == door
+        && kept.session == session(brief)
         && kept.draw == DRAW
         && kept.octets.octets() == REQUEST.as_slice()
         && kept.answer.octets() == ANSWER.as_slice()

@@ -9,6 +9,7 @@ use std::alloc::{AllocError, Global};
 fn entry(alloc: Global, answer: Answer) -> Result<Entry, AllocError> {
     Ok(Entry {
         tag: 1,
+        client: 9,
         source: 2,
         port: 3,
         door: Door::Acct,
@@ -16,6 +17,7 @@ fn entry(alloc: Global, answer: Answer) -> Result<Entry, AllocError> {
         moment: 6,
         draw: [7; 16],
         answer,
+        session: Some(10),
     })
 }
 
@@ -35,6 +37,8 @@ fn kept(alloc: Global, answer: Answer) -> Result<Option<Kept>, AllocError> {
 fn is_right(kept: &Kept) -> bool {
     kept.wall == 8
         && kept.moment == 6
+        && kept.client == 9
+        && kept.session == Some(10)
         && kept.octets.octets() == [4, 5].as_slice()
         && kept.answer.octets() == [2, 6, 6, 0, 0, 0, 2].as_slice()
 }

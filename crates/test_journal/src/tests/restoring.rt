@@ -30,9 +30,10 @@ fn ask(
         return Ok(None);
     };
     let moment = u64::from(moment);
-    let answer = server.step(&request, moment, DRAW)?;
+    let (answer, session) = server.step_naming(&request, moment, DRAW)?;
     Ok(Some(Entry {
         tag: 1,
+        client: request.client,
         source: request.source,
         port: request.port,
         door: request.door,
@@ -40,6 +41,7 @@ fn ask(
         moment,
         draw: *DRAW,
         answer,
+        session,
     }))
 }
 

@@ -14,12 +14,16 @@ type Case = (
 );
 
 // The row of the first entry with another value in a column.
-fn row_with(alloc: Global, other: usize, value: ValueRef<'_>) -> Result<Row, AllocError> {
+pub(super) fn row_with(
+    alloc: Global,
+    other: usize,
+    value: ValueRef<'_>,
+) -> Result<Row, AllocError> {
     let mut row = Row::new(alloc);
-    for at in 0..9 {
+    for at in 0..11 {
         let usual = match at {
-            0..=5 => ValueRef::Int(1),
-            6 => ValueRef::Blob(&[7; 16]),
+            0..=7 => ValueRef::Int(1),
+            8 => ValueRef::Blob(&[7; 16]),
             _ => ValueRef::Blob(&[1, 2, 3]),
         };
         row.push(if at == other { value } else { usual })?;
@@ -42,17 +46,20 @@ fn a_row_of_no_entry_is_refused(rt: HostRuntime) {
         (0, ValueRef::Int(2), DAMAGED, "the second entry alone"),
         (1, ValueRef::Int(-1), DAMAGED, "a wall time below 0"),
         (2, ValueRef::Null, DAMAGED, "no moment"),
-        (3, ValueRef::Int(1 << 32), DAMAGED, "a source of 33 bits"),
-        (4, ValueRef::Int(65_536), DAMAGED, "a port of 17 bits"),
-        (5, ValueRef::Int(2), DAMAGED, "a third door"),
-        (6, ValueRef::Blob(&[7; 15]), DAMAGED, "a draw of 15 octets"),
+        (3, ValueRef::Int(-1), DAMAGED, "a client below 0"),
+        (4, ValueRef::Int(1 << 32), DAMAGED, "a source of 33 bits"),
+        (5, ValueRef::Int(65_536), DAMAGED, "a port of 17 bits"),
+        (6, ValueRef::Int(2), DAMAGED, "a third door"),
+        (7, ValueRef::Null, Ok(()), "no session"),
+        (7, ValueRef::Int(-1), DAMAGED, "a session below 0"),
+        (8, ValueRef::Blob(&[7; 15]), DAMAGED, "a draw of 15 octets"),
         (
-            7,
+            9,
             ValueRef::Text(&[1, 2, 3]),
             DAMAGED,
             "a request in a text",
         ),
-        (8, ValueRef::Null, DAMAGED, "no answer"),
+        (10, ValueRef::Null, DAMAGED, "no answer"),
     ];
     for row in ROWS.iter() {
         holds(&rt, opening(rt.alloc(), row.0, row.1) == row.2, row.3);

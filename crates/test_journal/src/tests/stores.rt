@@ -1,4 +1,4 @@
-//! Stores in memory, with the table of a journal.
+//! Stores in memory, with the tables of a journal.
 ghost use Rattle.std.specs.Prelude.{IfOk};
 ghost use Rattle.sqlite_trees.specs.Memory.{memory_view};
 ghost use Rattle.sqlite_trees.specs.View.{IsClean};
@@ -13,21 +13,33 @@ use sqlite_value::row::Row;
 use sqlite_value::value::ValueRef;
 use std::alloc::{AllocError, Global};
 
-/// The table of a journal.
-pub(crate) const TABLE: Object<'static> = Object {
-    shape: Shape::Table,
-    kind: "table",
-    name: "exchange",
-    table: "exchange",
-    reals: 0,
-    sql: Some("CREATE TABLE exchange(a, b, c, d, e, f, g, h)"),
-};
+/// The tables of a journal.
+pub(crate) const TABLES: [Object<'static>; 2] = [
+    Object {
+        shape: Shape::Table,
+        kind: "table",
+        name: "exchange",
+        table: "exchange",
+        reals: 0,
+        sql: Some("CREATE TABLE exchange(a, b, c, d, e, f, g, h, i, j)"),
+    },
+    Object {
+        shape: Shape::Table,
+        kind: "table",
+        name: "accounting",
+        table: "accounting",
+        reals: 0,
+        sql: Some(
+            "CREATE TABLE accounting(a, b, c, d, e, f, g, h, i, j, k, l, m, n, o, p, q, r, s, t, u, v)",
+        ),
+    },
+];
 
 /// A store that was just made.
 pub(crate) fn blank(alloc: Global) -> Result<MemStore, AllocError>
     ensures { IfOk result (λ store. IsFresh (memory_view store)) }
 {
-    let store = MemStore::new(alloc, &[TABLE])?;
+    let store = MemStore::new(alloc, &TABLES)?;
     Ok(store)
 }
 
@@ -56,6 +68,20 @@ pub(crate) fn with_row<S: Store + Drop>(store: S, row: &Row) -> Result<S, StoreE
         return Err(StoreError::Unstorable);
     }
     store.put(0, row)?;
+    store.commit()?;
+    Ok(store)
+}
+
+/// A store with one more record, which is committed.
+pub(crate) fn with_record<S: Store + Drop>(store: S, row: &Row) -> Result<S, StoreError>
+    requires { IsClean (S.view store) → IsFresh (S.view store) }
+    ensures { IfOk result (λ it. IsClean (S.view it) → IsFresh (S.view it)) }
+{
+    let mut store = store;
+    if !matches!(row.get(0), ValueRef::Int(_)) {
+        return Err(StoreError::Unstorable);
+    }
+    store.put(1, row)?;
     store.commit()?;
     Ok(store)
 }

@@ -26,14 +26,26 @@ use std::thread::Threads;
 use test_common::{CAMPUS, CLIENT, PORT, RFC_REQUEST};
 
 /// The table of a journal.
-const TABLE: Object<'static> = Object {
-    shape: Shape::Table,
-    kind: "table",
-    name: "exchange",
-    table: "exchange",
-    reals: 0,
-    sql: Some("CREATE TABLE exchange(a, b, c, d, e, f, g, h)"),
-};
+const TABLES: [Object<'static>; 2] = [
+    Object {
+        shape: Shape::Table,
+        kind: "table",
+        name: "exchange",
+        table: "exchange",
+        reals: 0,
+        sql: Some("CREATE TABLE exchange(a, b, c, d, e, f, g, h, i, j)"),
+    },
+    Object {
+        shape: Shape::Table,
+        kind: "table",
+        name: "accounting",
+        table: "accounting",
+        reals: 0,
+        sql: Some(
+            "CREATE TABLE accounting(a, b, c, d, e, f, g, h, i, j, k, l, m, n, o, p, q, r, s, t, u, v)",
+        ),
+    },
+];
 
 /// The Codes of an Access-Accept and an Access-Reject.
 const ACCEPT: u8 = 2;
@@ -91,12 +103,12 @@ fn log_in(
     })
 }
 
-// A store that was just made, with an empty table.
+// A store that was just made, with empty tables.
 fn blank(alloc: Global) -> Result<MemStore, AllocError>
     ensures fresh { IfOk result (λ store. IsFresh (memory_view store)) }
     ensures empty { IfOk result (λ store. kept_in (memory_view store) ≡ []) }
 {
-    let store = MemStore::new(alloc, &[TABLE])?;
+    let store = MemStore::new(alloc, &TABLES)?;
     Ok(store)
 }
 

@@ -1,5 +1,6 @@
 //! Turns over journals.
 ghost use Rattle.std.specs.Prelude.{◌≡◌, [], refl, true};
+ghost use Rattle.rad_journal.specs.Records.{records_of};
 
 use super::coming::{arrive, is_sum, random, sent_count};
 use super::watching::UNSEEN;
@@ -25,11 +26,17 @@ impl Journal for Counting {
 
     ghost leaves_beside = { λ _ _. Unit {0} };
 
+    ghost may_record = { λ _ left rows. rows ≡ records_of left };
+
     ghost is_clean = { λ _. ⊥ };
 
     ghost is_open = { λ _. ⊥ };
 
     ghost has_failed = { λ _ _. Unit {0} };
+
+    ghost records = { λ _ left _. (records_of left, refl) };
+
+    ghost recorded = { λ _ _ left rows is. is };
 
     ghost settled = { λ _ _ left is. is };
 

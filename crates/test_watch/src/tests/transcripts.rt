@@ -74,6 +74,7 @@ fn done(alloc: Global) -> Result<Done, AllocError> {
 fn entry(alloc: Global, tag: u64) -> Result<Entry, AllocError> {
     Ok(Entry {
         tag,
+        client: 0,
         source: 0,
         port: 0,
         door: Door::Auth,
@@ -81,5 +82,6 @@ fn entry(alloc: Global, tag: u64) -> Result<Entry, AllocError> {
         moment: 9,
         draw: [0; 16],
         answer: Answer::Busy,
+        session: None,
     })
 }

@@ -33,6 +33,6 @@ returns-in-Answer-clause-rule c =
     let given = rw c.request-request.ensures.value at c.decide_on_answer-decision.ensures.given in
     decided_is_new configuration (live_state c.args.now c.args.tables.now) request draw value c.decide_on_answer-decision.result
     (decision_answering configuration (without_challenge request.client value state) (user_challenged request value state) answer)
-    c.plan_decided-in-Answer.result
-    (rule state draw (challenged_within configuration request c.args.now c.args.tables.now c.requires.usable))
+    c.plan_decided-in-Answer.result rule.door
+    (rule.says state draw (challenged_within configuration request c.args.now c.args.tables.now c.requires.usable))
     decided given c.plan_decided-in-Answer.ensures.decided c.plan_decided-in-Answer.ensures.answered

@@ -20,7 +20,7 @@ pub restore_table-requires-2 : goal.restore_table-requires-2
 restore_table-requires-2 g c = record {
   shape = λ clean.
       let first : IsClean (g.S.Store.view c.args.store.now) = omega (arith, c.restore_table.ensures.clean, clean) in
-      ap (λ (v : View). v.shape 3) (c.in_ok-restore_table.ensures.same clean) ∙ c.requires.tables first tables.Replies;
+      ap (λ (v : View). v.shape (tree_of tables.Replies)) (c.in_ok-restore_table.ensures.same clean) ∙ c.requires.tables first tables.Replies;
 }
 
 pub restore_table-requires-3 : goal.restore_table-requires-3
@@ -28,7 +28,7 @@ restore_table-requires-3 g c = record {
   shape = λ clean.
       let second : IsClean (g.S.Store.view c.restore_table.new.store) = omega (arith, c.restore_table-2.ensures.clean, clean) in
       let first : IsClean (g.S.Store.view c.args.store.now) = omega (arith, c.restore_table.ensures.clean, second) in
-      ap (λ (v : View). v.shape 4) (c.in_ok-restore_table-2.ensures.same clean) ∙ ap (λ (v : View). v.shape 4) (c.in_ok-restore_table.ensures.same second)
+      ap (λ (v : View). v.shape (tree_of tables.Challenges)) (c.in_ok-restore_table-2.ensures.same clean) ∙ ap (λ (v : View). v.shape (tree_of tables.Challenges)) (c.in_ok-restore_table.ensures.same second)
       ∙ c.requires.tables first tables.Challenges;
 }
 
@@ -78,7 +78,7 @@ returns-in_err-restore_table-2-clause-refused g c =
     let numbered = c.restore_row.new.server.state in
     let two = subst (λ (k : Configuration). restored k (rows.LastSession numbers.last_session ∷ []) granted ≡ Ok numbered) c.restore_table.ensures.configuration c.in_ok-restore_row.ensures.restored in
     let same1 : c.restore_row.new.server.configuration ≡ configuration = c.restore_row.ensures.configuration ∙ c.restore_table.ensures.configuration in
-    let there1 : (S.view c.restore_table.new.store).trees (tree_of tables.Replies) ≡ trees (tree_of tables.Replies) = ap (λ (v : View). v.trees 3) (c.in_ok-restore_table.ensures.same second) in
+    let there1 : (S.view c.restore_table.new.store).trees (tree_of tables.Replies) ≡ trees (tree_of tables.Replies) = ap (λ (v : View). v.trees (tree_of tables.Replies)) (c.in_ok-restore_table.ensures.same second) in
     ⊎_elim (λ more. inl (more_later _ _ _ c.restore_table.ensures.counts more))
     (λ cannot. inr (no_replies configuration trees numbers before granted one numbered two (cannot_there configuration _ tables.Replies _ _ numbered same1 there1 cannot)))
     (c.in_err-restore_table-2.ensures.refused of clean))
@@ -101,12 +101,12 @@ returns-in_err-restore_table-3-clause-refused g c =
     let numbered = c.restore_row.new.server.state in
     let two = subst (λ (k : Configuration). restored k (rows.LastSession numbers.last_session ∷ []) granted ≡ Ok numbered) c.restore_table.ensures.configuration c.in_ok-restore_row.ensures.restored in
     let same1 : c.restore_row.new.server.configuration ≡ configuration = c.restore_row.ensures.configuration ∙ c.restore_table.ensures.configuration in
-    let there1 : (S.view c.restore_table.new.store).trees (tree_of tables.Replies) ≡ trees (tree_of tables.Replies) = ap (λ (v : View). v.trees 3) (c.in_ok-restore_table.ensures.same second) in
+    let there1 : (S.view c.restore_table.new.store).trees (tree_of tables.Replies) ≡ trees (tree_of tables.Replies) = ap (λ (v : View). v.trees (tree_of tables.Replies)) (c.in_ok-restore_table.ensures.same second) in
     let replied = c.restore_table-2.new.server.state in
     let three = put_there configuration _ tables.Replies (trees (tree_of tables.Replies)) _ numbered replied same1 there1 (c.in_ok-restore_table-2.ensures.restored third) in
     let same2 : c.restore_table-2.new.server.configuration ≡ configuration = c.restore_table-2.ensures.configuration ∙ same1 in
     let there2 : (S.view c.restore_table-2.new.store).trees (tree_of tables.Challenges) ≡ trees (tree_of tables.Challenges) =
-    ap (λ (v : View). v.trees 4) (c.in_ok-restore_table-2.ensures.same third) ∙ ap (λ (v : View). v.trees 4) (c.in_ok-restore_table.ensures.same second) in
+    ap (λ (v : View). v.trees (tree_of tables.Challenges)) (c.in_ok-restore_table-2.ensures.same third) ∙ ap (λ (v : View). v.trees (tree_of tables.Challenges)) (c.in_ok-restore_table.ensures.same second) in
     let counts : S.faults c.args.store.now ≤ S.faults c.restore_table-2.new.store = omega (arith, c.restore_table.ensures.counts, c.restore_table-2.ensures.counts) in
     ⊎_elim (λ more. inl (more_later (S.faults c.args.store.now) (S.faults c.restore_table-2.new.store) _ counts more))
     (λ cannot. inr (no_challenges configuration trees numbers before granted one numbered two replied three (cannot_there configuration _ tables.Challenges _ _ replied same2 there2 cannot)))
@@ -130,12 +130,12 @@ returns-in_err-restore_row-2-clause-refused g c =
     let numbered = c.restore_row.new.server.state in
     let two = subst (λ (k : Configuration). restored k (rows.LastSession numbers.last_session ∷ []) granted ≡ Ok numbered) c.restore_table.ensures.configuration c.in_ok-restore_row.ensures.restored in
     let same1 : c.restore_row.new.server.configuration ≡ configuration = c.restore_row.ensures.configuration ∙ c.restore_table.ensures.configuration in
-    let there1 : (S.view c.restore_table.new.store).trees (tree_of tables.Replies) ≡ trees (tree_of tables.Replies) = ap (λ (v : View). v.trees 3) (c.in_ok-restore_table.ensures.same second) in
+    let there1 : (S.view c.restore_table.new.store).trees (tree_of tables.Replies) ≡ trees (tree_of tables.Replies) = ap (λ (v : View). v.trees (tree_of tables.Replies)) (c.in_ok-restore_table.ensures.same second) in
     let replied = c.restore_table-2.new.server.state in
     let three = put_there configuration _ tables.Replies (trees (tree_of tables.Replies)) _ numbered replied same1 there1 (c.in_ok-restore_table-2.ensures.restored third) in
     let same2 : c.restore_table-2.new.server.configuration ≡ configuration = c.restore_table-2.ensures.configuration ∙ same1 in
     let there2 : (S.view c.restore_table-2.new.store).trees (tree_of tables.Challenges) ≡ trees (tree_of tables.Challenges) =
-    ap (λ (v : View). v.trees 4) (c.in_ok-restore_table-2.ensures.same third) ∙ ap (λ (v : View). v.trees 4) (c.in_ok-restore_table.ensures.same second) in
+    ap (λ (v : View). v.trees (tree_of tables.Challenges)) (c.in_ok-restore_table-2.ensures.same third) ∙ ap (λ (v : View). v.trees (tree_of tables.Challenges)) (c.in_ok-restore_table.ensures.same second) in
     let challenged = c.restore_table-3.new.server.state in
     let four = put_there configuration _ tables.Challenges (trees (tree_of tables.Challenges)) _ replied challenged same2 there2 (c.in_ok-restore_table-3.ensures.restored clean) in
     let same3 : c.restore_table-3.new.server.configuration ≡ configuration = c.restore_table-3.ensures.configuration ∙ same2 in
@@ -156,12 +156,12 @@ returns-clause-restored g c clean =
     let numbered = c.restore_row.new.server.state in
     let two = subst (λ (k : Configuration). restored k (rows.LastSession numbers.last_session ∷ []) granted ≡ Ok numbered) c.restore_table.ensures.configuration c.in_ok-restore_row.ensures.restored in
     let same1 : c.restore_row.new.server.configuration ≡ configuration = c.restore_row.ensures.configuration ∙ c.restore_table.ensures.configuration in
-    let there1 : (S.view c.restore_table.new.store).trees (tree_of tables.Replies) ≡ trees (tree_of tables.Replies) = ap (λ (v : View). v.trees 3) (c.in_ok-restore_table.ensures.same second) in
+    let there1 : (S.view c.restore_table.new.store).trees (tree_of tables.Replies) ≡ trees (tree_of tables.Replies) = ap (λ (v : View). v.trees (tree_of tables.Replies)) (c.in_ok-restore_table.ensures.same second) in
     let replied = c.restore_table-2.new.server.state in
     let three = put_there configuration _ tables.Replies (trees (tree_of tables.Replies)) _ numbered replied same1 there1 (c.in_ok-restore_table-2.ensures.restored third) in
     let same2 : c.restore_table-2.new.server.configuration ≡ configuration = c.restore_table-2.ensures.configuration ∙ same1 in
     let there2 : (S.view c.restore_table-2.new.store).trees (tree_of tables.Challenges) ≡ trees (tree_of tables.Challenges) =
-    ap (λ (v : View). v.trees 4) (c.in_ok-restore_table-2.ensures.same third) ∙ ap (λ (v : View). v.trees 4) (c.in_ok-restore_table.ensures.same second) in
+    ap (λ (v : View). v.trees (tree_of tables.Challenges)) (c.in_ok-restore_table-2.ensures.same third) ∙ ap (λ (v : View). v.trees (tree_of tables.Challenges)) (c.in_ok-restore_table.ensures.same second) in
     let challenged = c.restore_table-3.new.server.state in
     let four = put_there configuration _ tables.Challenges (trees (tree_of tables.Challenges)) _ replied challenged same2 there2 (c.in_ok-restore_table-3.ensures.restored clean) in
     let same3 : c.restore_table-3.new.server.configuration ≡ configuration = c.restore_table-3.ensures.configuration ∙ same2 in

@@ -2,7 +2,7 @@ use Rattle.std.proofs.Common.{◌≡◌, ◌∙◌, ◌∷◌, [], true, false, 
 use Rattle.sqlite_trees.specs.View.{Advances, IsClean}
 use Rattle.sqlite_value.specs.Order.{Row}
 use Rattle.rad_state.specs.Metas.{meta_table}
-use Rattle.rad_state.proofs.StoreLemmas.{ends, gives, seeks_first}
+use Rattle.rad_journal.proofs.CursorLemmas.{ends, gives, seeks_first}
 use Rattle.rad_state.proofs.meta_table.read_meta.Goals as goal
 
 pub returns-then-not-branch-clause-found : goal.returns-then-not-branch-clause-found

@@ -2,7 +2,7 @@ use Rattle.std.proofs.Common.{◌≡◌, true, false, reverse, rules, arith, sub
 use Rattle.sqlite_trees.specs.View.{Advances, IsClean}
 use Rattle.rad_journal.specs.Rows.{table}
 use Rattle.rad_state.proofs.LastLemmas.{last_none, last_some}
-use Rattle.rad_state.proofs.StoreLemmas.{ends, gives, seeks_last}
+use Rattle.rad_journal.proofs.CursorLemmas.{ends, gives, seeks_last}
 use Rattle.rad_state.proofs.moments.read_last.Goals as goal
 
 pub returns-then-not-branch-clause-last : goal.returns-then-not-branch-clause-last

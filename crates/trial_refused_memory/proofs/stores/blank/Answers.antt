@@ -3,6 +3,7 @@ use Rattle.sqlite_trees.specs.Memory.{memory_is_unaltered, memory_view}
 use Rattle.sqlite_trees.specs.Objects.{catalog_tree}
 use Rattle.sqlite_trees.specs.Tree.{Trees}
 use Rattle.sqlite_trees.specs.declared.store.Shape.TheVariants.{Table}
+use Rattle.rad_journal.specs.Records.{record_table}
 use Rattle.rad_journal.specs.Rows.{table}
 use Rattle.rad_snapshot.specs.Snapshots.{tree_of}
 use Rattle.rad_snapshot.specs.declared.snapshot_table.SnapshotTable.TheVariants.{Sessions, Replies, Challenges, Numbers}
@@ -16,16 +17,19 @@ returns-clause-blank c =
       opened = record {
         fresh = record {
           is_open = refl;
-          shape = ap (λ f. f table) shape ∙ c.table.ensures;
+          shapes = record {
+            entries = ap (λ f. f table) shape ∙ c.table.ensures;
+            records = ap (λ f. f record_table) shape ∙ c.table-2.ensures;
+          };
           committed_shape = (memory_is_unaltered c.in_ok-store.store (ap (λ (t : Trees). t catalog_tree) c.in_ok-store.ensures.clean)).0;
           settled = c.in_ok-store.ensures.clean;
         };
-        meta_shape = ap (λ f. f meta_table) shape ∙ c.table-2.ensures;
+        meta_shape = ap (λ f. f meta_table) shape ∙ c.table-3.ensures;
         snapshot_shapes = λ of. elim of as (λ of. (memory_view c.in_ok-store.store).shape (tree_of of) ≡ Table) [
-          | Sessions ↦ ap (λ f. f 2) shape ∙ c.table-3.ensures
-          | Replies ↦ ap (λ f. f 3) shape ∙ c.table-4.ensures
-          | Challenges ↦ ap (λ f. f 4) shape ∙ c.table-5.ensures
-          | Numbers ↦ ap (λ f. f 5) shape ∙ c.table-6.ensures
+          | Sessions ↦ ap (λ f. f 3) shape ∙ c.table-4.ensures
+          | Replies ↦ ap (λ f. f 4) shape ∙ c.table-5.ensures
+          | Challenges ↦ ap (λ f. f 5) shape ∙ c.table-6.ensures
+          | Numbers ↦ ap (λ f. f 6) shape ∙ c.table-7.ensures
         ];
       };
       none = λ tree few.

@@ -8,4 +8,4 @@ use Rattle.test_journal.proofs.tests.disks.create.Goals as goal
 pub returns : goal.returns
 returns g c =
     subst (λ it. IsClean (view it) → IsFresh (view it)) (sym c.in_ok-store.ensures.same)
-    (ready_is_fresh c.in_ok-ready.field-0 c.in_ok-ready.ensures c.in_ok-store.ensures.table)
+    (ready_is_fresh c.in_ok-ready.field-0 c.in_ok-ready.ensures c.in_ok-store.ensures.tables)

@@ -2,13 +2,17 @@ use Rattle.std.proofs.Common.{ap, refl}
 use Rattle.sqlite_trees.specs.Memory.{memory_is_unaltered}
 use Rattle.sqlite_trees.specs.Objects.{catalog_tree}
 use Rattle.sqlite_trees.specs.Tree.{Trees}
+use Rattle.rad_journal.specs.Records.{record_table}
 use Rattle.rad_journal.specs.Rows.{table}
 use Rattle.test_journal.proofs.tests.stores.blank.Goals as goal
 
 pub returns : goal.returns
 returns c = record {
   is_open = refl;
-  shape = ap (λ f. f table) c.in_ok-store.ensures.shape;
+  shapes = record {
+    entries = ap (λ f. f table) c.in_ok-store.ensures.shape;
+    records = ap (λ f. f record_table) c.in_ok-store.ensures.shape;
+  };
   committed_shape = (memory_is_unaltered c.in_ok-store.store (ap (λ (t : Trees). t catalog_tree) c.in_ok-store.ensures.clean)).0;
   settled = c.in_ok-store.ensures.clean;
 }

@@ -3,7 +3,7 @@ use Rattle.sqlite_trees.specs.View.{Advances, IsClean}
 use Rattle.rad_journal.specs.Rows.{entry_of, row_of, table}
 use Rattle.rad_journal.proofs.LogLemmas.{SoFar, advances, seeks}
 use Rattle.rad_journal.specs.Stores.{OnlyReads}
-use Rattle.rad_journal.proofs.checking.check.Goals as goal
+use Rattle.rad_journal.proofs.checking.check_entries.Goals as goal
 
 pub loop-place-init : goal.loop-place-init
 loop-place-init g c =

@@ -5,7 +5,7 @@ use Rattle.sqlite_trees.specs.View.{IsClean, doubt}
 use Rattle.rad_journal.specs.Rows.{entries_of, rows_from, table}
 use Rattle.rad_journal.specs.Stores.{OnlyReads}
 use Rattle.std.proofs.Common.{IsSome}
-use Rattle.rad_journal.proofs.checking.check.Given as goal
+use Rattle.rad_journal.proofs.checking.check_entries.Given as goal
 
 -- the rows so far, and those that are left
 abbrev pub invariant-loop-place : goal.invariant-loop-place

@@ -1,0 +1,23 @@
+use Rattle.std.proofs.Common.{◌≡◌, ◌++◌, ◌≤◌, ◌+◌, List, length, take}
+use Rattle.sqlite_trees.specs.Tree.{Trees}
+use Rattle.sqlite_trees.specs.View.{IsClean, KeepsSchema, OnlyWrites, doubt}
+use Rattle.rad_journal.specs.Records.{record_table, records_of}
+use Rattle.rad_journal.specs.Rows.{table}
+use Rattle.rad_journal.specs.Stores.{others}
+use Rattle.rad_journal.specs.declared.kept.Kept.{Kept}
+use Rattle.rad_journal.proofs.recording.record_all.Given as goal
+
+abbrev pub invariant-loop-i : goal.invariant-loop-i
+invariant-loop-i g l =
+    record {
+      clean : doubt (g.S.Store.view l.fn.store).is_clean ≤ doubt (g.S.Store.view l.store).is_clean;
+      outcomes : (db : Trees) → g.S.Store.recovers l.store db → g.S.Store.recovers l.fn.store db;
+      schema : KeepsSchema (g.S.Store.view l.fn.store) (g.S.Store.view l.store);
+      frame : IsClean (g.S.Store.view l.store) → OnlyWrites (g.S.Store.view l.fn.store) (g.S.Store.view l.store);
+      recorded : IsClean (g.S.Store.view l.store) → (before : List Kept) → length before ≡ l.count
+          → (g.S.Store.view l.fn.store).trees record_table ≡ records_of before
+          → (g.S.Store.view l.store).trees record_table ≡ records_of (before ++ take l.i l.entries);
+      entries : IsClean (g.S.Store.view l.store) → (g.S.Store.view l.store).trees table ≡ (g.S.Store.view l.fn.store).trees table;
+      others : IsClean (g.S.Store.view l.store) → others (g.S.Store.view l.store).trees ≡ others (g.S.Store.view l.fn.store).trees;
+      number : l.number ≡ l.count + l.i;
+    }
