@@ -17,7 +17,7 @@ use std::sync::Wait;
 use std::thread::Threads;
 
 /// How many turns a call makes: between two of them a generation may begin. A turn waits for at most a second.
-const CALL_TURNS: u32 = 32;
+const CALL_TURNS: u32 = 8;
 
 /// Calls of `Turns::run_keeping` follow one another, on the same service, and between two of them a new generation begins where one is due.
 ///

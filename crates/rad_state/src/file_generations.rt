@@ -146,8 +146,13 @@ impl<'c, S: Store + Drop, F: Folder<S> + Drop> Generations<StoreJournal<S>>
 
     fn is_due(&self, journal: &StoreJournal<S>, clock: u64) -> bool {
         match journal.count() {
-            None | Some(0) => false,
-            Some(count) => { count >= ENTRIES_DUE || clock.saturating_sub(self.began) >= TIME_DUE }
+            None => false,
+            Some(0) => self.folder.is_asked(),
+            Some(count) => {
+                count >= ENTRIES_DUE
+                    || clock.saturating_sub(self.began) >= TIME_DUE
+                    || self.folder.is_asked()
+            }
         }
     }
 
@@ -179,17 +184,20 @@ impl<'c, S: Store + Drop, F: Folder<S> + Drop> Generations<StoreJournal<S>>
     }
 }
 
-// Removes the oldest files, as long as there are more than so many, but neither the one with this number nor the one before it.
+// Removes the oldest files, as long as there are more than so many or they are too old, but neither the one with this number nor the one
+// before it.
 fn remove_oldest<S: Store, F: Folder<S>>(folder: &mut F, number: u32, files_max: u32)
     ensures kept { (other : ℕ) → number - 1 ≤ other
         → F.has folder.old other → F.has folder.new other }
     ensures only { (other : ℕ) → F.has folder.new other → F.has folder.old other }
 {
-    let extra = folder.count().saturating_sub(files_max as usize);
-    for _ in 0..extra {
+    let count = folder.count();
+    let extra = count.saturating_sub(files_max as usize);
+    for removed in 0..count {
         match folder.oldest() {
             Some(oldest) if oldest < number.saturating_sub(1) => {
-                if folder.remove(oldest).is_err() {
+                let is_over = removed < extra || folder.is_too_old(oldest);
+                if !is_over || folder.remove(oldest).is_err() {
                     return;
                 }
             }

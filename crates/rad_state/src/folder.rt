@@ -25,6 +25,16 @@ pub trait Folder<S: Store> {
     /// How many files there are.
     fn count(&self) -> usize;
 
+    /// Whether the file with a number is older than any that is to be kept.
+    fn is_too_old(&self, _number: u32) -> bool {
+        false
+    }
+
+    /// Whether somebody asks for another generation, until one is made.
+    fn is_asked(&self) -> bool {
+        false
+    }
+
     /// Makes a blank file with a number that no file has. At `Ok` it is still there after a crash.
     fn create(&mut self, alloc: Global, number: u32) -> Result<S, OpenFault>
         requires free { ¬ has self.old number }

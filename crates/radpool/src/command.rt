@@ -1,5 +1,6 @@
 //! The command line: what it may say, and what is then done.
 
+use crate::accounting_command::{Accounting, Printing, accounting_command};
 use crate::check_command::{Check, Checking, check_command};
 use crate::fault::{Fault, error_of, report, written};
 use crate::held::are_held;
@@ -124,6 +125,7 @@ enum Task<'a> {
     Make(Make<'a>),
     Check(Check<'a>),
     Serve(Serve<'a>),
+    Print(Accounting<'a>),
     Close(&'a str),
 }
 
@@ -138,6 +140,8 @@ pub enum Next {
     Serve(Serving),
     /// To write the entries of the generation in this file as a transcript.
     Transcript(String),
+    /// To print what a state has recorded.
+    Print(Printing),
     /// To close the state in this folder.
     Close(String),
 }
@@ -169,6 +173,7 @@ fn do_task<R: Env + Input + Print + AllocGlobal>(
             let are_held = are_held(rt, process)?;
             return Ok(Next::Serve(serve.serving(rt.alloc(), are_held)?));
         }
+        Task::Print(accounting) => return Ok(Next::Print(accounting.printing(rt.alloc())?)),
         Task::Close(folder) => return Ok(Next::Close(folder.to_string(rt.alloc())?)),
     }
     Ok(Next::End(ExitCode::SUCCESS))
@@ -240,6 +245,7 @@ fn task_in<'a>(matches: &ArgMatches<'a>) -> Option<Task<'a>> {
         ("make", found) => Some(Task::Make(make_in(found)?)),
         ("check", found) => Some(Task::Check(Check::given(found)?)),
         ("serve", found) => Some(Task::Serve(Serve::given(found)?)),
+        ("accounting", found) => Some(Task::Print(Accounting::given(found)?)),
         ("state", found) => Some(Task::Close(folder_in(found)?)),
         _ => None,
     }
@@ -273,6 +279,7 @@ fn program<'a>(alloc: Global) -> Result<Command<'a>, AllocError> {
         .subcommand(make_command(alloc)?)?
         .subcommand(check_command(alloc)?)?
         .subcommand(serve_command(alloc)?)?
+        .subcommand(accounting_command(alloc)?)?
         .subcommand(state_command(alloc)?)
 }
 

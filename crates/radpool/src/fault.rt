@@ -52,8 +52,10 @@ pub enum StateFault {
     Serve(ServeError),
     /// A transcript of it couldn't be read.
     Divided,
-    /// A transcript of it can't be written.
+    /// What was asked for can't be written.
     Write,
+    /// No server began a generation that was asked for.
+    Unanswered,
 }
 
 impl StateFault {
@@ -73,6 +75,7 @@ impl StateFault {
             )
             | StateFault::Files(_)
             | StateFault::StrayLog
+            | StateFault::Unanswered
             | StateFault::Divided => Fault::State {
                 path,
                 fault: self,
@@ -117,6 +120,7 @@ impl fmt::Display for StateFault {
                 f.write_str("its configuration has a line ---, so it has no transcript")
             }
             StateFault::Write => f.write_str("write failed"),
+            StateFault::Unanswered => f.write_str("no server has begun a generation for a minute"),
         }
     }
 }

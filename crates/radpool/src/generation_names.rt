@@ -1,5 +1,5 @@
 //! The names of the files in the folder of a state: `generation-N.db` has the generation N, and `generation-N.db-wal` its log. What couldn't
-//! be read has these names with `.unfinished` after `.db`, or `.unfinished-2`, and so on.
+//! be read has these names with `.unfinished` after `.db`, or `.unfinished-2`, and so on. A file `close` asks a server for another generation.
 
 use crate::numbers::Numbers;
 use std::alloc::{AllocError, Global};
@@ -20,6 +20,11 @@ pub fn name_of(alloc: Global, number: u32) -> Result<String, AllocError> {
 pub fn file_of(alloc: Global, folder: &str, number: u32) -> Result<String, AllocError> {
     let name = name_of(alloc, number)?;
     format!(in alloc; "{folder}/{name}")
+}
+
+/// The path of a file by which another generation is asked for.
+pub fn asking_of(alloc: Global, folder: &str) -> Result<String, AllocError> {
+    format!(in alloc; "{folder}/close")
 }
 
 /// The path of the log of a database.

@@ -37,6 +37,9 @@ const AUTH: u16 = 1812;
 
 const ACCT: u16 = 1813;
 
+/// How many generations are kept unless an option says otherwise.
+const GENERATIONS: u32 = 24;
+
 /// The options of `serve`: the files, where to listen, and how turns are made.
 const SERVE_OPTIONS: &[Valued] = &[
     Valued {
@@ -63,9 +66,16 @@ const SERVE_OPTIONS: &[Valued] = &[
     Valued {
         name: "generations",
         value: "N",
-        help: "How many generations of the state are kept, 2 to 4294967295",
-        absent: Absent::Value("24"),
+        help: "How many generations of the state are kept, 2 to 4294967295 [default: 24, or all with --keep-generations]",
+        absent: Absent::Nothing,
         parser: ValueParser::Unsigned(2, 4_294_967_295),
+    },
+    Valued {
+        name: "keep-generations",
+        value: "DAYS",
+        help: "For how many days a generation is kept that isn't written any more, 1 to 36500 [default: as --generations says]",
+        absent: Absent::Nothing,
+        parser: ValueParser::Unsigned(1, 36_500),
     },
     Valued {
         name: "bind",
@@ -149,7 +159,8 @@ pub struct Serve<'a> {
     config: &'a str,
     seed: &'a str,
     state: Option<&'a str>,
-    generations: u32,
+    generations: Option<u32>,
+    days: Option<u32>,
     bind: Option<&'a str>,
     auth: Option<u16>,
     acct: Option<u16>,
@@ -161,11 +172,12 @@ pub struct Serve<'a> {
     record: Option<&'a str>,
 }
 
-/// What is to be served, and how many files of its state are kept.
+/// What is to be served, how many files of its state are kept, and for how many days.
 #[derive(Drop)]
 pub struct Serving {
     options: Options,
     generations: u32,
+    days: Option<u32>,
 }
 
 impl<'a> Serve<'a> {
@@ -175,7 +187,8 @@ impl<'a> Serve<'a> {
             config: found.get_str("config")?,
             seed: found.get_str("seed")?,
             state: found.get_str("state"),
-            generations: found.get_one::<u32>("generations")?,
+            generations: found.get_one::<u32>("generations"),
+            days: found.get_one::<u32>("keep-generations"),
             bind: found.get_str("bind"),
             auth: found.get_one::<u16>("auth"),
             acct: found.get_one::<u16>("acct"),
@@ -192,7 +205,11 @@ impl<'a> Serve<'a> {
     pub fn serving(&self, alloc: Global, are_held: bool) -> Result<Serving, Fault> {
         Ok(Serving {
             options: self.options(alloc, are_held)?,
-            generations: self.generations,
+            generations: self.generations.unwrap_or(match self.days {
+                Some(_) => u32::MAX,
+                None => GENERATIONS,
+            }),
+            days: self.days,
         })
     }
 
@@ -279,7 +296,7 @@ fn try_serve<R: Files + Net + Clock + Print + Eprint + Threads + Wait + Sync + A
     let Some(path) = &options.state else {
         return Ok(serve(rt, options, given)?);
     };
-    let mut folder = StateFolder::open(host, path)?;
+    let mut folder = StateFolder::open(host, path, serving.days)?;
     match serve_with_state(rt, options, given, &mut folder, serving.generations) {
         Ok(()) => Ok(()),
         Err(error) => Err(folder.fault_of(error)),

@@ -43,7 +43,7 @@ fn try_close<R: Print>(rt: &R, host: &HostRuntime, path: &str) -> Result<(), Fau
 
 // Closes a state. The number of the new generation, if there was one.
 fn close(host: &HostRuntime, path: &str) -> Result<Option<u32>, Fault> {
-    let mut folder = StateFolder::open(host, path)?;
+    let mut folder = StateFolder::open(host, path, None)?;
     match close_state(host, &mut folder, seed(host, path)?) {
         Ok(number) => Ok(number),
         Err(error) => Err(folder.fault_of(error)),

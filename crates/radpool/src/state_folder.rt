@@ -6,7 +6,7 @@ ghost use Rattle.rad_state.specs.Stores.{IsBlank, IsOpened};
 
 use crate::advice::advise;
 use crate::fault::{Fault, StateFault};
-use crate::generation_names::{aside_of, log_of};
+use crate::generation_names::{aside_of, asking_of, log_of};
 use crate::listed::Listed;
 use crate::state_files::{DiskStore, has_anything, make_store, open_store};
 use rad_serve::ServeError;
@@ -18,6 +18,9 @@ use std::io;
 /// How many files of a number are set aside: a start that is cut short again and again must not fill the disk.
 const ASIDE_MAX: u32 = 8;
 
+/// The seconds of a day.
+const DAY: u64 = 86_400;
+
 /// The folder of a state, which this process has locked: it has a file and a log for each generation.
 ///
 /// A generation's own file is locked too, while it is open. `Folder` is for a `&mut` to it, so that who lends it can ask for the fault.
@@ -27,11 +30,15 @@ pub struct StateFolder {
     listed: Listed,
     // It has the lock.
     directory: File,
+    // How long a generation is kept that isn't written any more, in days.
+    days: Option<u32>,
+    // What was asked for was done, and the file that asked for it is gone.
+    is_open_to_asking: bool,
 }
 
 impl StateFolder {
-    /// Opens, locks and lists the folder at a path.
-    pub fn open(host: &HostRuntime, path: &str) -> Result<StateFolder, Fault> {
+    /// Opens, locks and lists the folder at a path. Generations that weren't written for so many days may go.
+    pub fn open(host: &HostRuntime, path: &str, days: Option<u32>) -> Result<StateFolder, Fault> {
         let directory = match open_directory(host, path) {
             Ok(directory) => directory,
             Err(fault) => return Err(fault.at(path.to_string(host.alloc())?)),
@@ -43,6 +50,8 @@ impl StateFolder {
                 host: *host,
                 listed,
                 directory,
+                days,
+                is_open_to_asking: true,
             }),
             Err(error) => {
                 let newest = listed.numbers.newest();
@@ -69,10 +78,33 @@ impl StateFolder {
         match make_store(&self.host, &path) {
             Ok(store) => {
                 self.listed.numbers.add(number)?;
+                self.is_open_to_asking = self.end_asking().is_ok();
                 Ok(store)
             }
             Err(fault) => Err(self.listed.fail(number, fault)),
         }
+    }
+
+    // Removes the file that asks for another generation, if it is there.
+    fn end_asking(&self) -> io::Result<()> {
+        let asking = asking_of(self.host.alloc(), &self.listed.path)?;
+        remove_if_there(&self.host, &asking)
+    }
+
+    // Whether that file is there. One that couldn't be removed asks once, or generations would begin without end.
+    fn is_asking(&self) -> bool {
+        let Ok(asking) = asking_of(self.host.alloc(), &self.listed.path) else {
+            return false;
+        };
+        self.is_open_to_asking && is_there(&self.host, &asking).unwrap_or(false)
+    }
+
+    // For how many whole days the file with a number hasn't been written, if that can be told.
+    fn days_of(&self, number: u32) -> Option<u64> {
+        let path = self.listed.file(self.host.alloc(), number).ok()?;
+        let modified = fs::metadata(&self.host, &path).ok()?.modified().ok()?;
+        let age = modified.elapsed(&self.host).ok()?;
+        Some(age.as_secs() / DAY)
     }
 
     fn open_file(&mut self, number: u32) -> Result<DiskStore, OpenFault>
@@ -129,6 +161,17 @@ impl<'f> Folder<DiskStore> for &'f mut StateFolder {
         self.listed.numbers.count()
     }
 
+    fn is_too_old(&self, number: u32) -> bool {
+        match (self.days, self.days_of(number)) {
+            (Some(days), Some(age)) => age >= u64::from(days),
+            _ => false,
+        }
+    }
+
+    fn is_asked(&self) -> bool {
+        self.is_asking()
+    }
+
     fn create(&mut self, _alloc: Global, number: u32) -> Result<DiskStore, OpenFault> {
         self.make_file(number)
     }
@@ -181,7 +224,8 @@ fn rename_files(host: &HostRuntime, path: &str, aside: &str) -> io::Result<()> {
     fs::rename(host, path, aside)
 }
 
-fn is_there(host: &HostRuntime, path: &str) -> io::Result<bool> {
+/// Whether a file is there.
+pub fn is_there(host: &HostRuntime, path: &str) -> io::Result<bool> {
     match fs::symlink_metadata(host, path) {
         Ok(_) => Ok(true),
         Err(error) if error.kind() == io::ErrorKind::NotFound => Ok(false),
@@ -198,7 +242,8 @@ fn remove_files(host: &HostRuntime, path: &str) -> io::Result<()> {
     remove_if_there(host, path)
 }
 
-fn remove_if_there(host: &HostRuntime, path: &str) -> io::Result<()> {
+/// Removes a file, if it is there.
+pub fn remove_if_there(host: &HostRuntime, path: &str) -> io::Result<()> {
     match fs::remove_file(host, path) {
         Err(error) if error.kind() == io::ErrorKind::NotFound => Ok(()),
         removed => removed,

@@ -111,7 +111,8 @@ fn line_of(alloc: Global, kept: &Kept) -> Result<Vec<u8>, AllocError> {
     Ok(line)
 }
 
-fn write<W: Write>(writer: &mut W, octets: &[u8]) -> Result<(), StateFault> {
+/// Writes octets.
+pub fn write<W: Write>(writer: &mut W, octets: &[u8]) -> Result<(), StateFault> {
     match writer.write_all(octets) {
         Ok(()) => Ok(()),
         Err(_) => Err(StateFault::Write),
