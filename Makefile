@@ -33,7 +33,7 @@ udp: demo
 	trials/udp/run
 
 # Kills radpool with a state again and again beside gateways that go on, and judges what outlives it, what is refused and a full disk. It
-# needs Python 3, and root for file systems of its own, without which these are left out.
+# needs Python 3 and sqlite3, and root for file systems of its own, without which these are left out.
 state: demo
 	trials/state/run
 

@@ -241,5 +241,5 @@ def rows_of(folder):
 def rows_in(name):
     """The entries of one generation, read from its file and its log, which must be a copy's or closed."""
     with contextlib.closing(sqlite3.connect(name)) as database:
-        columns = "rowid, wall, moment, address, port, door, draw, request, answer"
+        columns = "rowid, wall, moment, source, port, door, draw, request, answer"
         return database.execute(f"SELECT {columns} FROM exchange ORDER BY rowid").fetchall()

@@ -5,6 +5,7 @@ import re
 import shutil
 import signal
 import subprocess
+import time
 import uuid
 
 from gateways import Gateway, Load
@@ -66,6 +67,7 @@ def hourly(configuration, ask):
         passes(HOUR / 2, system, server, ask)
         judge(generations(state) == [1, 2], f"a generation begins after an hour: {generations(state)}")
         judge(ask(server.auth, request) == accept, "a repeat gets the reply after that")
+        time.sleep(1)  # a thread of its own writes the log
         errors = ended(server)
     told = re.findall(r"^radpool: began a generation, paused \d+ ms$", errors, re.M)
     judge(len(told) == 1, f"the log tells that it paused: {errors}")

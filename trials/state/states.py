@@ -135,10 +135,10 @@ def other_octet(name, at):
             os.pwrite(file.fileno(), octet, at)
 
 
-def edit(database, statement):
+def edit(database, statements):
     """Changes the rows of a database, and renews its sums."""
     with contextlib.closing(sqlite3.connect(database)) as connection:
-        connection.execute(statement)
+        connection.executescript(statements)
         connection.commit()
     renew_sums(database)
 

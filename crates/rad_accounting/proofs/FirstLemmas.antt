@@ -5,8 +5,7 @@ use Rattle.std.specs.Int.{w32, from_be_bytes}
 use Rattle.std.specs.Option.{option_or}
 use Rattle.std.proofs.lemmas.Bool.{cases_eq, eq-eqb, ne_eqb}
 use Rattle.std.proofs.lemmas.List.{get_or-set_same, get_or-set_other}
-use Rattle.rad_packet.specs.Attributes.{Attribute, first_value, integer_size, is_of, is_of_len}
-use Rattle.rad_accounting.specs.Records.{first_integer, integer_of}
+use Rattle.rad_packet.specs.Attributes.{Attribute, first_value, integer_size, is_of, is_of_len, first_integer, integer_of}
 
 -- the first Value of a Type is the one found so far, or else the first in the attributes that are left
 abbrev pub IsFirst : ℕ → Option (Bor (List ℕ)) → List Attribute → List Attribute → Type 0

@@ -1,9 +1,9 @@
 //! The first attribute of each Type.
 ghost use Rattle.std.specs.Prelude.{◌≡◌, ◌<◌, ℕ, None, option_copied, slice_index_or};
-ghost use Rattle.rad_packet.specs.Attributes.{first_value};
-ghost use Rattle.rad_accounting.specs.Records.{first_integer, integer_of};
+ghost use Rattle.rad_packet.specs.Attributes.{first_integer, first_value};
 
 use rad_packet::Packet;
+use rad_packet::attribute::integer_of;
 
 /// How many Types there are.
 const KINDS: usize = 256;
@@ -48,14 +48,4 @@ impl<'p, 'a> Firsts<'p, 'a> {
             None => integer_of(self.packet.first_of_len(kind, 4)?),
         }
     }
-}
-
-// The integer that a Value of four octets is, most significant octet first (RFC 2865, section 5).
-fn integer_of(value: &[u8]) -> Option<u32>
-    ensures { result ≡ integer_of value.now }
-{
-    let [a, b, c, d] = value else {
-        return None;
-    };
-    Some(u32::from_be_bytes([*a, *b, *c, *d]))
 }

@@ -11,6 +11,6 @@ pub struct Occasion {
     pub client: u32,
     /// The source address, most significant octet first.
     pub source: u32,
-    /// The number of the session that it names, if it names one.
+    /// The number of the session that it names or is granted, if any.
     pub session: Option<i64>,
 }

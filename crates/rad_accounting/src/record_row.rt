@@ -1,7 +1,8 @@
-//! The row of a record.
-ghost use Rattle.std.specs.Prelude.{◌≡◌, ◌++◌, ◌∷◌, [], OnOk, option_copied};
+//! The rows of records.
+ghost use Rattle.std.specs.Prelude.{◌≡◌, ◌++◌, ◌∷◌, [], pos, OnOk, option_copied};
 ghost use Rattle.sqlite_value.specs.Value.{owned};
-ghost use Rattle.rad_accounting.specs.Records.{number_of, number_value, octets_of, octets_value, row_of, session_value, text_of, text_value};
+ghost use Rattle.sqlite_value.specs.declared.value.Value.TheVariants.{Int, Null};
+ghost use Rattle.rad_accounting.specs.Records.{grant_row, number_of, number_value, octets_of, octets_value, report_row, session_value, text_of, text_value};
 
 use crate::firsts::Firsts;
 use crate::kinds::{
@@ -28,18 +29,10 @@ use std::str;
 /// significant octet first. Octets have their Gigawords in them. A text is a blob where it is no UTF-8. Source: RFC 2866, section 5, and
 /// RFC 2869, section 5.
 pub fn fill(row: &mut Row, occasion: &Occasion, packet: &Packet) -> Result<(), AllocError>
-    ensures { OnOk result (row.new ≡ row_of occasion.now packet.now.attributes) }
+    ensures { OnOk result (row.new ≡ report_row occasion.now packet.now.attributes) }
 {
     let firsts = Firsts::of(packet);
-    row.clear();
-    row.push(ValueRef::Int(i64::from(occasion.entry)))?;
-    // The column of the rowid itself.
-    row.push(ValueRef::Null)?;
-    row.push(ValueRef::Int(occasion.time))?;
-    row.push(ValueRef::Int(i64::from(occasion.client)))?;
-    row.push(ValueRef::Int(i64::from(occasion.source)))?;
-    push_text(row, &firsts, USER_NAME)?;
-    row.push(session(occasion.session))?;
+    begin(row, occasion, firsts.value(USER_NAME))?;
     push_number(row, &firsts, ACCT_STATUS_TYPE)?;
     push_text(row, &firsts, ACCT_SESSION_ID)?;
     push_text(row, &firsts, ACCT_MULTI_SESSION_ID)?;
@@ -57,6 +50,47 @@ pub fn fill(row: &mut Row, occasion: &Occasion, packet: &Packet) -> Result<(), A
     push_number(row, &firsts, ACCT_OUTPUT_PACKETS)?;
     push_number(row, &firsts, ACCT_TERMINATE_CAUSE)?;
     push_number(row, &firsts, ACCT_DELAY_TIME)?;
+    Ok(())
+}
+
+/// Makes the row of what is recorded of an Access-Request that is granted a session, with the address that it is granted, if any.
+///
+/// Its columns: entry, which is the rowid and stored as NULL, time, client, source, user, session, address, calling_station_id. Source:
+/// RFC 2865, section 5.
+pub fn fill_grant(
+    row: &mut Row,
+    occasion: &Occasion,
+    address: Option<u32>,
+    packet: &Packet,
+) -> Result<(), AllocError>
+    ensures { OnOk result (row.new ≡ grant_row occasion.now address packet.now.attributes) }
+{
+    begin(row, occasion, packet.first(USER_NAME))?;
+    row.push(number(address))?;
+    row.push(text(packet.first(CALLING_STATION_ID)))?;
+    Ok(())
+}
+
+// Makes the columns with which each row begins: when and from whom the request came, its User-Name, and the session.
+fn begin(row: &mut Row, occasion: &Occasion, user: Option<&[u8]>) -> Result<(), AllocError>
+    ensures { OnOk result (row.new ≡ Int (pos occasion.now.entry)
+        ∷ Null
+        ∷ Int occasion.now.time
+        ∷ Int (pos occasion.now.client)
+        ∷ Int (pos occasion.now.source)
+        ∷ text_value (option_copied user.entry)
+        ∷ session_value occasion.now.session
+        ∷ []) }
+{
+    row.clear();
+    row.push(ValueRef::Int(i64::from(occasion.entry)))?;
+    // The column of the rowid itself.
+    row.push(ValueRef::Null)?;
+    row.push(ValueRef::Int(occasion.time))?;
+    row.push(ValueRef::Int(i64::from(occasion.client)))?;
+    row.push(ValueRef::Int(i64::from(occasion.source)))?;
+    row.push(text(user))?;
+    row.push(session(occasion.session))?;
     Ok(())
 }
 

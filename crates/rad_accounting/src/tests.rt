@@ -1,5 +1,5 @@
-//! The columns of an Interim-Update as a gateway sends it.
-use crate::{Occasion, fill};
+//! The columns of an Interim-Update and of an Access-Request as a gateway sends them.
+use crate::{Occasion, fill, fill_grant};
 use rad_packet::Packet;
 use sqlite_value::row::Row;
 use sqlite_value::value::ValueRef;
@@ -51,6 +51,23 @@ const COLUMNS: &[(usize, ValueRef<'static>, &str)] = &[
     (23, ValueRef::Null, "delay"),
 ];
 
+/// The octets of an Access-Request of mira, at a port.
+const LOG_IN: &[u8] = b"\
+    \x01\x01\x00\x2c\x00\x00\x00\x00\x00\x00\x00\x00\x00\x00\x00\x00\x00\x00\x00\x00\
+    \x01\x06mira\x05\x06\x00\x00\x00\x01\x1f\x0c10-1a-5c-f";
+
+const GRANTED: &[(usize, ValueRef<'static>, &str)] = &[
+    (0, ValueRef::Int(9), "the rowid"),
+    (1, ValueRef::Null, "entry"),
+    (2, ValueRef::Int(1_700_000_000_123), "time"),
+    (3, ValueRef::Int(0), "client"),
+    (4, ValueRef::Int(0xC000_0201), "source"),
+    (5, ValueRef::Text(b"mira"), "user"),
+    (6, ValueRef::Int(412), "session"),
+    (7, ValueRef::Int(0x0A14_0007), "address"),
+    (8, ValueRef::Text(b"10-1a-5c-f"), "calling_station_id"),
+];
+
 fn same(one: ValueRef<'_>, other: ValueRef<'_>) -> bool {
     match (one, other) {
         (ValueRef::Null, ValueRef::Null) => true,
@@ -72,6 +89,18 @@ fn an_update_in_columns(rt: HostRuntime) -> Result<(), Fail> {
     fill(&mut row, &OCCASION, &packet)?;
     assert_eq!(rt; row.len(), 24);
     for (at, value, what) in COLUMNS.iter() {
+        has(&rt, &row, *at, *value, *what);
+    }
+    Ok(())
+}
+
+#[test]
+fn a_session_in_columns(rt: HostRuntime) -> Result<(), Fail> {
+    let packet = Packet::read(LOG_IN)?;
+    let mut row = Row::new(rt.alloc());
+    fill_grant(&mut row, &OCCASION, Some(0x0A14_0007), &packet)?;
+    assert_eq!(rt; row.len(), 9);
+    for (at, value, what) in GRANTED.iter() {
         has(&rt, &row, *at, *value, *what);
     }
     Ok(())

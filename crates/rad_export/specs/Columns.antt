@@ -19,19 +19,31 @@ pub record Column : Type 0 where
 abbrev pub column_of : ℕ → List ℕ → Kind → Column
 column_of at name holds = record { at = at; name = name; holds = holds }
 
+-- where a row has its time, in milliseconds since 1970
+abbrev pub at_time : ℕ
+at_time = 2
+
+-- where it has the User-Name (RFC 2865, section 5.1)
+abbrev pub at_user : ℕ
+at_user = 5
+
+-- where it has the Framed-IP-Address, most significant octet first (RFC 2865, section 5.8)
+abbrev pub at_address : ℕ
+at_address = 10
+
 -- the columns in their order, with their attributes' names (RFC 2865, RFC 2866 and RFC 2869, sections 5)
 abbrev pub columns : List Column
 columns =
     column_of 0 (codes "entry") kind.Number
-    ∷ column_of 2 (codes "time") kind.Time
+    ∷ column_of at_time (codes "time") kind.Time
     ∷ column_of 3 (codes "client") kind.Number
     ∷ column_of 4 (codes "source") kind.Address
     ∷ column_of 6 (codes "session") kind.Number
-    ∷ column_of 5 (codes "User-Name") kind.Text
+    ∷ column_of at_user (codes "User-Name") kind.Text
     ∷ column_of 7 (codes "Acct-Status-Type") kind.Status
     ∷ column_of 8 (codes "Acct-Session-Id") kind.Text
     ∷ column_of 9 (codes "Acct-Multi-Session-Id") kind.Text
-    ∷ column_of 10 (codes "Framed-IP-Address") kind.Address
+    ∷ column_of at_address (codes "Framed-IP-Address") kind.Address
     ∷ column_of 11 (codes "NAS-IP-Address") kind.Address
     ∷ column_of 12 (codes "NAS-Identifier") kind.Text
     ∷ column_of 13 (codes "NAS-Port") kind.Number

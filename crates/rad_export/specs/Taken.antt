@@ -1,10 +1,10 @@
--- Which rows are taken. A row has its time in column 2, in milliseconds since 1970, its User-Name in column 5, and its Framed-IP-Address in
--- column 10, most significant octet first (RFC 2865, sections 5.1 and 5.8). A part that is absent takes every row.
+-- Which rows are taken, by their time, User-Name and Framed-IP-Address. A part that is absent takes every row.
 use Rattle.std.specs.Prelude.{ℕ, ℤ, pos, int_lt, int_le, Bool, true, false, ◌&&◌, List, bytes_eq, Option, Some, None, option_copied}
 use Rattle.std.specs.Ordering.{int_eq}
 use Rattle.sqlite_value.specs.Order.{Row, column}
 use Rattle.sqlite_value.specs.declared.value.Value.{Value}
 use Rattle.sqlite_value.specs.declared.value.Value.TheVariants.{Int, Text, Blob}
+use Rattle.rad_export.specs.Columns.{at_address, at_time, at_user}
 use Rattle.rad_export.specs.declared.wanted.Wanted.{Wanted}
 
 -- a time is not before the first that is taken
@@ -39,6 +39,6 @@ has_address (Some wanted) other = false
 -- a row is wanted
 abbrev pub takes : Wanted → Row → Bool
 takes wanted row =
-    is_between wanted.since wanted.until (column row 2)
-    && has_user (option_copied wanted.user) (column row 5)
-    && has_address wanted.address (column row 10)
+    is_between wanted.since wanted.until (column row at_time)
+    && has_user (option_copied wanted.user) (column row at_user)
+    && has_address wanted.address (column row at_address)

@@ -2,6 +2,7 @@
 use Rattle.std.proofs.Common.{◌≡◌, ◌<◌, ◌⊎◌, inl, inr, ⊎_elim, ℕ, suc, ◌+◌, Bool, true, false, IsTrue, List, [], ◌∷◌, ◌++◌, length, take, get_or, slice_get, cond, ne_eqb, Some, None, refl, sym, ap, subst, ◌∙◌, arith, append-nil, append_assoc, length-append}
 use mathlib.Core.Path.{fun_ext}
 use Rattle.std.proofs.Math.Seq.{take-suc}
+use Rattle.std.proofs.lemmas.Bool.{eq-eqb}
 use Rattle.std.proofs.lemmas.List.{length-map, length-take-le, map-append, take_all}
 use Rattle.std.proofs.lemmas.Option.{get_or_from_slice_get, none-some, slice_get_cases}
 use Rattle.std.specs.Prelude.{option_to_list}
@@ -10,11 +11,13 @@ use Rattle.sqlite_trees.specs.declared.store.Direction.TheVariants.{Forward}
 use Rattle.sqlite_trees.specs.View.{Advances, Commits, IsRolledBack, KeepsSchema, OnlyWrites, SetsTree, View, with_cursor}
 use Rattle.sqlite_value.specs.Order.{Row}
 use Rattle.rad_journal.specs.Rows.{IsCounted, IsLog, entries_of, entry_of, row_of, rows_from, table}
-use Rattle.rad_journal.specs.Records.{IsJournal, record_of, record_table, records_of, with_record}
-use Rattle.rad_journal.specs.Stores.{HasTables, IsAdded, IsRecorded, IsSound, KeepsOthers, LeavesAdded, OnlyReads, TakesRecord, others}
+use Rattle.rad_journal.specs.Records.{IsJournal, record_of, records_of, register_tree, with_record}
+use Rattle.rad_journal.specs.Stores.{HasTables, IsAdded, IsRecorded, IsSound, KeepsOthers, LeavesAdded, LeavesRest, OnlyReads, TakesRecord, others}
 use Rattle.rad_journal.proofs.CursorLemmas.{ends, gives, reads_on, seeks_first, some_rows, with_reads}
 use Rattle.rad_journal.proofs.RowLemmas.{entries_back, put_last, record_last, records_push, rows_push}
 use Rattle.rad_journal.specs.declared.kept.Kept.{Kept}
+use Rattle.rad_journal.specs.declared.register.Register.{Register}
+use Rattle.rad_journal.specs.declared.register.Register.TheVariants.{Accounting, Grants}
 
 pub frames : (first second third : View) → OnlyWrites first second → OnlyWrites second third → OnlyWrites first third
 frames first second third here there = there ∙ ap (λ (v : View). record v { trees = third.trees; cursors = third.cursors }) here
@@ -55,43 +58,71 @@ put_so_far old new before entries i count m x it lt sets is was counted =
     ∙ ap (λ (l : List Kept). rows_from 1 (l ++ x ∷ [])) stands
     ∙ ap (λ (l : List Kept). rows_from 1 l) (append_assoc before (take i entries) (x ∷ []) ∙ ap (λ (l : List Kept). before ++ l) (sym (take_next entries i x it lt)))
 
--- a write of the journal's table leaves the others
-pub set_beside : (old new : View) (edit : List Row → List Row) → SetsTree old new table edit → others new.trees ≡ others old.trees
-set_beside old new edit sets =
-    ap (λ (v : View). others v.trees) sets.is
-    ∙ fun_ext (λ tree. ap (λ (b : Bool). cond b (edit (old.trees table)) (old.trees (suc (suc tree)))) (ne_eqb (suc (suc tree)) 0 (λ is. omega (arith, is))))
+-- a write of one tree leaves the rest
+pub set_rest : (old new : View) (tree : ℕ) (edit : List Row → List Row) → SetsTree old new tree edit → LeavesRest old new tree
+set_rest old new tree edit sets other not =
+    ap (λ (v : View). v.trees other) sets.is ∙ ap (λ (b : Bool). cond b (edit (old.trees tree)) (old.trees other)) (ne_eqb other tree not)
 
--- and so are the records
-pub set_records : (old new : View) (edit : List Row → List Row) → SetsTree old new table edit → new.trees record_table ≡ old.trees record_table
-set_records old new edit sets = ap (λ (v : View). v.trees record_table) sets.is
+-- and so do two after one another
+pub rest_on : (first second third : View) (tree : ℕ) → LeavesRest first second tree → LeavesRest second third tree → LeavesRest first third tree
+rest_on first second third tree here there other not = there other not ∙ here other not
 
--- a record is put
-pub put_record : (old new : View) (row : Row) → SetsTree old new record_table (put_row row) → IsRecorded old new (Some row)
-put_record old new row sets = record {
-  records = ap (λ (v : View). v.trees record_table) sets.is;
-  entries = ap (λ (v : View). v.trees table) sets.is;
-  others = ap (λ (v : View). others v.trees) sets.is
-      ∙ fun_ext (λ tree. ap (λ (b : Bool). cond b (put_row row (old.trees record_table)) (old.trees (suc (suc tree)))) (ne_eqb (suc (suc tree)) 1 (λ is. omega (arith, is))));
+-- a record is put into a register
+pub put_record : (old new : View) (register : Register) (row : Row) → SetsTree old new (register_tree register) (put_row row)
+    → IsRecorded old new register (Some row)
+put_record old new register row sets = record {
+  records = ap (λ (v : View). v.trees (register_tree register)) sets.is
+      ∙ ap (λ (b : Bool). cond b (put_row row (old.trees (register_tree register))) (old.trees (register_tree register)))
+      (eq-eqb (register_tree register) (register_tree register) refl);
+  rest = set_rest old new (register_tree register) (put_row row) sets;
 }
 
+-- no register is the table of the entries
+pub not_entries : (register : Register) → table ≡ register_tree register → ⊥
+not_entries Accounting is = omega (arith, is)
+not_entries Grants is = omega (arith, is)
+
+-- entries are put, and then their records into both registers
+module _ (old put once new : View) (entries : LeavesRest old put table) (accounting : LeavesRest put once (register_tree Accounting))
+    (grants : LeavesRest once new (register_tree Grants)) where
+  pub entries_stay : new.trees table ≡ put.trees table
+  entries_stay = grants table (not_entries Grants) ∙ accounting table (not_entries Accounting)
+
+  pub others_stay : others new.trees ≡ others old.trees
+  others_stay = fun_ext (λ tree.
+      grants (suc (suc (suc tree))) (λ is. omega (arith, is))
+      ∙ accounting (suc (suc (suc tree))) (λ is. omega (arith, is))
+      ∙ entries (suc (suc (suc tree))) (λ is. omega (arith, is)))
+
+  -- what each register got
+  pub both_recorded : (before added : List Kept)
+      → (put.trees (register_tree Accounting) ≡ records_of Accounting before → once.trees (register_tree Accounting) ≡ records_of Accounting (before ++ added))
+      → (once.trees (register_tree Grants) ≡ records_of Grants before → new.trees (register_tree Grants) ≡ records_of Grants (before ++ added))
+      → (register : Register) → old.trees (register_tree register) ≡ records_of register before
+      → new.trees (register_tree register) ≡ records_of register (before ++ added)
+  both_recorded before added first second Accounting was =
+      grants (register_tree Accounting) (λ is. omega (arith, is)) ∙ first (entries (register_tree Accounting) (λ is. omega (arith, is)) ∙ was)
+  both_recorded before added first second Grants was =
+      second (accounting (register_tree Grants) (λ is. omega (arith, is)) ∙ entries (register_tree Grants) (λ is. omega (arith, is)) ∙ was)
+
 -- so many records were put, and then one more
-pub recorded_so_far : (old new : View) (before entries : List Kept) (i count m : ℕ) (x : Kept) → x ≡ get_or entries i x → i < length entries
-    → IsRecorded old new (record_of m x) → m ≡ count + i + 1 → length before ≡ count
-    → old.trees record_table ≡ records_of (before ++ take i entries)
-    → new.trees record_table ≡ records_of (before ++ take (i + 1) entries)
-recorded_so_far old new before entries i count m x it lt put is counted was =
+pub recorded_so_far : (register : Register) (old new : View) (before entries : List Kept) (i count m : ℕ) (x : Kept) → x ≡ get_or entries i x → i < length entries
+    → IsRecorded old new register (record_of register m x) → m ≡ count + i + 1 → length before ≡ count
+    → old.trees (register_tree register) ≡ records_of register (before ++ take i entries)
+    → new.trees (register_tree register) ≡ records_of register (before ++ take (i + 1) entries)
+recorded_so_far register old new before entries i count m x it lt put is counted was =
     let done = before ++ take i entries in
     let taken : length (take i entries) ≡ i = length-take-le i entries (omega (arith, lt)) in
     let long : m ≡ 1 + length done = omega (arith, is, length-append before (take i entries), counted, taken) in
-    put.records ∙ ap (λ (rows : List Row). with_record (record_of m x) rows) was
-    ∙ record_last m 1 done x long
-    ∙ ap (λ (l : List Kept). records_of l) (append_assoc before (take i entries) (x ∷ []) ∙ ap (λ (l : List Kept). before ++ l) (sym (take_next entries i x it lt)))
+    put.records ∙ ap (λ (rows : List Row). with_record (record_of register m x) rows) was
+    ∙ record_last register m 1 done x long
+    ∙ ap (λ (l : List Kept). records_of register l) (append_assoc before (take i entries) (x ∷ []) ∙ ap (λ (l : List Kept). before ++ l) (sym (take_next entries i x it lt)))
 
 -- the tables stay where the shapes do
 pub same_tables : (old new : View) → new.shape ≡ old.shape → HasTables old → HasTables new
 same_tables old new same were = record {
   entries = ap (λ f. f table) same ∙ were.entries;
-  records = ap (λ f. f record_table) same ∙ were.records;
+  records = λ register. ap (λ f. f (register_tree register)) same ∙ were.records register;
 }
 
 -- ---- a commit
@@ -100,8 +131,8 @@ module _ (old mid new : View) (recovers_old recovers_mid recovers_new : Trees �
     (was : IsSound old recovers_old true (Some count)) (outcomes : (db : Trees) → recovers_mid db → recovers_old db) where
   abbrev Puts : Type 0
   Puts = (mid.trees table ≡ rows_from 1 (entries_of (old.trees table) ++ entries))
-      × ((before : List Kept) → length before ≡ count → old.trees record_table ≡ records_of before
-      → mid.trees record_table ≡ records_of (before ++ entries))
+      × ((register : Register) (before : List Kept) → length before ≡ count → old.trees (register_tree register) ≡ records_of register before
+      → mid.trees (register_tree register) ≡ records_of register (before ++ entries))
 
   abbrev Leaves : Type 0
   Leaves = (db : Trees) → recovers_new db → ((mid.is_broken ≡ false) × (db ≡ mid.trees)) ⊎ recovers_mid db
@@ -109,14 +140,14 @@ module _ (old mid new : View) (recovers_old recovers_mid recovers_new : Trees �
   before_entries : length (entries_of (old.trees table)) ≡ count
   before_entries = ap (λ (t : Trees). length (entries_of (t table))) (was.settled refl) ∙ was.counted count refl
 
-  before_records : old.trees record_table ≡ records_of (entries_of (old.trees table))
-  before_records = subst (λ (t : Trees). t record_table ≡ records_of (entries_of (t table))) (sym (was.settled refl)) (was.journal refl).records
+  before_records : (register : Register) → old.trees (register_tree register) ≡ records_of register (entries_of (old.trees table))
+  before_records register = subst (λ (t : Trees). t (register_tree register) ≡ records_of register (entries_of (t table))) (sym (was.settled refl)) ((was.journal refl).records register)
 
   mid_journal : Puts → IsJournal mid.trees
   mid_journal puts = record {
     log = is_log (mid.trees table) (entries_of (old.trees table) ++ entries) puts.0;
-    records = puts.1 (entries_of (old.trees table)) before_entries before_records
-        ∙ ap (λ (l : List Kept). records_of l) (sym (stands_for (mid.trees table) (entries_of (old.trees table) ++ entries) puts.0));
+    records = λ register. puts.1 register (entries_of (old.trees table)) before_entries (before_records register)
+        ∙ ap (λ (l : List Kept). records_of register l) (sym (stands_for (mid.trees table) (entries_of (old.trees table) ++ entries) puts.0));
   }
 
   mid_entries : Puts → entries_of (mid.trees table) ≡ entries_of (old.committed table) ++ entries
@@ -249,9 +280,9 @@ takes_one old mid new row wanted same step is = record {
 }
 
 -- the records of so many entries were read
-abbrev pub RecordsSoFar : View → View → ℕ → Type 0
-RecordsSoFar first v n = (left : List Row)
-    × (first.trees record_table ≡ records_of (take n (entries_of (first.trees table))) ++ left) × (v.cursors 0 ≡ Some left)
+abbrev pub RecordsSoFar : Register → View → View → ℕ → Type 0
+RecordsSoFar register first v n = (left : List Row)
+    × (first.trees (register_tree register) ≡ records_of register (take n (entries_of (first.trees table))) ++ left) × (v.cursors 0 ≡ Some left)
 
 -- an entry that is there
 found_get : (entries : List Kept) (n : ℕ) (entry : Kept) → slice_get entries n ≡ Some entry
@@ -261,27 +292,27 @@ found_get entries n entry is = (
   sym (get_or_from_slice_get entries n entry entry is),
 )
 
-pub record_next : (first old new : View) (n : ℕ) (entry : Kept) → RecordsSoFar first old n
-    → slice_get (entries_of (first.trees table)) n ≡ Some entry → TakesRecord old new (record_of (1 + n) entry) → RecordsSoFar first new (n + 1)
-record_next first old new n entry (left, split, at) is takes =
+pub record_next : (register : Register) (first old new : View) (n : ℕ) (entry : Kept) → RecordsSoFar register first old n
+    → slice_get (entries_of (first.trees table)) n ≡ Some entry → TakesRecord old new (record_of register (1 + n) entry) → RecordsSoFar register first new (n + 1)
+record_next register first old new n entry (left, split, at) is takes =
     let entries = entries_of (first.trees table) in
     let (rest, parts, now) = takes.takes left at in
     let found = found_get entries n entry is in
     let taken : length (take n entries) ≡ n = length-take-le n entries (omega (arith, found.0)) in
     let last : 1 + n ≡ 1 + length (take n entries) = omega (arith, taken) in (
       rest,
-      split ∙ ap (λ (l : List Row). records_of (take n entries) ++ l) parts
-          ∙ sym (append_assoc (records_of (take n entries)) (option_to_list (record_of (1 + n) entry)) rest)
-          ∙ ap (λ (l : List Row). l ++ rest) (sym (records_push (1 + n) 1 (take n entries) entry last))
-          ∙ ap (λ (l : List Kept). records_of l ++ rest) (sym (take_next entries n entry found.1 found.0)),
+      split ∙ ap (λ (l : List Row). records_of register (take n entries) ++ l) parts
+          ∙ sym (append_assoc (records_of register (take n entries)) (option_to_list (record_of register (1 + n) entry)) rest)
+          ∙ ap (λ (l : List Row). l ++ rest) (sym (records_push register (1 + n) 1 (take n entries) entry last))
+          ∙ ap (λ (l : List Kept). records_of register l ++ rest) (sym (take_next entries n entry found.1 found.0)),
       now,
     )
 
 -- and no more are left
-pub records_end : (first old new : View) (row : Row) (n : ℕ) → RecordsSoFar first old n → length (entries_of (first.trees table)) ≡ n
-    → Advances old new 0 row false → first.trees record_table ≡ records_of (entries_of (first.trees table))
-records_end first old new row n (left, split, at) long step =
+pub records_end : (register : Register) (first old new : View) (row : Row) (n : ℕ) → RecordsSoFar register first old n → length (entries_of (first.trees table)) ≡ n
+    → Advances old new 0 row false → first.trees (register_tree register) ≡ records_of register (entries_of (first.trees table))
+records_end register first old new row n (left, split, at) long step =
     let entries = entries_of (first.trees table) in
     let none = (ends old new left row step at).0 in
-    split ∙ ap (λ (l : List Row). records_of (take n entries) ++ l) none ∙ append-nil (records_of (take n entries))
-    ∙ ap (λ (l : List Kept). records_of l) (take_all n entries (omega (arith, long)))
+    split ∙ ap (λ (l : List Row). records_of register (take n entries) ++ l) none ∙ append-nil (records_of register (take n entries))
+    ∙ ap (λ (l : List Kept). records_of register l) (take_all n entries (omega (arith, long)))

@@ -1,11 +1,14 @@
 -- Rows of entries: found by their rowids, and put behind the others.
 use Rattle.std.proofs.Common.{◌≡◌, ◌<◌, ⊎_elim, ℕ, zero, suc, ◌+◌, pos, Bool, true, false, ◌==◌, if◌then◌else◌, List, [], ◌∷◌, ◌++◌, length, filter, Option, Some, None, IfSome, Result, Ok, Err, slice_get, Less, is_eq, refl, sym, ap, subst, ◌∙◌, arith, append-nil, append_assoc}
 use Rattle.std.specs.Ordering.{match_ordering}
-use Rattle.std.specs.Prelude.{option_to_list}
-use Rattle.rad_accounting.specs.Records.{row_of as record_row}
+use Rattle.std.specs.Prelude.{option_map, option_to_list}
+use Rattle.rad_accounting.specs.Records.{grant_row, report_row}
+use Rattle.rad_packet.specs.Attributes.{Attribute, first_integer}
 use Rattle.rad_packet.specs.Codes.{code_accounting_request}
 use Rattle.rad_packet.specs.Packets.{Packet, packet_of}
+use Rattle.rad_packet.specs.Types.{type_framed_ip_address}
 use Rattle.rad_packet.specs.declared.packet.ReadFault.{ReadFault}
+use Rattle.rad_server.specs.Accounting.{class_number}
 use Rattle.std.proofs.lemmas.Int.{ints}
 use Rattle.std.proofs.lemmas.Bool.Decides.{nat_tests}
 use Rattle.std.proofs.lemmas.Option.{none-some, slice_get_cases}
@@ -14,9 +17,11 @@ use Rattle.sqlite_value.specs.Order.{Row, value_cmp}
 use Rattle.sqlite_value.proofs.OrderLemmas.{value_cmp-Int}
 use Rattle.sqlite_trees.specs.Tree.{has_rowid, put_row, rowid}
 use Rattle.sqlite_trees.specs.View.{Finds}
-use Rattle.rad_journal.specs.Records.{occasion_of, record_of, record_read, records_from, with_record}
+use Rattle.rad_journal.specs.Records.{accepted, grant_read, occasion_of, record_of, records_from, report_read, with_record}
 use Rattle.rad_journal.specs.Rows.{IsLog, entries_of, entry_back, entry_of, row_of, rows_from}
 use Rattle.rad_journal.specs.declared.kept.Kept.{Kept}
+use Rattle.rad_journal.specs.declared.register.Register.{Register}
+use Rattle.rad_journal.specs.declared.register.Register.TheVariants.{Accounting, Grants}
 
 lower : (m n : ℕ) → m < n → value_cmp (Int (pos m)) (Int (pos n)) ≡ Less
 lower m n lt = value_cmp-Int (pos m) (pos n) ∙ grind (arith, ints, nat_tests)
@@ -93,16 +98,28 @@ rows_push m n (first ∷ entries) entry is = ap (λ (l : List Row). row_of n fir
 -- ---- records
 
 -- a record has the number of its entry as its rowid
-has_number : (m : ℕ) (entry : Kept) → IfSome (record_of m entry) (λ row. rowid row ≡ Int (pos m))
-has_number m entry = read (packet_of entry.octets)
+report_number : (m : ℕ) (entry : Kept) (r : Result Packet ReadFault) → IfSome (report_read m entry r) (λ row. rowid row ≡ Int (pos m))
+report_number m entry (Err fault) = tt
+report_number m entry (Ok packet) = at (packet.code == code_accounting_request)
   where
-    read : (r : Result Packet ReadFault) → IfSome (record_read m entry r) (λ row. rowid row ≡ Int (pos m))
-    read (Err fault) = tt
-    read (Ok packet) = at (packet.code == code_accounting_request)
-      where
-        at : (b : Bool) → IfSome (if b then Some (record_row (occasion_of m entry) packet.attributes) else None) (λ row. rowid row ≡ Int (pos m))
-        at true = refl
-        at false = tt
+    at : (b : Bool) → IfSome (if b then Some (report_row (occasion_of m entry entry.session) packet.attributes) else None) (λ row. rowid row ≡ Int (pos m))
+    at true = refl
+    at false = tt
+
+grant_number : (m : ℕ) (entry : Kept) (r : Result Packet ReadFault) (said : Option (List Attribute))
+    → IfSome (grant_read m entry r said) (λ row. rowid row ≡ Int (pos m))
+grant_number m entry (Err fault) said = tt
+grant_number m entry (Ok packet) None = tt
+grant_number m entry (Ok packet) (Some list) = at (class_number list)
+  where
+    at : (session : Option ℕ)
+        → IfSome (option_map (λ s. grant_row (occasion_of m entry (Some s)) (first_integer type_framed_ip_address list) packet.attributes) session) (λ row. rowid row ≡ Int (pos m))
+    at (Some session) = refl
+    at None = tt
+
+has_number : (register : Register) (m : ℕ) (entry : Kept) → IfSome (record_of register m entry) (λ row. rowid row ≡ Int (pos m))
+has_number Accounting m entry = report_number m entry (packet_of entry.octets)
+has_number Grants m entry = grant_number m entry (packet_of entry.octets) (accepted entry.answer)
 
 -- a row goes behind one with a lower rowid
 put_behind : (m n : ℕ) (first new : Row) (rows : List Row) → n < m → rowid first ≡ Int (pos n) → rowid new ≡ Int (pos m)
@@ -112,32 +129,32 @@ put_behind m n first new rows lt low high =
     (ap (λ v. value_cmp v (rowid new)) low ∙ ap (λ v. value_cmp (Int (pos n)) v) high ∙ lower n m lt)
 
 -- a record with the next number goes behind
-pub record_last : (m n : ℕ) (entries : List Kept) (entry : Kept) → m ≡ n + length entries
-    → with_record (record_of m entry) (records_from n entries) ≡ records_from n (entries ++ entry ∷ [])
-record_last m n [] entry is =
+pub record_last : (register : Register) (m n : ℕ) (entries : List Kept) (entry : Kept) → m ≡ n + length entries
+    → with_record (record_of register m entry) (records_from register n entries) ≡ records_from register n (entries ++ entry ∷ [])
+record_last register m n [] entry is =
     let same : m ≡ n = omega (arith, is) in
-    at (record_of m entry) ∙ ap (λ k. option_to_list (record_of k entry) ++ []) same
+    at (record_of register m entry) ∙ ap (λ k. option_to_list (record_of register k entry) ++ []) same
   where
     at : (o : Option Row) → with_record o [] ≡ option_to_list o ++ []
     at None = refl
     at (Some row) = refl
-record_last m n (first ∷ entries) entry is =
-    behind (record_of m entry) (record_of n first) (has_number m entry) (has_number n first)
-    ∙ ap (λ (l : List Row). option_to_list (record_of n first) ++ l) (record_last m (suc n) entries entry (omega (arith, is)))
+record_last register m n (first ∷ entries) entry is =
+    behind (record_of register m entry) (record_of register n first) (has_number register m entry) (has_number register n first)
+    ∙ ap (λ (l : List Row). option_to_list (record_of register n first) ++ l) (record_last register m (suc n) entries entry (omega (arith, is)))
   where
     behind : (new old : Option Row) → IfSome new (λ row. rowid row ≡ Int (pos m)) → IfSome old (λ row. rowid row ≡ Int (pos n))
-        → with_record new (option_to_list old ++ records_from (suc n) entries)
-        ≡ option_to_list old ++ with_record new (records_from (suc n) entries)
+        → with_record new (option_to_list old ++ records_from register (suc n) entries)
+        ≡ option_to_list old ++ with_record new (records_from register (suc n) entries)
     behind None old high low = refl
     behind (Some new) None high low = refl
-    behind (Some new) (Some row) high low = put_behind m n row new (records_from (suc n) entries) (omega (arith, is)) low high
+    behind (Some new) (Some row) high low = put_behind m n row new (records_from register (suc n) entries) (omega (arith, is)) low high
 
 -- the records of entries and one more
-pub records_push : (m n : ℕ) (entries : List Kept) (entry : Kept) → m ≡ n + length entries
-    → records_from n (entries ++ entry ∷ []) ≡ records_from n entries ++ option_to_list (record_of m entry)
-records_push m n [] entry is =
+pub records_push : (register : Register) (m n : ℕ) (entries : List Kept) (entry : Kept) → m ≡ n + length entries
+    → records_from register n (entries ++ entry ∷ []) ≡ records_from register n entries ++ option_to_list (record_of register m entry)
+records_push register m n [] entry is =
     let same : n ≡ m = omega (arith, is) in
-    append-nil (option_to_list (record_of n entry)) ∙ ap (λ k. option_to_list (record_of k entry)) same
-records_push m n (first ∷ entries) entry is =
-    ap (λ (l : List Row). option_to_list (record_of n first) ++ l) (records_push m (suc n) entries entry (omega (arith, is)))
-    ∙ sym (append_assoc (option_to_list (record_of n first)) (records_from (suc n) entries) (option_to_list (record_of m entry)))
+    append-nil (option_to_list (record_of register n entry)) ∙ ap (λ k. option_to_list (record_of register k entry)) same
+records_push register m n (first ∷ entries) entry is =
+    ap (λ (l : List Row). option_to_list (record_of register n first) ++ l) (records_push register m (suc n) entries entry (omega (arith, is)))
+    ∙ sym (append_assoc (option_to_list (record_of register n first)) (records_from register (suc n) entries) (option_to_list (record_of register m entry)))

@@ -4,14 +4,16 @@ ghost use Rattle.sqlite_value.specs.Value.{owned};
 ghost use Rattle.sqlite_trees.specs.Tree.{Trees, put_row};
 ghost use Rattle.sqlite_trees.specs.View.{IsClean, IsQuiet, KeepsSchema, OnlyWrites, SetsTree, doubt};
 ghost use Rattle.sqlite_trees.specs.declared.store.Shape.TheVariants.{Table};
-ghost use Rattle.rad_journal.specs.Records.{record_table, records_of};
+ghost use Rattle.rad_journal.specs.Records.{records_of, register_tree};
 ghost use Rattle.rad_journal.specs.Rows.{IsCounted, door_number, entries_of, row_of, rows_from, session_value, table};
 ghost use Rattle.rad_journal.specs.declared.kept.Kept.{Kept};
-ghost use Rattle.rad_journal.specs.Stores.{HasTables, IsAdded, IsSound, KeepsOthers, LeavesAdded, others};
+ghost use Rattle.rad_journal.specs.Stores.{HasTables, IsAdded, IsSound, KeepsOthers, LeavesAdded, LeavesRest, others};
+ghost use Rattle.rad_journal.specs.declared.register.Register.{Register};
 
 use crate::journal::JournalFault;
 use crate::kept::Kept;
 use crate::recording::record_all;
+use crate::register::Register;
 use rad_auth::Door;
 use sqlite_trees::store::Store;
 use sqlite_value::row::Row;
@@ -100,15 +102,18 @@ fn write<S: Store>(
         → OnlyWrites (S.view store.old) (S.view store.new)) }
     ensures put { OnOk result (IsClean (S.view store.new) → (S.view store.new).trees table
         ≡ rows_from 1 (entries_of ((S.view store.old).trees table) ++ entries.now)) }
-    ensures recorded { OnOk result (IsClean (S.view store.new) → (before : List Kept)
-        → length before ≡ count → (S.view store.old).trees record_table ≡ records_of before
-        → (S.view store.new).trees record_table ≡ records_of (before ++ entries.now)) }
+    ensures recorded { OnOk result (IsClean (S.view store.new)
+        → (register : Register) (before : List Kept) → length before ≡ count
+        → (S.view store.old).trees (register_tree register) ≡ records_of register before
+        → (S.view store.new).trees (register_tree register)
+        ≡ records_of register (before ++ entries.now)) }
     ensures others { OnOk result (IsClean (S.view store.new)
         → others (S.view store.new).trees ≡ others (S.view store.old).trees) }
     ensures number { IfOk result (λ n. n ≡ count + length entries.now) }
 {
     let number = put_all(store, row, count, entries)?;
-    record_all(store, row, count, entries)?;
+    record_all(store, row, Register::Accounting, count, entries)?;
+    record_all(store, row, Register::Grants, count, entries)?;
     Ok(number)
 }
 
@@ -130,10 +135,8 @@ fn put_all<S: Store>(
         → OnlyWrites (S.view store.old) (S.view store.new)) }
     ensures put { OnOk result (IsClean (S.view store.new) → (S.view store.new).trees table
         ≡ rows_from 1 (entries_of ((S.view store.old).trees table) ++ entries.now)) }
-    ensures records { OnOk result (IsClean (S.view store.new)
-        → (S.view store.new).trees record_table ≡ (S.view store.old).trees record_table) }
-    ensures others { OnOk result (IsClean (S.view store.new)
-        → others (S.view store.new).trees ≡ others (S.view store.old).trees) }
+    ensures rest { OnOk result (IsClean (S.view store.new)
+        → LeavesRest (S.view store.old) (S.view store.new) table) }
     ensures number { IfOk result (λ n. n ≡ count + length entries.now) }
 {
     let mut number = count;

@@ -3,7 +3,7 @@ ghost use Rattle.std.specs.Prelude.{◌≡◌, ◌+◌, ◌-◌, ◌≤◌, ◌<
 ghost use Rattle.sqlite_trees.specs.Tree.{Trees};
 ghost use Rattle.sqlite_trees.specs.View.{IsClean, doubt};
 ghost use Rattle.sqlite_trees.specs.declared.store.Shape.TheVariants.{Table};
-ghost use Rattle.rad_journal.specs.Records.{IsJournal, record_of, record_table};
+ghost use Rattle.rad_journal.specs.Records.{IsJournal, record_of, records_of, register_tree};
 ghost use Rattle.rad_journal.specs.Rows.{IsLog, entries_of, entry_of, row_of, table};
 ghost use Rattle.rad_journal.specs.Stores.{HasTables, OnlyReads, TakesRecord};
 ghost use Rattle.rad_journal.specs.declared.kept.Kept.{Kept};
@@ -11,7 +11,8 @@ ghost use Rattle.rad_journal.specs.declared.kept.Kept.{Kept};
 use crate::append::{TABLE, fill};
 use crate::journal::JournalFault;
 use crate::reading::{entry, read};
-use crate::recording::{self, RECORDS};
+use crate::recording;
+use crate::register::Register;
 use sqlite_trees::store::{Direction, Store};
 use sqlite_value::row::Row;
 use std::alloc::Global;
@@ -29,7 +30,8 @@ pub(crate) fn check<S: Store>(alloc: Global, store: &mut S) -> Result<u32, Journ
     ensures outcomes { (db : Trees) → S.recovers store.new db → S.recovers store.old db }
 {
     let count = check_entries(alloc, store)?;
-    check_records(alloc, store, count)?;
+    check_records(alloc, store, Register::Accounting, count)?;
+    check_records(alloc, store, Register::Grants, count)?;
     Ok(count)
 }
 
@@ -71,14 +73,20 @@ fn is_next(alloc: Global, row: &Row, wanted: &mut Row, place: u32) -> Result<boo
     Ok(row.is_same(wanted))
 }
 
-// Checks that the records of so many entries are there, and no others.
-fn check_records<S: Store>(alloc: Global, store: &mut S, count: u32) -> Result<(), JournalFault>
+// Checks that a register has the records of so many entries, and no others.
+fn check_records<S: Store>(
+    alloc: Global,
+    store: &mut S,
+    register: Register,
+    count: u32,
+) -> Result<(), JournalFault>
     requires shapes { IsClean (S.view store.old) → HasTables (S.view store.old) }
     requires log { IsClean (S.view store.old) → IsLog ((S.view store.old).trees table) }
     requires count { IsClean (S.view store.old)
         → length (entries_of ((S.view store.old).trees table)) ≡ count }
-    ensures journal { OnOk result (IsClean (S.view store.new)
-        → IsJournal (S.view store.old).trees) }
+    ensures records { OnOk result (IsClean (S.view store.new)
+        → (S.view store.old).trees (register_tree register)
+        ≡ records_of register (entries_of ((S.view store.old).trees table))) }
     ensures same { OnOk result (IsClean (S.view store.new)
         → OnlyReads (S.view store.old) (S.view store.new)) }
     ensures clean { doubt (S.view store.old).is_clean ≤ doubt (S.view store.new).is_clean }
@@ -87,9 +95,9 @@ fn check_records<S: Store>(alloc: Global, store: &mut S, count: u32) -> Result<(
     let mut row = Row::new(alloc);
     let mut wanted = Row::new(alloc);
     let key = Row::new(alloc);
-    store.seek(0, RECORDS, &key, Direction::Forward)?;
+    store.seek(0, register.tree(), &key, Direction::Forward)?;
     for place in 0..count {
-        check_record(alloc, store, &mut row, &mut wanted, place)?;
+        check_record(alloc, store, register, &mut row, &mut wanted, place)?;
     }
     if store.next(0, &mut row)? {
         return Err(JournalFault::Damaged);
@@ -97,10 +105,11 @@ fn check_records<S: Store>(alloc: Global, store: &mut S, count: u32) -> Result<(
     Ok(())
 }
 
-// Checks that the next record is that of the entry at a place, if that has one.
+// Checks that the next record of a register is that of the entry at a place, if that has one there.
 fn check_record<S: Store>(
     alloc: Global,
     store: &mut S,
+    register: Register,
     row: &mut Row,
     wanted: &mut Row,
     place: u32,
@@ -112,14 +121,15 @@ fn check_record<S: Store>(
     ensures live { OnOk result (IsSome ((S.view store.new).cursors 0)) }
     ensures taken { OnOk result (IsClean (S.view store.new) → (entry : Kept)
         × (slice_get (entries_of ((S.view store.old).trees table)) place ≡ Some entry)
-        × TakesRecord (S.view store.old) (S.view store.new) (record_of (1 + place) entry)) }
+        × TakesRecord (S.view store.old) (S.view store.new)
+        (record_of register (1 + place) entry)) }
     ensures clean { doubt (S.view store.old).is_clean ≤ doubt (S.view store.new).is_clean }
     ensures outcomes { (db : Trees) → S.recovers store.new db → S.recovers store.old db }
 {
     let Some(entry) = read(alloc, store, row, place)? else {
         return Err(JournalFault::Damaged);
     };
-    if !recording::fill(wanted, place + 1, &entry)? {
+    if !recording::fill(wanted, register, place + 1, &entry)? {
         return Ok(());
     }
     if !store.next(0, row)? || !row.is_same(wanted) {

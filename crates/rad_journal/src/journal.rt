@@ -8,6 +8,7 @@ ghost use Rattle.rad_journal.specs.Rows.{IsWithin};
 ghost use Rattle.rad_journal.specs.Stores.{Beside};
 ghost use Rattle.rad_journal.specs.declared.journal.JournalFault.TheVariants.{Damaged, NoMemory};
 ghost use Rattle.rad_journal.specs.declared.kept.Kept.{Kept};
+ghost use Rattle.rad_journal.specs.declared.register.Register.{Register};
 
 use crate::kept::Kept;
 use sqlite_trees::error::StoreError;
@@ -78,8 +79,8 @@ pub trait Journal {
     /// What a crash leaves beside them, which no call changes.
     ghost leaves_beside: { Self → Beside → Type 0 };
 
-    /// What the next open may find after a crash at this moment: these entries, and these records.
-    ghost may_record: { Self → List Kept → List Row → Type 0 };
+    /// What the next open may find after a crash at this moment: these entries, and these records in the registers.
+    ghost may_record: { Self → List Kept → (Register → List Row) → Type 0 };
 
     /// No wrong answer of the disk has been taken as true so far.
     ghost is_clean: { Self → Type 0 };
@@ -97,8 +98,8 @@ pub trait Journal {
     /// Adds the entries in their order, all or none. A journal that keeps nothing adds nothing, and succeeds.
     ///
     /// At `Ok` each crash from then on leaves them. At `Err` a crash may leave them or not. `NoRoom`: the disk or the database has
-    /// none. `Full`: there would be more than `ENTRIES_MAX` entries, or a time or the number of a session is 2 ^ 63 or more. `Disk`: the disk failed, or an
-    /// earlier call has failed.
+    /// none. `Full`: there would be more than `ENTRIES_MAX` entries, or a time or the number of a session is 2 ^ 63 or more. `Disk`:
+    /// the disk failed, or an earlier call has failed.
     fn commit(&mut self, entries: &[Kept]) -> Result<(), JournalFault>
         ensures clean { is_clean self.new → is_clean self.old }
         ensures kept { OnOk result (is_clean self.new
@@ -129,11 +130,12 @@ pub trait Journal {
 
     /// With the entries that a crash leaves it leaves records.
     ghost records: { (journal : Self) (left : List Kept) → may_leave journal left
-        → (rows : List Row) × may_record journal left rows };
+        → (rows : (Register → List Row)) × may_record journal left rows };
 
-    /// They are those of these entries: the record of each Accounting-Request among them, under its number, and no other.
+    /// They are those of these entries: in each register the records that they have there, under their numbers, and no other.
     ghost recorded: { (journal : Self) → is_clean journal
-        → (left : List Kept) (rows : List Row) → may_record journal left rows → rows ≡ records_of left };
+        → (left : List Kept) (rows : (Register → List Row)) → may_record journal left rows
+        → (register : Register) → rows register ≡ records_of register left };
 
     /// While it is open, a crash leaves what was kept and nothing else.
     ghost settled: { (journal : Self) → is_open journal

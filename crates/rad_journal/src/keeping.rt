@@ -2,7 +2,7 @@
 ghost use Rattle.std.specs.Prelude.{◌≡◌, ◌++◌, length, count_by, option_to_list, IfOk, IsOk, OnOk};
 ghost use Rattle.rad_server.specs.Runs.{counted, fresh_of};
 ghost use Rattle.rad_journal.specs.Kept.{NoneIsFresh, kept_by, kept_of};
-ghost use Rattle.rad_journal.specs.Records.{AccountingIsRecorded};
+ghost use Rattle.rad_journal.specs.Records.{AccountingIsRecorded, GrantsAreRecorded, OnlyGrantsAreRecorded};
 ghost use Rattle.rad_journal.specs.Restores.{RepliedAreKept};
 
 use crate::kept::Kept;
@@ -62,11 +62,20 @@ fn keep_one(
     Ok(())
 }
 
-/// An admitted Accounting-Request that is kept has a record with its attributes, whatever its number.
+/// An admitted Accounting-Request that is kept has a record with its attributes, whatever its number, and no other request has one.
 ///
 /// The call costs nothing: it does nothing at run time.
 pub fn accounting_is_recorded()
     ensures { AccountingIsRecorded }
+{}
+
+/// The session that is granted to an admitted request that is kept has a record with its number and its address, and no other reply has
+/// one.
+///
+/// The call costs nothing: it does nothing at run time.
+pub fn grants_are_recorded()
+    ensures granted { GrantsAreRecorded }
+    ensures only { OnlyGrantsAreRecorded }
 {}
 
 /// What `keep` makes of entries is kept of them, as `restore` reads it, where each of them got a reply.

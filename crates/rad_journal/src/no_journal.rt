@@ -21,7 +21,7 @@ impl Journal for NoJournal {
 
     ghost leaves_beside = { λ _ _. Unit {0} };
 
-    ghost may_record = { λ _ left rows. (left ≡ []) × (rows ≡ []) };
+    ghost may_record = { λ _ left rows. (left ≡ []) × (rows ≡ (λ _. [])) };
 
     ghost is_clean = { λ _. Unit {0} };
 
@@ -29,10 +29,10 @@ impl Journal for NoJournal {
 
     ghost has_failed = { λ _ _. ⊥ };
 
-    ghost records = { λ _ left is. ([], (is, refl)) };
+    ghost records = { λ _ left is. ((λ _. []), (is, refl)) };
 
-    ghost recorded = { λ _ _ left rows is.
-        is.1 ∙ ap (λ (l : List Kept). records_of l) (sym is.0) };
+    ghost recorded = { λ _ _ left rows is register. ap (λ r. r register) is.1
+        ∙ ap (λ (l : List Kept). records_of register l) (sym is.0) };
 
     ghost settled = { λ _ _ left is. is };
 

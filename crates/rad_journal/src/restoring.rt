@@ -3,7 +3,7 @@ ghost use Rattle.std.specs.Prelude.{◌≡◌, ◌↔◌, List, Some, IfErr, IfN
 ghost use Rattle.rad_auth.specs.Admission.{IsAdmitted, admission, own_datagram};
 ghost use Rattle.rad_auth.specs.Datagrams.{datagram_of};
 ghost use Rattle.rad_journal.specs.Kept.{answer_octets};
-ghost use Rattle.rad_journal.specs.Restores.{IsKeptSo, CannotRestore, HasReason, IsBegun, IsNoRequest, IsOfEntry, IsRestored, IsStep, StopsAt, datagram_of_kept, place_of};
+ghost use Rattle.rad_journal.specs.Restores.{CannotRestore, HasReason, IsBegun, IsKeptSo, IsNoRequest, IsOfEntry, IsRestored, IsStep, StopsAt, datagram_of_kept, place_of};
 ghost use Rattle.rad_journal.specs.Stores.{Beside};
 ghost use Rattle.rad_journal.specs.declared.kept.Kept.{Kept};
 

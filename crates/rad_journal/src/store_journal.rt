@@ -1,10 +1,10 @@
-//! A journal in two tables of a store.
+//! A journal in three tables of a store.
 ghost use Rattle.std.specs.Prelude.{◌≡◌, ◌≤◌, true, length, refl, IfSome, IsTrue, IsSome, None, Some};
 ghost use Rattle.std.proofs.Common.{◌∙◌, ap, sym, List};
 ghost use Rattle.sqlite_disk.specs.Disk.{MoreFaults};
 ghost use Rattle.sqlite_trees.specs.Tree.{Trees};
 ghost use Rattle.sqlite_trees.specs.View.{IsClean, doubt};
-ghost use Rattle.rad_journal.specs.Records.{IsJournal, record_table, records_of};
+ghost use Rattle.rad_journal.specs.Records.{IsJournal, records_of, register_tree};
 ghost use Rattle.rad_journal.specs.declared.kept.Kept.{Kept};
 ghost use Rattle.rad_journal.specs.Rows.{entries_of, table};
 ghost use Rattle.rad_journal.specs.Stores.{IsSound, LeavesOthers, MayLeave, MayRecord, kept_in};
@@ -18,12 +18,12 @@ use sqlite_trees::store::{Reopen as ReopenStore, Store};
 use sqlite_value::row::Row;
 use std::alloc::Global;
 
-/// A journal in the first two tables of a store: entries, numbered from 1, and the record of each Accounting-Request among them, under
-/// its number (`recorded`).
+/// A journal in the first three tables of a store: entries, numbered from 1, and under their numbers the record of each
+/// Accounting-Request among them and that of each session that is granted (`recorded`).
 ///
 /// The columns of an entry are wall time and moment (milliseconds), client, source address and port, door (0 authentication,
-/// 1 accounting), session (or NULL), draw, request and answer: seven integers and three blobs. Those of a record are told by
-/// `rad_accounting::fill`.
+/// 1 accounting), session (or NULL), draw, request and answer: seven integers and three blobs. Those of the records are told by
+/// `rad_accounting::fill` and `fill_grant`.
 #[derive(Drop)]
 pub struct StoreJournal<S: Store> {
     store: S,
@@ -42,7 +42,8 @@ impl<S: Store + Drop> StoreJournal<S> {
 
     /// The journal of a store that was just opened, if its rows are those of entries.
     ///
-    /// `Damaged`: a row is none of an entry, or not the next one's, or the records aren't those of the entries. `Full`: there are more than `ENTRIES_MAX`.
+    /// `Damaged`: a row isn't an entry's, or not the next one's, or the records aren't those of the entries. `Full`: there are more than
+    /// `ENTRIES_MAX`, or an answer grants a session whose number is 2 ^ 63 or more.
     pub fn open(alloc: Global, store: S) -> Result<StoreJournal<S>, JournalFault>
         requires { IsClean (S.view store) → IsFresh (S.view store) }
         ensures opened { IfOk result (λ journal. IsClean (S.view journal.store)
@@ -124,11 +125,12 @@ impl<S: Store> Journal for StoreJournal<S> {
 
     ghost has_failed = { λ old new. MoreFaults (S.faults old.store) (S.faults new.store) };
 
-    ghost records = { λ journal left is. (is.0 record_table, (is.0, is.1, is.2, refl)) };
+    ghost records = { λ journal left is.
+        ((λ register. is.0 (register_tree register)), (is.0, is.1, is.2, refl)) };
 
-    ghost recorded = { λ journal clean left rows is. is.3
-        ∙ ((journal.sound clean).outcomes is.0 is.1).records
-        ∙ ap (λ (l : List Kept). records_of l) (sym is.2) };
+    ghost recorded = { λ journal clean left rows is register. ap (λ r. r register) is.3
+        ∙ ((journal.sound clean).outcomes is.0 is.1).records register
+        ∙ ap (λ (l : List Kept). records_of register l) (sym is.2) };
 
     ghost settled = { λ journal is_open left is. is.2
         ∙ ap (λ (t : Trees). entries_of (t table)) (S.settled journal.store is.0 is_open.0 is.1) };

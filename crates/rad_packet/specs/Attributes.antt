@@ -1,6 +1,7 @@
 -- Attributes (RFC 2865, section 5): Type, Length and Value. An octet is a number below 256, and octets in a row are a
 -- list of them.
 use Rattle.std.specs.Prelude.{◌≡◌, ℕ, zero, suc, ◌+◌, ◌-◌, ◌<◌, ◌≤◌, ◌==◌, ◌&&◌, ◌||◌, nat_lt, Bool, if◌then◌else◌, List, [], ◌∷◌, length, take, drop, Option, Some, None, option_map, unwrap_or, filter, find, count_by}
+use Rattle.std.specs.Int.{w32, from_be_bytes}
 use Rattle.std.specs.List.{flat_map, list_any, AllByRecursion}
 
 -- An attribute has a Type, which the code calls kind, and a Value.
@@ -80,6 +81,14 @@ first_value kind list = option_map (λ a. a.value) (find (is_of kind) list)
 -- the Value of the first attribute of a Type that has so many octets
 abbrev pub first_value_of_len : ℕ → ℕ → List Attribute → Option (List ℕ)
 first_value_of_len kind len list = option_map (λ a. a.value) (find (is_of_len kind len) list)
+
+-- the integer that a Value of four octets is, most significant octet first
+abbrev pub integer_of : List ℕ → Option ℕ
+integer_of value = if length value == integer_size then Some (from_be_bytes w32 value) else None
+
+-- the integer in the first attribute of a Type that has four octets
+abbrev pub first_integer : ℕ → List Attribute → Option ℕ
+first_integer kind list = option_map (λ value. from_be_bytes w32 value) (first_value_of_len kind integer_size list)
 
 -- the attributes of a Type, in their order
 abbrev pub of_kind : ℕ → List Attribute → List Attribute

@@ -1,7 +1,7 @@
 //! Attributes: Type, Length and Value. A Type is called `kind` in the code, since `type` is taken.
 ghost use Rattle.std.specs.Prelude.{◌≡◌, [], is_some, MatchOption};
 ghost use Rattle.std.specs.Iterator.{YieldsFirstBy, item_count};
-ghost use Rattle.rad_packet.specs.Attributes.{attributes_of, attributes_in, AreAttributes, IsFirst};
+ghost use Rattle.rad_packet.specs.Attributes.{attributes_of, attributes_in, integer_of, AreAttributes, IsFirst};
 ghost use Rattle.rad_packet.specs.AttributeViews.{attribute_of};
 
 use std::marker::Model;
@@ -86,7 +86,17 @@ impl<'a> Model for Attributes<'a> {
 
 impl<'a> Attributes<'a> {
     ghost use Rattle.std.specs.Prelude.{◌≡◌};
-    ghost use Rattle.rad_packet.specs.Attributes.{AreAttributes, attributes_in, attributes_octets};
+    ghost use Rattle.rad_packet.specs.Attributes.{AreAttributes, attributes_in, attributes_octets, attributes_of};
+
+    /// The attributes that some octets are, one after the other and nothing else, if they are any (RFC 2865, section 5).
+    pub fn read(octets: &'a [u8]) -> Option<Attributes<'a>>
+        ensures { result ≡ attributes_of octets.now }
+    {
+        if !are_attributes(octets) {
+            return None;
+        }
+        Some(Attributes::of(octets))
+    }
 
     /// The attributes that these octets are.
     pub(crate) fn of(octets: &'a [u8]) -> Attributes<'a>
@@ -130,6 +140,16 @@ fn split_first(octets: &[u8]) -> Option<(Attribute<'_>, &[u8])>
     let (first, rest) = octets.split_at(*len as usize);
     let (_, value) = first.split_at(2);
     Some((Attribute { kind: *kind, value }, rest))
+}
+
+/// The integer that a Value of four octets is, most significant octet first; none of any other Value (RFC 2865, section 5).
+pub fn integer_of(value: &[u8]) -> Option<u32>
+    ensures { result ≡ integer_of value.now }
+{
+    let [a, b, c, d] = value else {
+        return None;
+    };
+    Some(u32::from_be_bytes([*a, *b, *c, *d]))
 }
 
 /// Whether the octets are attributes, one after the other, and nothing else.

@@ -7,7 +7,7 @@ use Rattle.std.proofs.lemmas.Option.{IfSome_then, slice_get-get_or}
 use Rattle.std.specs.List.{position_or_len}
 use Rattle.std.specs.Str.{bytes_eq}
 use Rattle.std.specs.Prelude.{IfOk, IsOk, is_some, max, nat_lt}
-use Rattle.rad_packet.specs.Attributes.{value_max}
+use Rattle.rad_packet.specs.Attributes.{value_max, first_integer}
 use Rattle.rad_packet.specs.Bodies.{Body}
 use Rattle.rad_packet.specs.Codes.{code_status_server}
 use Rattle.rad_packet.specs.Ladders.{◌>>=◌, refuse_if}
@@ -42,7 +42,7 @@ use Rattle.rad_server.proofs.AddressLemmas.{KeepsSessions, OutlastReplies, WasSe
 use Rattle.rad_server.proofs.ReplyLemmas.{accept_is_reply, accounting_is_reply, challenge_is_reply, reject_is_reply}
 use Rattle.rad_server.proofs.ShareLemmas.{MayWait, challenges_within, none_within, replies_within, shares_with_one, waiting_with_one}
 use Rattle.rad_server.specs.Access.{Challenged, Decision, Granted, access, access_with, answer_matches, answered_challenge, challenge_for, challenge_number, challenge_or_denial, decided, decision, decision_on_answer, decision_on_password, is_name_of, number_or_denial, password_matches, session_for, session_or_denial, user_by_answer, user_by_password, without_challenge}
-use Rattle.rad_server.specs.Accounting.{account, changed, first_integer, reported, session_meant, shows_reset, shows_session, status_stop}
+use Rattle.rad_server.specs.Accounting.{account, changed, reported, session_meant, shows_reset, shows_session, status_stop}
 use Rattle.rad_server.specs.Credentials.{Credentials, credentials_in}
 use Rattle.rad_server.specs.Lawful.{HasItsSession, IsChallengeOf, IsLawful, IsOwned, IsRepeatable}
 use Rattle.rad_server.specs.Replies.{accounting_response}

@@ -1,4 +1,4 @@
-mod AddressLemmas
+pub mod AddressLemmas
 mod DecisionLemmas
 pub mod FreshLemmas
 mod LawfulLemmas
@@ -9,7 +9,7 @@ mod PlanLemmas
 pub mod RepeatLemmas
 mod ReplyLemmas
 mod RebuildLemmas
-mod ReportLemmas
+pub mod ReportLemmas
 mod RestoreLemmas
 pub mod RunLemmas
 mod ShareLemmas

@@ -4,10 +4,10 @@ use Rattle.std.specs.Prelude.{drop, find, length, option_map, take, ◌==◌}
 use Rattle.std.specs.Int.{w32, w64, from_be_bytes}
 use Rattle.std.specs.Option.{option_or}
 use lib.Pointwise.{pointwise}
-use Rattle.rad_packet.specs.Attributes.{Attribute, first_value, integer_size, is_of, is_of_len}
+use Rattle.rad_packet.specs.Attributes.{Attribute, first_value, integer_size, is_of, is_of_len, first_integer, integer_of}
 use Rattle.rad_packet.specs.Types.{type_class}
-use Rattle.rad_server.specs.Accounting.{class_number, class_size, first_integer, is_class}
-use Rattle.rad_server.specs.Reports.{class_number_of, integer_of, or_of}
+use Rattle.rad_server.specs.Accounting.{class_number, class_size, is_class}
+use Rattle.rad_server.specs.Reports.{class_number_of, or_of}
 use Rattle.rad_server.specs.Replies.{class_prefix}
 
 -- what an attribute says, if it is of a Type

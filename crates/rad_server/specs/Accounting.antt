@@ -2,9 +2,9 @@
 -- that is meant, an Accounting-On or an Accounting-Off of all sessions of its source. An Accounting-Response is made even if no session
 -- is meant (section 4.2).
 use Rattle.std.specs.Prelude.{ℕ, ◌==◌, ◌&&◌, ◌||◌, Bool, if◌then◌else◌, List, length, drop, find, take, Option, Some, None, option_map}
-use Rattle.std.specs.Int.{w32, w64, from_be_bytes}
+use Rattle.std.specs.Int.{w64, from_be_bytes}
 use lib.Pointwise.{pointwise}
-use Rattle.rad_packet.specs.Attributes.{Attribute, first_value, first_value_of_len, integer_size, is_of_len}
+use Rattle.rad_packet.specs.Attributes.{Attribute, first_integer, first_value, is_of_len}
 use Rattle.rad_packet.specs.Bodies.{Body}
 use Rattle.rad_packet.specs.Types.{type_acct_status_type, type_class, type_framed_ip_address, type_user_name}
 use Rattle.rad_auth.specs.declared.arrival.Request.{Request}
@@ -37,10 +37,6 @@ shows_session status = (status == status_start) || (status == status_interim_upd
 -- Whether a status shows that the source has no sessions any more: it has come up, or goes down.
 abbrev pub shows_reset : ℕ → Bool
 shows_reset status = (status == status_accounting_on) || (status == status_accounting_off)
-
--- the integer of the first attribute of a Type that has four octets
-abbrev pub first_integer : ℕ → List Attribute → Option ℕ
-first_integer kind list = option_map (λ value. from_be_bytes w32 value) (first_value_of_len kind integer_size list)
 
 -- the octets of a session's Class: those that it begins with, and the number
 abbrev pub class_size : ℕ

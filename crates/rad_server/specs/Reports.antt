@@ -1,17 +1,13 @@
--- The numbers in Values, and what one walk over the attributes of an Accounting-Request found.
+-- The number in a Class, and what one walk over the attributes of an Accounting-Request found.
 use Rattle.std.specs.Prelude.{◌≡◌, ℕ, ◌==◌, ◌&&◌, if◌then◌else◌, List, length, drop, take, Option, Some, None, option_copied}
-use Rattle.std.specs.Int.{w32, w64, from_be_bytes}
+use Rattle.std.specs.Int.{w64, from_be_bytes}
 use Rattle.std.specs.Option.{option_or}
 use lib.Pointwise.{pointwise}
-use Rattle.rad_packet.specs.Attributes.{Attribute, first_value, integer_size, is_of}
+use Rattle.rad_packet.specs.Attributes.{Attribute, first_integer, first_value, integer_of, is_of}
 use Rattle.rad_packet.specs.Types.{type_acct_status_type, type_class, type_framed_ip_address, type_user_name}
-use Rattle.rad_server.specs.Accounting.{class_number, class_size, first_integer}
+use Rattle.rad_server.specs.Accounting.{class_number, class_size}
 use Rattle.rad_server.specs.Replies.{class_prefix}
 use Rattle.rad_server.specs.declared.accounting.Report.{Report}
-
--- the integer that a Value of four octets is
-abbrev pub integer_of : List ℕ → Option ℕ
-integer_of value = if length value == integer_size then Some (from_be_bytes w32 value) else None
 
 -- the number that the Class of a session has
 abbrev pub class_number_of : List ℕ → Option ℕ

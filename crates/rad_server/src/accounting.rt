@@ -1,9 +1,9 @@
 //! What an Accounting-Request reports of a session.
 ghost use Rattle.std.specs.Prelude.{◌≡◌};
 ghost use Rattle.rad_packet.specs.AttributeViews.{attribute_of};
-ghost use Rattle.rad_server.specs.Reports.{AreReportAttributes, IsOneMoreReported, class_number_of, integer_of};
+ghost use Rattle.rad_server.specs.Reports.{AreReportAttributes, IsOneMoreReported, class_number_of};
 
-use rad_packet::attribute::{ACCT_STATUS_TYPE, CLASS, FRAMED_IP_ADDRESS, USER_NAME};
+use rad_packet::attribute::{ACCT_STATUS_TYPE, CLASS, FRAMED_IP_ADDRESS, USER_NAME, integer_of};
 use rad_packet::{Attribute, Attributes};
 
 /// The Acct-Status-Type of a Start (RFC 2866, section 5.1).
@@ -21,9 +21,9 @@ pub const ACCOUNTING_ON: u32 = 7;
 /// The Acct-Status-Type of an Accounting-Off.
 pub const ACCOUNTING_OFF: u32 = 8;
 
-/// What the attributes of an Accounting-Request say of the session that it means.
+/// What attributes say of a session: those of an Accounting-Request of the one that it means, those of an Access-Accept of the one granted.
 #[derive(Clone, Copy)]
-pub(crate) struct Report<'a> {
+pub struct Report<'a> {
     /// The first Acct-Status-Type of four octets.
     pub status: Option<u32>,
     /// The number in the first Class of a session.
@@ -65,16 +65,6 @@ impl<'a> Report<'a> {
             _ => {}
         }
     }
-}
-
-/// The integer that a Value of four octets is, most significant octet first; none of any other Value (RFC 2865, section 5).
-pub fn integer_of(value: &[u8]) -> Option<u32>
-    ensures { result ≡ integer_of value.now }
-{
-    let [a, b, c, d] = value else {
-        return None;
-    };
-    Some(u32::from_be_bytes([*a, *b, *c, *d]))
 }
 
 /// The number in the Class of a session, which is `RAP1` and the number in 8 octets, most significant first; none in any other.

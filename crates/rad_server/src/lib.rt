@@ -40,7 +40,7 @@ mod state_row;
 mod tables;
 
 pub use accounting::{
-    ACCOUNTING_OFF, ACCOUNTING_ON, INTERIM_UPDATE, START, STOP, class_number_of, integer_of,
+    ACCOUNTING_OFF, ACCOUNTING_ON, INTERIM_UPDATE, Report, START, STOP, class_number_of,
 };
 pub use answer::Answer;
 pub use ask::Ask;

@@ -14,10 +14,10 @@ use Rattle.rad_snapshot.specs.declared.snapshot_table.SnapshotTable.TheVariants.
 
 -- the tree of a table
 abbrev pub tree_of : SnapshotTable → ℕ
-tree_of Sessions = 3
-tree_of Replies = 4
-tree_of Challenges = 5
-tree_of Numbers = 6
+tree_of Sessions = 4
+tree_of Replies = 5
+tree_of Challenges = 6
+tree_of Numbers = 7
 
 -- each of the four trees is exactly the rows of the state, in its order and numbered from 1
 pub record IsSnapshotOf (trees : Trees) (state : State) : Type 0 where

@@ -21,10 +21,10 @@ impl SnapshotTable {
         ensures { result ≡ tree_of self }
     {
         match self {
-            SnapshotTable::Sessions => 3,
-            SnapshotTable::Replies => 4,
-            SnapshotTable::Challenges => 5,
-            SnapshotTable::Numbers => 6,
+            SnapshotTable::Sessions => 4,
+            SnapshotTable::Replies => 5,
+            SnapshotTable::Challenges => 6,
+            SnapshotTable::Numbers => 7,
         }
     }
 }

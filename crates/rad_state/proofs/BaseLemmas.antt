@@ -1,5 +1,5 @@
 -- The base of the generation in a file, and what a crash leaves while the next one begins.
-use Rattle.std.proofs.Common.{◌≡◌, ◌<◌, ◌+◌, ◌⊎◌, inl, inr, ⊎_elim, ℕ, suc, List, [], ◌∷◌, Option, Some, None, Result, Ok, refl, sym, ap, subst, ◌∙◌, arith, true, is_some, false}
+use Rattle.std.proofs.Common.{◌≡◌, ◌<◌, ◌⊎◌, inl, inr, ⊎_elim, ℕ, suc, List, [], Option, Some, None, Result, Ok, refl, sym, ap, subst, ◌∙◌, arith, true, is_some, false}
 use Rattle.rad_config.specs.Configurations.{Configuration, configuration_of_octets}
 use Rattle.rad_server.specs.Lawful.{IsLawful}
 use Rattle.rad_server.specs.Servers.{Server}
@@ -11,7 +11,7 @@ use Rattle.rad_journal.specs.Stores.{MayLeave, others}
 use Rattle.rad_journal.specs.declared.kept.Kept.{Kept}
 use Rattle.rad_snapshot.specs.Snapshots.{OneSnapshotOneState}
 use Rattle.rad_state.specs.Fits.{Fits}
-use Rattle.rad_state.specs.Generations.{Generation, HasBase, Holds, IsInUse, LeavesIn, LeavesLater, MayHold, Says, just_begun}
+use Rattle.rad_state.specs.Generations.{Generation, HasBase, Holds, IsInUse, LeavesIn, Says, just_begun}
 use Rattle.rad_state.specs.InUse.{held_has_base, held_stays, in_use_leaves}
 use Rattle.rad_state.specs.Metas.{meta_held, meta_rows, meta_table}
 use Rattle.rad_state.specs.Stores.{Begins, LeavesBeginning}

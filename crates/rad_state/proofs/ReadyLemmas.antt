@@ -2,22 +2,29 @@
 use Rattle.std.proofs.Common.{◌≡◌, ◌-◌, ◌<◌, ◌^◌, ℕ, Bool, true, false, IsTrue, [], refl, sym, ap, arith}
 use Rattle.sqlite_disk.specs.declared.Disk.{Ghosts}
 use Rattle.sqlite_trees.specs.View.{IsClean, View, doubt}
+use Rattle.sqlite_trees.specs.declared.store.Shape.TheVariants.{Table}
 use Rattle.sqlite_store.specs.declared.store.FileStore.{FileStore}
 use Rattle.sqlite_store.specs.FileStore.{IsReady, schema_of, state, view}
 use Rattle.sqlite_store.specs.Saved.{kept_schema}
 use Rattle.sqlite_store.specs.Listing.{all_shapes}
-use Rattle.rad_journal.specs.Records.{record_table}
+use Rattle.rad_journal.specs.Records.{register_tree}
 use Rattle.rad_journal.specs.Rows.{table}
-use Rattle.rad_snapshot.specs.Snapshots.{HasTables}
+use Rattle.rad_journal.specs.declared.register.Register.{Register}
+use Rattle.rad_journal.specs.declared.register.Register.TheVariants.{Accounting, Grants}
+use Rattle.rad_snapshot.specs.Snapshots.{HasTables, tree_of}
 use Rattle.rad_snapshot.specs.declared.snapshot_table.SnapshotTable.TheVariants.{Sessions, Replies, Challenges, Numbers}
 use Rattle.rad_state.specs.Metas.{meta_table}
 use Rattle.rad_state.specs.Stores.{AreTables, IsBlank, IsOpened}
 
 has_tables : (view : View) → AreTables view → HasTables view
-has_tables view all Sessions = all 3 (omega arith)
-has_tables view all Replies = all 4 (omega arith)
-has_tables view all Challenges = all 5 (omega arith)
-has_tables view all Numbers = all 6 (omega arith)
+has_tables view all Sessions = all (tree_of Sessions) (omega arith)
+has_tables view all Replies = all (tree_of Replies) (omega arith)
+has_tables view all Challenges = all (tree_of Challenges) (omega arith)
+has_tables view all Numbers = all (tree_of Numbers) (omega arith)
+
+has_registers : (view : View) → AreTables view → (register : Register) → view.shape (register_tree register) ≡ Table
+has_registers view all Accounting = all (register_tree Accounting) (omega arith)
+has_registers view all Grants = all (register_tree Grants) (omega arith)
 
 clean_is : (clean : Bool) → doubt clean ≡ 0 → IsTrue clean
 unfolding doubt
@@ -29,7 +36,7 @@ module _ {D : Type 0} {g : Ghosts D} (it : FileStore D g) where
   ready_is_opened ready all clean = record {
     fresh = record {
       is_open = ready.is_open clean;
-      shapes = record { entries = all table (omega arith); records = all record_table (omega arith) };
+      shapes = record { entries = all table (omega arith); records = has_registers (view it) all };
       committed_shape = sym (ap (λ saved. all_shapes (kept_schema saved (schema_of it))) ready.unaltered);
       settled = ready.clean;
     };

@@ -1,10 +1,6 @@
 -- What reads show of a store.
-use Rattle.std.proofs.Common.{◌≡◌, ℕ, true, false, List, [], ◌∷◌, reverse, Some, refl, sym, ap, subst, ◌∙◌}
-use Rattle.sqlite_trees.specs.Tree.{from_key, order_of, sought, up_to_key}
-use Rattle.sqlite_trees.specs.declared.store.Direction.TheVariants.{Backward, Forward}
-use Rattle.sqlite_trees.specs.View.{Advances, View, with_cursor}
-use Rattle.sqlite_value.specs.declared.keys.Order.{Order}
-use Rattle.sqlite_value.specs.Order.{Row}
+use Rattle.std.proofs.Common.{◌≡◌, sym, ap, subst, ◌∙◌}
+use Rattle.sqlite_trees.specs.View.{View}
 use Rattle.rad_journal.specs.Stores.{IsFresh, OnlyReads}
 use Rattle.rad_snapshot.specs.Snapshots.{tree_of}
 use Rattle.rad_state.specs.Metas.{meta_table}

@@ -1,5 +1,5 @@
 -- Generations: what a server keeps, in parts.
-use Rattle.std.specs.Prelude.{◌≡◌, ◌<◌, ◌⊎◌, ℕ, suc, List, [], Option, Some, None, Ok, ⊤, ◌∷◌, Bool, true, false}
+use Rattle.std.specs.Prelude.{◌≡◌, ◌<◌, ◌⊎◌, ℕ, suc, List, [], Option, Some, None, Ok, ◌∷◌, Bool, true, false}
 use Rattle.rad_config.specs.Configurations.{Configuration, configuration_of_octets}
 use Rattle.rad_server.specs.Lawful.{IsLawful}
 use Rattle.rad_server.specs.Servers.{Server}

@@ -1,12 +1,12 @@
 -- The file in use of a folder: what a crash leaves of it.
-use Rattle.std.specs.Prelude.{◌≡◌, ◌⊎◌, ◌<◌, ℕ, Option, Some, None, refl}
-use Rattle.std.proofs.Common.{◌∙◌, ap, sym, inl, inr, ⊎_elim}
+use Rattle.std.specs.Prelude.{◌≡◌, ◌<◌, ℕ, Option, Some, None, refl}
+use Rattle.std.proofs.Common.{◌∙◌, ap, sym, inl, ⊎_elim}
 use Rattle.rad_config.specs.Configurations.{Configuration}
 use Rattle.rad_server.specs.Servers.{Server}
 use Rattle.sqlite_trees.specs.Tree.{Trees}
 use Rattle.rad_journal.specs.Rows.{entries_of, table}
 use Rattle.rad_journal.specs.Stores.{Beside, LeavesOthers, MayLeave, others}
-use Rattle.rad_state.specs.Generations.{Generation, HasBase, Holds, IsInUse, LeavesIn, LeavesLater, MayHold, Says}
+use Rattle.rad_state.specs.Generations.{Generation, HasBase, IsInUse, LeavesIn, LeavesLater, MayHold, Says}
 
 -- a file with the same tables beside the journal's says the same
 pub says_alike : (one other : Trees) (base : Server) → others one ≡ others other → Says one base → Says other base

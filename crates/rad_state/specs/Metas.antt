@@ -9,7 +9,7 @@ use Rattle.rad_state.specs.declared.meta.Meta.{Meta}
 
 -- the tree of the table
 abbrev pub meta_table : ℕ
-meta_table = 2
+meta_table = 3
 
 -- the integer of a value that is one
 abbrev pub integer_of : Value → ℤ

@@ -15,7 +15,7 @@ use sqlite_value::row::Row;
 use std::alloc::Global;
 
 /// The number of the table's tree.
-pub(crate) const META: u32 = 2;
+pub(crate) const META: u32 = 3;
 
 /// The meta of a store's second table, if it has one.
 ///

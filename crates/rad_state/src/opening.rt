@@ -15,7 +15,7 @@ use sqlite_wal::PageSize;
 use std::alloc::Global;
 
 // How many tables there are.
-const TABLES: u32 = 7;
+const TABLES: u32 = 8;
 
 // The octets of a page.
 const PAGE: usize = 4096;
@@ -23,7 +23,7 @@ const PAGE: usize = 4096;
 // The tables of the journal.
 const EXCHANGE: &str =
     "CREATE TABLE exchange (wall INTEGER NOT NULL, moment INTEGER NOT NULL, client INTEGER NOT NULL, \
-    address INTEGER NOT NULL, port INTEGER NOT NULL, door INTEGER NOT NULL, session INTEGER, draw BLOB NOT NULL, \
+    source INTEGER NOT NULL, port INTEGER NOT NULL, door INTEGER NOT NULL, session INTEGER, draw BLOB NOT NULL, \
     request BLOB NOT NULL, answer BLOB NOT NULL) STRICT";
 
 // What is no UTF-8 is a blob.
@@ -33,6 +33,10 @@ const ACCOUNTING: &str =
     nas_address INTEGER, nas_identifier ANY, nas_port INTEGER, nas_port_id ANY, calling_station_id ANY, \
     called_station_id ANY, session_time INTEGER, octets_in INTEGER, octets_out INTEGER, packets_in INTEGER, \
     packets_out INTEGER, terminate_cause INTEGER, delay INTEGER) STRICT";
+
+const GRANTS: &str =
+    "CREATE TABLE grants (entry INTEGER PRIMARY KEY, time INTEGER NOT NULL, client INTEGER NOT NULL, \
+    source INTEGER NOT NULL, user ANY, session INTEGER NOT NULL, address INTEGER, calling_station_id ANY) STRICT";
 
 // The table of the meta.
 const META: &str =
@@ -157,6 +161,7 @@ fn tables() -> [Object<'static>; TABLES as usize] {
     [
         object("exchange", EXCHANGE),
         object("accounting", ACCOUNTING),
+        object("grants", GRANTS),
         object("meta", META),
         object("session", SESSION),
         object("reply", REPLY),

@@ -3,10 +3,10 @@ use Rattle.std.proofs.Common.{◌≡◌, ℕ, Bool, true, false, cond, ◌&&◌,
 use Rattle.std.specs.Prelude.{drop, filter, find, length, option_map, ◌==◌}
 use Rattle.std.specs.Int.{w32, w64, from_be_bytes}
 use Rattle.std.proofs.lemmas.Bool.{eqb-true}
-use Rattle.rad_packet.specs.Attributes.{Attribute, first_value, integer_size, is_of, is_of_len}
+use Rattle.rad_packet.specs.Attributes.{Attribute, first_value, integer_size, is_of, is_of_len, first_integer}
 use Rattle.rad_packet.specs.Packets.{Packet, packet_of}
 use Rattle.rad_packet.specs.Types.{type_acct_status_type, type_class, type_framed_ip_address, type_user_name}
-use Rattle.rad_server.specs.Accounting.{class_number, class_size, first_integer, is_class}
+use Rattle.rad_server.specs.Accounting.{class_number, class_size, is_class}
 use Rattle.rad_server.specs.Replies.{class_prefix}
 use Rattle.rad_round.specs.declared.outcome.Outcome.{Outcome}
 use Rattle.rad_round.specs.declared.outcome.Outcome.TheVariants.{Dropped, Busy, NoMemory, Reply}

@@ -3,7 +3,7 @@
 -- A request is read by `parts_of` alone. So nothing else that stands in it can be told: no password, no answer to a challenge, no
 -- State and no authenticator.
 use Rattle.std.specs.Prelude.{ℕ, ◌==◌, if◌then◌else◌, List, Option, Some, None, option_copied, option_map, slice_get, Result, Ok, Err}
-use Rattle.rad_packet.specs.Attributes.{first_value}
+use Rattle.rad_packet.specs.Attributes.{first_value, first_integer}
 use Rattle.rad_packet.specs.Codes.{code_access_accept, code_access_challenge, code_access_reject, code_status_server}
 use Rattle.rad_packet.specs.Packets.{Packet, packet_of}
 use Rattle.rad_packet.specs.Types.{type_acct_status_type, type_framed_ip_address, type_reply_message, type_user_name}
@@ -16,7 +16,7 @@ use Rattle.rad_config.specs.declared.user.User.{User}
 use Rattle.rad_pool.specs.declared.session.Session.{Session}
 use Rattle.rad_round.specs.declared.outcome.Outcome.{Outcome}
 use Rattle.rad_round.specs.declared.outcome.Outcome.TheVariants.{Dropped, Busy, NoMemory, Reply}
-use Rattle.rad_server.specs.Accounting.{class_number, first_integer, status_start, status_stop, status_interim_update, status_accounting_on, status_accounting_off}
+use Rattle.rad_server.specs.Accounting.{class_number, status_start, status_stop, status_interim_update, status_accounting_on, status_accounting_off}
 use Rattle.rad_watch.specs.Kinds.{kind_name}
 use Rattle.rad_watch.specs.declared.event.Event.{Event as EventOfCode}
 use Rattle.rad_watch.specs.declared.event.Origin.{Origin}

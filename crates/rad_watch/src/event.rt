@@ -1,21 +1,22 @@
 //! Events: what became of a datagram, and what else is told.
 ghost use Rattle.std.specs.Prelude.{◌≡◌, ◌↔◌, IsTrue, option_copied, option_map, slice_get};
+ghost use Rattle.rad_packet.specs.Attributes.{first_integer};
 ghost use Rattle.rad_auth.specs.Datagrams.{datagram_of};
 ghost use Rattle.rad_packet.specs.Codes.{code_access_reject};
 ghost use Rattle.rad_packet.specs.Packets.{packet_of};
-ghost use Rattle.rad_server.specs.Accounting.{class_number, first_integer};
+ghost use Rattle.rad_server.specs.Accounting.{class_number};
 ghost use Rattle.rad_watch.specs.Events.{bare, counted, expired, left_out, of_answer, of_answered, of_discard, of_outcome, of_reply, of_session, of_unanswered, origin_of, parts_in, parts_of, reported, seen, told, user_name};
 
 use crate::kind::Kind;
 use rad_auth::{Arrival, Discard, Door};
 use rad_config::{Config, User};
 use rad_packet::Packet;
-use rad_packet::attribute::{ACCT_STATUS_TYPE, CLASS, FRAMED_IP_ADDRESS, REPLY_MESSAGE, USER_NAME};
+use rad_packet::attribute::{
+    ACCT_STATUS_TYPE, CLASS, FRAMED_IP_ADDRESS, REPLY_MESSAGE, USER_NAME, integer_of,
+};
 use rad_packet::code::{ACCESS_ACCEPT, ACCESS_CHALLENGE, ACCESS_REJECT, STATUS_SERVER};
 use rad_pool::Session;
-use rad_server::{
-    ACCOUNTING_OFF, ACCOUNTING_ON, INTERIM_UPDATE, START, STOP, class_number_of, integer_of,
-};
+use rad_server::{ACCOUNTING_OFF, ACCOUNTING_ON, INTERIM_UPDATE, START, STOP, class_number_of};
 use rad_shell::Outcome;
 
 /// An event of a turn: what it is, and what is known of it.

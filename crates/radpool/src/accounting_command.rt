@@ -1,5 +1,5 @@
 //! The command `accounting`: what the closed generations of a state have recorded, as lines for other programs.
-use crate::fault::{Fault, StateFault, error_of, report};
+use crate::fault::{Fault, StateFault, report, unfit};
 use crate::generation_names::asking_of;
 use crate::listed::Listed;
 use crate::options::{Absent, TEXT, Valued, text_of, with_options};
@@ -7,9 +7,9 @@ use crate::state_files::{CopiedStore, copy_store};
 use crate::state_folder::{is_there, remove_if_there};
 use crate::transcript_command::write;
 use clap::builder::ValueParser;
-use clap::error::ErrorKind;
 use clap::{Arg, ArgAction, ArgMatches, Command};
 use rad_export::{Format, Wanted, moment_of};
+use rad_journal::Register;
 use rad_serve::ServeError;
 use rad_state::OpenFault;
 use rad_text::decimal;
@@ -30,9 +30,6 @@ Examples:
   radpool accounting /var/lib/radpool --since 2026-11-01 --until 2026-12-01
   radpool accounting /var/lib/radpool --close --address 10.20.0.7 --format csv";
 
-/// The number of the tree with the records.
-const RECORDS: u32 = 1;
-
 /// So many octets are written at once, or a few more.
 const CHUNK: usize = 65_536;
 
@@ -43,6 +40,8 @@ const LOOK: u64 = 100;
 
 /// How often a generation is copied at most, whose log the server copies into it meanwhile.
 const COPIES: u32 = 5;
+
+const NAME: &str = "radpool accounting";
 
 const BAD_TIME: &str =
     "invalid value for '--since <TIME>' or '--until <TIME>': expected a time as 2026-11-29T08:15:00Z, or a date";
@@ -147,7 +146,7 @@ fn moment(alloc: Global, text: Option<&str>) -> Result<Option<i64>, Fault> {
     };
     match moment_of(text) {
         Some(moment) => Ok(Some(moment)),
-        None => Err(unfit(alloc, BAD_TIME)),
+        None => Err(unfit(accounting_command(alloc)?, NAME, BAD_TIME)?),
     }
 }
 
@@ -158,7 +157,7 @@ fn address(alloc: Global, text: Option<&str>) -> Result<Option<u32>, Fault> {
     };
     match decimal::address(text.as_bytes()) {
         Some(address) => Ok(Some(address)),
-        None => Err(unfit(alloc, BAD_ADDRESS)),
+        None => Err(unfit(accounting_command(alloc)?, NAME, BAD_ADDRESS)?),
     }
 }
 
@@ -227,20 +226,24 @@ fn try_close(host: &HostRuntime, folder: &str) -> Result<(), StateFault> {
     Err(StateFault::Unanswered)
 }
 
-// A copy of a generation that is closed. Its log may be copied into its file just then.
-fn copied(host: &HostRuntime, path: &str) -> Result<CopiedStore, StateFault> {
+// A copy of a generation that is closed, unless it is removed meanwhile. Its log may be copied into its file just then.
+fn copied(host: &HostRuntime, path: &str) -> Result<Option<CopiedStore>, StateFault> {
+    let mut copied = copy_store(host, path);
     for _ in 1..COPIES {
-        match copy_store(host, path) {
-            Err(StateFault::Serve(ServeError::State(OpenFault::Damaged))) => {
-                host.sleep(Duration::from_millis(LOOK));
-            }
-            copied => return copied,
-        }
+        let Err(StateFault::Serve(ServeError::State(OpenFault::Damaged))) = &copied else {
+            break;
+        };
+        host.sleep(Duration::from_millis(LOOK));
+        copied = copy_store(host, path);
     }
-    copy_store(host, path)
+    match copied {
+        Ok(store) => Ok(Some(store)),
+        Err(fault) if is_there(host, path)? => Err(fault),
+        Err(_) => Ok(None),
+    }
 }
 
-// Prints the records of the generation with this number, whose file has this path.
+// Prints the records of the generation with this number, whose file has this path. One that a server removes meanwhile is passed over.
 fn print_generation<W: Write>(
     alloc: Global,
     host: &HostRuntime,
@@ -248,8 +251,10 @@ fn print_generation<W: Write>(
     (number, path): (u32, &str),
     writer: &mut W,
 ) -> Result<(), StateFault> {
-    let mut store = copied(host, path)?;
-    printing.write_records(alloc, &mut store, number, writer)
+    match copied(host, path)? {
+        Some(mut store) => printing.write_records(alloc, &mut store, number, writer),
+        None => Ok(()),
+    }
 }
 
 impl Printing {
@@ -271,7 +276,7 @@ impl Printing {
         let mut text = Vec::new(alloc);
         let key = Row::new(alloc);
         store
-            .seek(0, RECORDS, &key, Direction::Forward)
+            .seek(0, Register::Accounting.tree(), &key, Direction::Forward)
             .map_err(unread)?;
         for _ in 0..u32::MAX {
             if !store.next(0, &mut row).map_err(unread)? {
@@ -292,19 +297,6 @@ impl Printing {
 // Why a store couldn't be read.
 fn unread(error: StoreError) -> StateFault {
     StateFault::from(OpenFault::from(error))
-}
-
-// An option that doesn't fit, reported as clap reports those that it finds.
-fn unfit(alloc: Global, text: &str) -> Fault {
-    match unfit_error(alloc, text) {
-        Ok(error) => Fault::from(error),
-        Err(error) => Fault::from(error),
-    }
-}
-
-fn unfit_error(alloc: Global, text: &str) -> Result<clap::Error, AllocError> {
-    let command = accounting_command(alloc)?.bin_name("radpool accounting")?;
-    error_of(command, ErrorKind::ValueValidation, text)
 }
 
 /// The command, with its options and the folder that it reads.

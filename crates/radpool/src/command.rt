@@ -2,7 +2,7 @@
 
 use crate::accounting_command::{Accounting, Printing, accounting_command};
 use crate::check_command::{Check, Checking, check_command};
-use crate::fault::{Fault, error_of, report, written};
+use crate::fault::{Fault, error_of, report, unfit, written};
 use crate::held::are_held;
 use crate::options::{Absent, OCTET, TEXT, Valued, WORD, with_options};
 use crate::serve_command::{Serve, Serving, serve_command};
@@ -205,18 +205,11 @@ fn line_of(alloc: Global, make: Make) -> Result<String, Fault> {
     match make.request(alloc) {
         Ok(request) => Ok(hex::encode(alloc, request.octets())?),
         Err(MakeFault::NoMemory) => Err(Fault::Run(RunFault::NoMemory)),
-        Err(fault) => Err(Fault::from(unfit(alloc, fault)?)),
+        Err(fault) => {
+            let text = fault.to_string(alloc)?;
+            Err(unfit(make_command(alloc)?, "radpool make", &text)?)
+        }
     }
-}
-
-// An option of `make` that doesn't fit, reported as clap reports those that it finds.
-fn unfit(alloc: Global, fault: MakeFault) -> Result<clap::Error, AllocError> {
-    let command = make_command(alloc)?.bin_name("radpool make")?;
-    error_of(
-        command,
-        ErrorKind::ValueValidation,
-        &fault.to_string(alloc)?,
-    )
 }
 
 // What the words ask for.

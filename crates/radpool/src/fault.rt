@@ -254,6 +254,12 @@ pub fn report<R: Eprint>(rt: &R, fault: Fault) -> ExitCode {
     }
 }
 
+/// A fault of an option that doesn't fit, reported as clap reports those that it finds. The report has this name for the command.
+pub fn unfit<'a>(command: Command<'a>, name: &'a str, text: &str) -> Result<Fault, AllocError> {
+    let command = command.bin_name(name)?;
+    Ok(Fault::from(error_of(command, ErrorKind::ValueValidation, text)?))
+}
+
 /// An error of a command, with this text.
 pub fn error_of(command: Command, kind: ErrorKind, text: &str) -> Result<clap::Error, AllocError> {
     let mut command = command;

@@ -1,10 +1,9 @@
 //! The command `serve`: its options, and its run.
 
-use crate::fault::{Fault, error_of, report};
+use crate::fault::{Fault, report, unfit};
 use crate::options::{Absent, PORT, TEXT, Valued, text_of, with_options};
 use crate::state_folder::StateFolder;
 use clap::builder::ValueParser;
-use clap::error::ErrorKind;
 use clap::{ArgMatches, Command};
 use rad_serve::{
     Expected, Given, Level, Options, Reports, Sockets, Workers, serve, serve_with_state,
@@ -24,6 +23,8 @@ It prints 'listening ADDRESS AUTH ACCT' and, after its last turn, a line of tota
 Example:
   head -c 32 /dev/urandom > radpool.seed
   radpool serve --config radpool.toml --seed radpool.seed";
+
+const NAME: &str = "radpool serve";
 
 const BAD_ADDRESS: &str =
     "invalid value for '--bind <ADDRESS>': expected a unicast IPv4 address, such as 192.0.2.1";
@@ -215,11 +216,11 @@ impl<'a> Serve<'a> {
 
     fn options(&self, alloc: Global, are_held: bool) -> Result<Options, Fault> {
         let Some(sockets) = self.sockets(are_held) else {
-            return Err(unfit(alloc, BAD_ADDRESS));
+            return Err(unfit(serve_command(alloc)?, NAME, BAD_ADDRESS)?);
         };
         // `clap` has checked the number already.
         let Some(workers) = Workers::new(self.workers) else {
-            return Err(unfit(alloc, BAD_WORKERS));
+            return Err(unfit(serve_command(alloc)?, NAME, BAD_WORKERS)?);
         };
         Ok(Options {
             config: self.config.to_string(alloc)?,
@@ -301,19 +302,6 @@ fn try_serve<R: Files + Net + Clock + Print + Eprint + Threads + Wait + Sync + A
         Ok(()) => Ok(()),
         Err(error) => Err(folder.fault_of(error)),
     }
-}
-
-// An option that doesn't fit, reported as clap reports those that it finds.
-fn unfit(alloc: Global, text: &str) -> Fault {
-    match unfit_error(alloc, text) {
-        Ok(error) => Fault::from(error),
-        Err(error) => Fault::from(error),
-    }
-}
-
-fn unfit_error(alloc: Global, text: &str) -> Result<clap::Error, AllocError> {
-    let command = serve_command(alloc)?.bin_name("radpool serve")?;
-    error_of(command, ErrorKind::ValueValidation, text)
 }
 
 /// The command, with its options.

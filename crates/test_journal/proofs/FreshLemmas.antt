@@ -6,7 +6,7 @@ use Rattle.sqlite_store.specs.Listing.{all_shapes}
 use Rattle.sqlite_store.specs.Saved.{kept_schema}
 use Rattle.sqlite_store.specs.declared.store.FileStore.{FileStore}
 use Rattle.sqlite_trees.specs.View.{Commits, IsClean, OnlyWrites, View}
-use Rattle.rad_journal.specs.Records.{record_table}
+use Rattle.rad_journal.specs.Records.{register_tree}
 use Rattle.rad_journal.specs.Rows.{table}
 use Rattle.rad_journal.specs.Stores.{HasTables, IsFresh}
 
@@ -16,7 +16,7 @@ commit_fresh old mid new fresh frame commits = subst (λ (v : View). IsFresh v) 
   is_open = subst IsTrue (sym (ap (λ (v : View). v.is_open) frame)) fresh.is_open;
   shapes = record {
     entries = ap (λ (v : View). v.shape table) frame ∙ fresh.shapes.entries;
-    records = ap (λ (v : View). v.shape record_table) frame ∙ fresh.shapes.records;
+    records = λ register. ap (λ (v : View). v.shape (register_tree register)) frame ∙ fresh.shapes.records register;
   };
   committed_shape = refl;
   settled = refl;

@@ -62,6 +62,7 @@ enum Run {
     Carry,
     /// A call of `rad_accounting`.
     Record,
+    GrantRecord,
     /// A call of `rad_snapshot`.
     Snapshot(snapshots::Call),
 }
@@ -307,6 +308,7 @@ const RUNS: &[(&str, Run)] = &[
     ("Generations::begin", Run::State(states::Call::Begin)),
     ("carry", Run::Carry),
     ("fill", Run::Record),
+    ("fill_grant", Run::GrantRecord),
     ("write of a snapshot", Run::Snapshot(snapshots::Call::Write)),
     ("read of a snapshot", Run::Snapshot(snapshots::Call::Read)),
 ];
@@ -326,6 +328,7 @@ fn judge<R: Threads + Wait + Sync + AllocGlobal>(rt: &R, run: Run) -> Verdict {
         Run::State(call) => states::judge_call(rt.alloc(), call),
         Run::Carry => carrying::judge_carry(rt.alloc()),
         Run::Record => records::judge_fill(rt.alloc()),
+        Run::GrantRecord => records::judge_fill_grant(rt.alloc()),
         Run::Snapshot(call) => snapshots::judge_call(rt.alloc(), call),
     }
 }

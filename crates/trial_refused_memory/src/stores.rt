@@ -81,7 +81,7 @@ pub(crate) fn meta(alloc: Global, text: &[u8]) -> Result<Meta, AllocError>
     })
 }
 
-/// A store that was just made: the six tables of a generation, with no row.
+/// A store that was just made: the tables of a generation, with no row.
 pub(crate) fn blank(alloc: Global) -> Result<MemStore, AllocError>
     ensures blank { IfOk result (λ store. IsBlank (memory_view store)) }
     ensures empty { IfOk result (λ store. AreEmpty (memory_view store).trees) }
@@ -89,6 +89,7 @@ pub(crate) fn blank(alloc: Global) -> Result<MemStore, AllocError>
     let tables = [
         table("exchange"),
         table("accounting"),
+        table("grants"),
         table("meta"),
         table("session"),
         table("reply"),
@@ -116,10 +117,10 @@ fn table(name: &'static str) -> Object<'static>
 pub(crate) fn has_tables<S: Store>(store: &S) -> bool
     ensures { IsTrue result → HasTables (S.view store.now) }
 {
-    store.shape(3) == Shape::Table
-        && store.shape(4) == Shape::Table
+    store.shape(4) == Shape::Table
         && store.shape(5) == Shape::Table
         && store.shape(6) == Shape::Table
+        && store.shape(7) == Shape::Table
 }
 
 /// The store, if it has the table of a meta and those of a snapshot.
@@ -128,7 +129,7 @@ pub(crate) fn with_tables<S: Store + Drop>(store: S) -> Option<S>
     ensures meta { OnSome result ((S.view store).shape meta_table ≡ Table) }
     ensures snapshot { OnSome result (HasTables (S.view store)) }
 {
-    if store.shape(2) != Shape::Table || !has_tables(&store) {
+    if store.shape(3) != Shape::Table || !has_tables(&store) {
         return None;
     }
     Some(store)

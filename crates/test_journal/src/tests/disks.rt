@@ -53,12 +53,15 @@ fn unopened<D: Disk + Drop>(alloc: Global, files: Files<D>) -> Result<Unopened<D
     }
 }
 
-// The store, if its first two trees are tables.
+// The store, if its first three trees are tables.
 fn with_tables<S: Store + Drop>(store: S) -> Result<S, JournalFault>
     ensures same { IfOk result (λ it. it ≡ store) }
     ensures tables { OnOk result (HasTables (S.view store)) }
 {
-    if store.shape(0) != Shape::Table || store.shape(1) != Shape::Table {
+    if store.shape(0) != Shape::Table
+        || store.shape(1) != Shape::Table
+        || store.shape(2) != Shape::Table
+    {
         return Err(JournalFault::Damaged);
     }
     Ok(store)

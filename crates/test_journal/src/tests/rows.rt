@@ -13,12 +13,8 @@ type Case = (
     &'static str,
 );
 
-// The row of the first entry with another value in a column.
-pub(super) fn row_with(
-    alloc: Global,
-    other: usize,
-    value: ValueRef<'_>,
-) -> Result<Row, AllocError> {
+// The row of the first entry with other values in some columns.
+pub(super) fn row_with(alloc: Global, others: &[(usize, ValueRef<'_>)]) -> Result<Row, AllocError> {
     let mut row = Row::new(alloc);
     for at in 0..11 {
         let usual = match at {
@@ -26,14 +22,15 @@ pub(super) fn row_with(
             8 => ValueRef::Blob(&[7; 16]),
             _ => ValueRef::Blob(&[1, 2, 3]),
         };
-        row.push(if at == other { value } else { usual })?;
+        let other = others.iter().find(|other| other.0 == at);
+        row.push(other.map_or(usual, |other| other.1))?;
     }
     Ok(row)
 }
 
 fn opening(alloc: Global, column: usize, value: ValueRef<'_>) -> Result<(), JournalFault> {
-    let row = row_with(alloc, column, value)?;
-    let store = with_row(blank(alloc)?, &row)?;
+    let row = row_with(alloc, &[(column, value)])?;
+    let store = with_row(blank(alloc)?, 0, &row)?;
     let _journal = StoreJournal::open(alloc, store)?;
     Ok(())
 }

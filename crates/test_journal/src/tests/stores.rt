@@ -14,7 +14,7 @@ use sqlite_value::value::ValueRef;
 use std::alloc::{AllocError, Global};
 
 /// The tables of a journal.
-pub(crate) const TABLES: [Object<'static>; 2] = [
+pub(crate) const TABLES: [Object<'static>; 3] = [
     Object {
         shape: Shape::Table,
         kind: "table",
@@ -32,6 +32,14 @@ pub(crate) const TABLES: [Object<'static>; 2] = [
         sql: Some(
             "CREATE TABLE accounting(a, b, c, d, e, f, g, h, i, j, k, l, m, n, o, p, q, r, s, t, u, v)",
         ),
+    },
+    Object {
+        shape: Shape::Table,
+        kind: "table",
+        name: "grants",
+        table: "grants",
+        reals: 0,
+        sql: Some("CREATE TABLE grants(a, b, c, d, e, f, g, h)"),
     },
 ];
 
@@ -58,30 +66,16 @@ pub(crate) fn opened(alloc: Global) -> Result<StoreJournal<MemStore>, JournalFau
     journal_of(alloc, blank(alloc)?)
 }
 
-/// A store with one more row, which is committed.
-pub(crate) fn with_row<S: Store + Drop>(store: S, row: &Row) -> Result<S, StoreError>
+/// A store with one more row in a table, which is committed.
+pub(crate) fn with_row<S: Store + Drop>(store: S, tree: u32, row: &Row) -> Result<S, StoreError>
     requires { IsClean (S.view store) → IsFresh (S.view store) }
     ensures { IfOk result (λ it. IsClean (S.view it) → IsFresh (S.view it)) }
 {
     let mut store = store;
-    if !matches!(row.get(0), ValueRef::Int(_)) {
+    if store.shape(tree) != Shape::Table || !matches!(row.get(0), ValueRef::Int(_)) {
         return Err(StoreError::Unstorable);
     }
-    store.put(0, row)?;
-    store.commit()?;
-    Ok(store)
-}
-
-/// A store with one more record, which is committed.
-pub(crate) fn with_record<S: Store + Drop>(store: S, row: &Row) -> Result<S, StoreError>
-    requires { IsClean (S.view store) → IsFresh (S.view store) }
-    ensures { IfOk result (λ it. IsClean (S.view it) → IsFresh (S.view it)) }
-{
-    let mut store = store;
-    if !matches!(row.get(0), ValueRef::Int(_)) {
-        return Err(StoreError::Unstorable);
-    }
-    store.put(1, row)?;
+    store.put(tree, row)?;
     store.commit()?;
     Ok(store)
 }

@@ -26,7 +26,7 @@ use std::thread::Threads;
 use test_common::{CAMPUS, CLIENT, PORT, RFC_REQUEST};
 
 /// The table of a journal.
-const TABLES: [Object<'static>; 2] = [
+const TABLES: [Object<'static>; 3] = [
     Object {
         shape: Shape::Table,
         kind: "table",
@@ -44,6 +44,14 @@ const TABLES: [Object<'static>; 2] = [
         sql: Some(
             "CREATE TABLE accounting(a, b, c, d, e, f, g, h, i, j, k, l, m, n, o, p, q, r, s, t, u, v)",
         ),
+    },
+    Object {
+        shape: Shape::Table,
+        kind: "table",
+        name: "grants",
+        table: "grants",
+        reals: 0,
+        sql: Some("CREATE TABLE grants(a, b, c, d, e, f, g, h)"),
     },
 ];
 

@@ -1,5 +1,6 @@
 //! Turns over journals.
 ghost use Rattle.std.specs.Prelude.{◌≡◌, [], refl, true};
+ghost use Rattle.std.proofs.Common.{ap};
 ghost use Rattle.rad_journal.specs.Records.{records_of};
 
 use super::coming::{arrive, is_sum, random, sent_count};
@@ -26,7 +27,7 @@ impl Journal for Counting {
 
     ghost leaves_beside = { λ _ _. Unit {0} };
 
-    ghost may_record = { λ _ left rows. rows ≡ records_of left };
+    ghost may_record = { λ _ left rows. rows ≡ (λ register. records_of register left) };
 
     ghost is_clean = { λ _. ⊥ };
 
@@ -34,9 +35,9 @@ impl Journal for Counting {
 
     ghost has_failed = { λ _ _. Unit {0} };
 
-    ghost records = { λ _ left _. (records_of left, refl) };
+    ghost records = { λ _ left _. ((λ register. records_of register left), refl) };
 
-    ghost recorded = { λ _ _ left rows is. is };
+    ghost recorded = { λ _ _ left rows is register. ap (λ r. r register) is };
 
     ghost settled = { λ _ _ left is. is };
 

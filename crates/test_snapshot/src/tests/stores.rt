@@ -26,13 +26,14 @@ fn table(name: &'static str) -> Object<'static> {
     }
 }
 
-/// A store that was just made: three tables of others, and the four of a snapshot.
+/// A store that was just made: four tables of others, and the four of a snapshot.
 pub(crate) fn blank(alloc: Global) -> Result<MemStore, AllocError>
     ensures { IfOk result (λ store. AreEmpty (memory_view store).trees) }
 {
     let tables = [
         table("exchange"),
         table("accounting"),
+        table("grants"),
         table("meta"),
         table("session"),
         table("reply"),
@@ -47,10 +48,10 @@ pub(crate) fn blank(alloc: Global) -> Result<MemStore, AllocError>
 pub(crate) fn has_tables<S: Store>(store: &S) -> bool
     ensures { IsTrue result → HasTables (S.view store.now) }
 {
-    store.shape(3) == Shape::Table
-        && store.shape(4) == Shape::Table
+    store.shape(4) == Shape::Table
         && store.shape(5) == Shape::Table
         && store.shape(6) == Shape::Table
+        && store.shape(7) == Shape::Table
 }
 
 /// A store with the snapshot of a server, which is committed.

@@ -1,7 +1,7 @@
 use Rattle.std.proofs.Common.{◌≡◌, ◌+◌, ◌∙◌, arith, get_or}
 use Rattle.sqlite_trees.specs.View.{IsClean}
 use Rattle.rad_journal.specs.Rows.{entries_of, table}
-use Rattle.rad_journal.proofs.LogLemmas.{frames, put_so_far, set_beside, set_records}
+use Rattle.rad_journal.proofs.LogLemmas.{frames, put_so_far, set_rest, rest_on}
 use Rattle.rad_journal.proofs.append.put_all.Goals as goal
 
 pub loop-i-preserved : goal.loop-i-preserved
@@ -27,11 +27,9 @@ loop-i-preserved g c =
           let before : IsClean (S.view c.loop-i.store) = omega (arith, step.quiet.clean, clean) in
           let first : IsClean (S.view c.args.store.now) = omega (arith, was.clean, before) in
           put_so_far (S.view c.loop-i.store) (S.view c.put.new.store) (entries_of ((S.view c.args.store.now).trees table)) c.args.entries.now c.loop-i.i c.args.count (c.loop-i.number + 1) c.index-entries-i.result it (omega arith) (c.in_ok-put.ensures.ok clean) (omega (arith, was.number)) (was.put before) ((c.requires.counted first).1);
-      records = λ clean.
+      rest = λ clean.
           let before : IsClean (S.view c.loop-i.store) = omega (arith, step.quiet.clean, clean) in
-          set_records (S.view c.loop-i.store) (S.view c.put.new.store) _ (c.in_ok-put.ensures.ok clean) ∙ was.records before;
-      others = λ clean.
-          let before : IsClean (S.view c.loop-i.store) = omega (arith, step.quiet.clean, clean) in
-          set_beside (S.view c.loop-i.store) (S.view c.put.new.store) _ (c.in_ok-put.ensures.ok clean) ∙ was.others before;
+          rest_on (S.view c.args.store.now) (S.view c.loop-i.store) (S.view c.put.new.store) table (was.rest before)
+          (set_rest (S.view c.loop-i.store) (S.view c.put.new.store) table _ (c.in_ok-put.ensures.ok clean));
       number = omega (arith, was.number);
     }

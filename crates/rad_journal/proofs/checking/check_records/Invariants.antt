@@ -2,7 +2,7 @@ use Rattle.std.proofs.Common.{◌≡◌, ◌≤◌, ◌++◌, List, take, Some, 
 use Rattle.sqlite_value.specs.Order.{Row}
 use Rattle.sqlite_trees.specs.Tree.{Trees}
 use Rattle.sqlite_trees.specs.View.{IsClean, doubt}
-use Rattle.rad_journal.specs.Records.{record_table, records_of}
+use Rattle.rad_journal.specs.Records.{records_of, register_tree}
 use Rattle.rad_journal.specs.Rows.{entries_of, table}
 use Rattle.rad_journal.specs.Stores.{OnlyReads}
 use Rattle.rad_journal.proofs.checking.check_records.Given as goal
@@ -16,6 +16,6 @@ invariant-loop-place g l =
       same : IsClean (g.S.Store.view l.store) → OnlyReads (g.S.Store.view l.fn.store) (g.S.Store.view l.store);
       live : IsSome ((g.S.Store.view l.store).cursors 0);
       so_far : IsClean (g.S.Store.view l.store)
-          → (left : List Row) × ((g.S.Store.view l.fn.store).trees record_table ≡ records_of (take l.place (entries_of ((g.S.Store.view l.fn.store).trees table))) ++ left)
+          → (left : List Row) × ((g.S.Store.view l.fn.store).trees (register_tree l.register) ≡ records_of l.register (take l.place (entries_of ((g.S.Store.view l.fn.store).trees table))) ++ left)
           × ((g.S.Store.view l.store).cursors 0 ≡ Some left);
     }

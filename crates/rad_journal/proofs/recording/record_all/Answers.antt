@@ -1,6 +1,7 @@
 use Rattle.std.proofs.Common.{◌≡◌, ◌+◌, ◌∙◌, arith, get_or}
 use Rattle.sqlite_trees.specs.View.{IsClean}
-use Rattle.rad_journal.proofs.LogLemmas.{frames, recorded_so_far}
+use Rattle.rad_journal.specs.Records.{register_tree}
+use Rattle.rad_journal.proofs.LogLemmas.{frames, recorded_so_far, rest_on}
 use Rattle.rad_journal.proofs.recording.record_all.Goals as goal
 
 pub loop-i-preserved : goal.loop-i-preserved
@@ -24,13 +25,11 @@ loop-i-preserved g c =
           frames (S.view c.args.store.now) (S.view c.loop-i.store) (S.view c.record.new.store) (was.frame before) (c.in_ok-record.ensures.frame clean);
       recorded = λ clean first counted held.
           let before : IsClean (S.view c.loop-i.store) = omega (arith, step.clean, clean) in
-          recorded_so_far (S.view c.loop-i.store) (S.view c.record.new.store) first c.args.entries.now c.loop-i.i c.args.count (c.loop-i.number + 1)
+          recorded_so_far c.args.register (S.view c.loop-i.store) (S.view c.record.new.store) first c.args.entries.now c.loop-i.i c.args.count (c.loop-i.number + 1)
           c.index-entries-i.result it (omega arith) (c.in_ok-record.ensures.ok clean) (omega (arith, was.number)) counted (was.recorded before first counted held);
-      entries = λ clean.
+      rest = λ clean.
           let before : IsClean (S.view c.loop-i.store) = omega (arith, step.clean, clean) in
-          (c.in_ok-record.ensures.ok clean).entries ∙ was.entries before;
-      others = λ clean.
-          let before : IsClean (S.view c.loop-i.store) = omega (arith, step.clean, clean) in
-          (c.in_ok-record.ensures.ok clean).others ∙ was.others before;
+          rest_on (S.view c.args.store.now) (S.view c.loop-i.store) (S.view c.record.new.store) (register_tree c.args.register) (was.rest before)
+          (c.in_ok-record.ensures.ok clean).rest;
       number = omega (arith, was.number);
     }

@@ -1,9 +1,8 @@
 use Rattle.std.proofs.Common.{◌≡◌, ◌++◌, ◌≤◌, ◌+◌, List, length, take}
 use Rattle.sqlite_trees.specs.Tree.{Trees}
 use Rattle.sqlite_trees.specs.View.{IsClean, KeepsSchema, OnlyWrites, doubt}
-use Rattle.rad_journal.specs.Records.{record_table, records_of}
-use Rattle.rad_journal.specs.Rows.{table}
-use Rattle.rad_journal.specs.Stores.{others}
+use Rattle.rad_journal.specs.Records.{records_of, register_tree}
+use Rattle.rad_journal.specs.Stores.{LeavesRest}
 use Rattle.rad_journal.specs.declared.kept.Kept.{Kept}
 use Rattle.rad_journal.proofs.recording.record_all.Given as goal
 
@@ -15,9 +14,8 @@ invariant-loop-i g l =
       schema : KeepsSchema (g.S.Store.view l.fn.store) (g.S.Store.view l.store);
       frame : IsClean (g.S.Store.view l.store) → OnlyWrites (g.S.Store.view l.fn.store) (g.S.Store.view l.store);
       recorded : IsClean (g.S.Store.view l.store) → (before : List Kept) → length before ≡ l.count
-          → (g.S.Store.view l.fn.store).trees record_table ≡ records_of before
-          → (g.S.Store.view l.store).trees record_table ≡ records_of (before ++ take l.i l.entries);
-      entries : IsClean (g.S.Store.view l.store) → (g.S.Store.view l.store).trees table ≡ (g.S.Store.view l.fn.store).trees table;
-      others : IsClean (g.S.Store.view l.store) → others (g.S.Store.view l.store).trees ≡ others (g.S.Store.view l.fn.store).trees;
+          → (g.S.Store.view l.fn.store).trees (register_tree l.register) ≡ records_of l.register before
+          → (g.S.Store.view l.store).trees (register_tree l.register) ≡ records_of l.register (before ++ take l.i l.entries);
+      rest : IsClean (g.S.Store.view l.store) → LeavesRest (g.S.Store.view l.fn.store) (g.S.Store.view l.store) (register_tree l.register);
       number : l.number ≡ l.count + l.i;
     }

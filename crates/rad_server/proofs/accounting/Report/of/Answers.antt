@@ -1,9 +1,9 @@
 use Rattle.std.proofs.Common.{◌≡◌, ◌∷◌, Some, ap, ◌∙◌}
 use Rattle.std.specs.Prelude.{option_copied}
-use Rattle.rad_packet.specs.Attributes.{Attribute, first_value}
+use Rattle.rad_packet.specs.Attributes.{Attribute, first_value, first_integer, integer_of}
 use Rattle.rad_packet.specs.Types.{type_acct_status_type, type_class, type_framed_ip_address, type_user_name}
-use Rattle.rad_server.specs.Accounting.{class_number, first_integer}
-use Rattle.rad_server.specs.Reports.{class_number_of, integer_of}
+use Rattle.rad_server.specs.Accounting.{class_number}
+use Rattle.rad_server.specs.Reports.{class_number_of}
 use Rattle.rad_server.proofs.ReportLemmas.{all-first, class-cons, integer-cons, next-first, value-cons}
 use Rattle.rad_server.proofs.accounting.Report.of.Goals as goal
 

@@ -1,9 +1,9 @@
 use Rattle.std.proofs.Common.{◌≡◌}
 use Rattle.std.specs.Prelude.{option_copied}
 use Rattle.std.specs.Option.{option_or}
-use Rattle.rad_packet.specs.Attributes.{first_value}
+use Rattle.rad_packet.specs.Attributes.{first_value, first_integer}
 use Rattle.rad_packet.specs.Types.{type_acct_status_type, type_framed_ip_address, type_user_name}
-use Rattle.rad_server.specs.Accounting.{class_number, first_integer}
+use Rattle.rad_server.specs.Accounting.{class_number}
 use Rattle.rad_server.proofs.accounting.Report.of.Given as goal
 
 -- what is found in the attributes so far, or else what those that are left say, is what all say

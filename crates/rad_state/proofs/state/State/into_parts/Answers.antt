@@ -1,22 +1,30 @@
-use Rattle.std.proofs.Common.{◌∙◌, Ok, ap, arith, subst, sym}
+use Rattle.std.proofs.Common.{◌∙◌, Option, Ok, ap, arith, subst, sym}
 use Rattle.sqlite_trees.specs.Tree.{Trees}
 use Rattle.sqlite_trees.specs.View.{IsClean}
+use Rattle.rad_config.specs.Configurations.{Configuration}
 use Rattle.rad_snapshot.specs.Snapshots.{IsSnapshotOf}
 use Rattle.rad_state.specs.Metas.{meta_rows}
+use Rattle.rad_state.specs.declared.meta.Meta.{Meta}
+use Rattle.rad_state.proofs.StoreLemmas.{reads_fresh}
 use Rattle.rad_state.proofs.state.State.into_parts.Goals as goal
 
-pub returns-clause-says : goal.returns-clause-says
-returns-clause-says g c clean meta is text =
+pub open-requires : goal.open-requires
+open-requires g c clean =
     let S = g.S.Store in
-    let server = c.in_ok-server.server in
-    let read : IsClean (S.view c.read.new.store) = omega (arith, c.in_ok-open.ensures.clean, clean) in
-    let old : IsClean (S.view c.args.self.store) = omega (arith, c.read.ensures.clean, read) in
+    let first : IsClean (S.view c.args.self.store) = omega (arith, c.read.ensures.clean, clean) in
+    reads_fresh (S.view c.args.self.store) (S.view c.read.new.store) (c.in_ok-server.ensures.same clean) (c.args.self.opened first).fresh
+
+pub returns-clause-says : goal.returns-clause-says
+returns-clause-says g c clean meta found reads =
+    let S = g.S.Store in
+    let mid : IsClean (S.view c.read.new.store) = omega (arith, c.in_ok-open.ensures.clean, clean) in
+    let first : IsClean (S.view c.args.self.store) = omega (arith, c.read.ensures.clean, mid) in
     record {
       meta = meta;
-      held = c.args.self.metas old ∙ ap (λ found. meta_rows found) is;
-      configuration = text ∙ ap (λ k. Ok k) (sym c.in_ok-server.ensures.configuration);
+      held = c.args.self.metas first ∙ ap (λ (m : Option Meta). meta_rows m) found;
+      configuration = reads ∙ ap (λ (k : Configuration). Ok k) (sym c.in_ok-server.ensures.configuration);
       lawful = c.state_is_lawful.ensures.state;
-      snapshot = subst (λ (t : Trees). IsSnapshotOf t server.state) (c.args.self.opened old).fresh.settled (c.in_ok-server.ensures.snapshot read);
+      snapshot = subst (λ (t : Trees). IsSnapshotOf t c.in_ok-server.server.state) ((c.args.self.opened first).fresh.settled) (c.in_ok-server.ensures.snapshot mid);
     }
 
 pub returns-clause-crash : goal.returns-clause-crash
