@@ -1,4 +1,5 @@
-"""What is recorded of a gateway's day: each report in its columns, and figures that are the gateway's own, through kills and restarts."""
+"""What is recorded of a gateway's day: each session that is granted and each report in its columns, and figures that are the gateway's own,
+through kills and restarts."""
 
 import contextlib
 import csv
@@ -13,7 +14,7 @@ import subprocess
 import time
 
 import serving
-from gateways import ACCEPT, ACCT, AUTH, INTERIM, RESPONSE, START, STOP
+from gateways import ACCEPT, ACCT, AUTH, INTERIM, ON, REJECT, RESPONSE, START, STOP
 from serving import CONFIGURATION, HERE, access_request, accounting_request, attribute, attributes_of, judge
 from states import RANDOM, ended, file_of, folder, generations, living
 from transcripts import copied, dotted, talking
@@ -42,7 +43,7 @@ NAMES = {
     "nas_address": "NAS-IP-Address", "nas_port": "NAS-Port", "calling_station_id": "Calling-Station-Id", "session_time": "Acct-Session-Time",
     "octets_in": "Acct-Input-Octets", "octets_out": "Acct-Output-Octets",
 }
-STATUSES = {START: "Start", STOP: "Stop", INTERIM: "Interim-Update"}
+STATUSES = {START: "Start", STOP: "Stop", INTERIM: "Interim-Update", ON: "Accounting-On"}
 
 
 class Session:
@@ -52,7 +53,7 @@ class Session:
         self.user, self.address, self.class_value = user, attribute(accept, 8), attribute(accept, 25)
         self.number = int.from_bytes(self.class_value[4:], "big")
         self.octets_in = self.octets_out = self.seconds = 0
-        self.is_stopped = False
+        self.is_stopped = self.is_reset = False
 
     def attributes(self):
         """What its next report says: counters of 32 bits, and how often they wrapped around."""
@@ -62,6 +63,9 @@ class Session:
             (43, (self.octets_out % 2**32).to_bytes(4, "big")), (53, (self.octets_out // 2**32).to_bytes(4, "big")),
             (31, RANDOM.randbytes(6)), (4, bytes((192, 0, 2, 1))), (5, self.number.to_bytes(4, "big")),
         )
+
+    def is_open(self):
+        return not self.is_stopped and not self.is_reset
 
     def go_on(self):
         self.octets_in += RANDOM.randrange(2**33)
@@ -79,9 +83,14 @@ class Day:
         return next(self.identifiers) % 256
 
     def log_in(self, user):
-        session = Session(user, self.talk.new(ACCEPT, AUTH, access_request(self.identifier(), user)))
+        station = attributes_of((31, RANDOM.randbytes(6)))
+        session = Session(user, self.talk.new(ACCEPT, AUTH, access_request(self.identifier(), user, rest=station)))
         self.sessions.append(session)
         self.report(session, START)
+
+    def fail_to_log_in(self, user):
+        """A log-in that is granted nothing."""
+        self.talk.new(REJECT, AUTH, access_request(self.identifier(), user, b"other"))
 
     def report(self, session, status):
         request = accounting_request(self.identifier(), status, session.class_value, session.attributes())
@@ -94,7 +103,7 @@ class Day:
 
     def go_on(self):
         for session in self.sessions:
-            if not session.is_stopped:
+            if session.is_open():
                 session.go_on()
                 self.report(session, INTERIM)
                 last = self.talk.exchanges[-1]
@@ -112,6 +121,12 @@ class Day:
         if self.late:
             self.talk.new(RESPONSE, ACCT, self.late)
 
+    def come_up(self):
+        """The gateway comes up again, and has no sessions any more."""
+        self.talk.new(RESPONSE, ACCT, accounting_request(self.identifier(), ON))
+        for session in self.sessions:
+            session.is_reset = not session.is_stopped
+
     def stop(self, session):
         session.go_on()
         session.is_stopped = True
@@ -128,6 +143,7 @@ def records():
                 day.repeat_late()
                 for number in range(life, USERS, 4):
                     day.log_in(b"user%d" % number)
+                    day.fail_to_log_in(b"user%d" % number)
                 day.go_on()
                 day.report_of_nobody()
                 if life:
@@ -137,6 +153,8 @@ def records():
                 ended(talk.server)
         with living(state, configuration=DAY) as talk.server:
             day.repeat_late()
+            day.come_up()
+            day.log_in(b"user1")
             ended(talk.server)
         with living(state, configuration=DAY) as talk.server:
             ended(talk.server)
@@ -160,6 +178,17 @@ def closing_on_demand():
                 judge(not os.path.exists(os.path.join(state, "close")), "the file that asked for it is gone")
             # Where nothing was kept since, too.
             judge(printed(state, "--close").splitlines() == lines and len(generations(state)) == 4, "it begins one again")
+            ended(talk.server)
+        # The server removes the oldest one about when that is read.
+        with living(state, generations=3, configuration=DAY) as talk.server:
+            for _ in range(3):
+                day.go_on()
+                lines = printed(state, "--close").splitlines()
+                judge(json.loads(lines[-1])["Acct-Session-Time"] == day.sessions[0].seconds, f"the last report is printed: {lines[-1]}")
+                patience = time.monotonic() + 10
+                while len(generations(state)) > 3 and time.monotonic() < patience:
+                    time.sleep(0.01)
+                judge(len(generations(state)) == 3, f"the oldest generation is removed: {generations(state)}")
             ended(talk.server)
     print("records: a server that is asked to begins another generation, once, and the rest is printed")
 
@@ -187,21 +216,35 @@ def kept_for_days():
 
 
 def judge_rows(talk):
-    """Each Accounting-Request that got a new reply has a row, in whose columns its attributes are, and nothing else has one: these."""
-    entries, rows = [], []
+    """Each Accounting-Request that got a new reply has a row, in whose columns its attributes are, each session that was granted has one, and
+    nothing else has: these are the first."""
+    entries, rows, grants = [], [], []
     for number in generations(talk.state):
         with contextlib.closing(sqlite3.connect(copied(talk.state, number))) as database:
             database.row_factory = sqlite3.Row
             found = database.execute("SELECT rowid, * FROM exchange ORDER BY rowid").fetchall()
             entries += [dict(row, generation=number) for row in found]
             rows += [dict(row, generation=number) for row in database.execute("SELECT * FROM accounting ORDER BY entry")]
+            grants += [dict(row, generation=number) for row in database.execute("SELECT * FROM grants ORDER BY entry")]
     judge(len(entries) == len(talk.exchanges), f"each exchange is kept once: {len(entries)} of {len(talk.exchanges)}")
     accounted = [entry for entry in entries if entry["door"] == ACCT]
     judge(len(rows) == len(accounted), f"each report has a row: {len(rows)} of {len(accounted)}")
     for entry, row in zip(accounted, rows):
         wanted = recorded(entry)
         judge(row == wanted, f"a row has what was reported: {row}, not {wanted}")
+    accepted = [granted(entry) for entry in entries if entry["answer"][0] == ACCEPT]
+    judge(grants == accepted, f"each session that is granted has a row: {grants}, not {accepted}")
     return rows
+
+
+def granted(entry):
+    """The row of an entry that is granted a session, read from its request and its answer."""
+    request, answer = entry["request"], bytes(20) + entry["answer"][1:]
+    return {
+        "entry": entry["rowid"], "time": entry["wall"], "client": 0, "source": entry["source"], "user": texted(attribute(request, 1)),
+        "session": int.from_bytes(attribute(answer, 25)[4:], "big"), "address": numbered(attribute(answer, 8)),
+        "calling_station_id": texted(attribute(request, 31)), "generation": entry["generation"],
+    }
 
 
 def recorded(entry):
@@ -212,9 +255,9 @@ def recorded(entry):
     for name, (low, high) in OCTETS.items():
         count = numbered(attribute(request, low))
         row[name] = None if count is None else count + (numbered(attribute(request, high)) or 0) * 2**32
-    row.update(entry=entry["rowid"], time=entry["wall"], client=0, source=entry["address"], generation=entry["generation"])
+    row.update(entry=entry["rowid"], time=entry["wall"], client=0, source=entry["source"], generation=entry["generation"])
     number = int.from_bytes(attribute(request, 25)[4:], "big")
-    row["session"] = number if number <= USERS else None
+    row["session"] = number if 1 <= number < 0xFF else None
     return row
 
 
@@ -300,17 +343,19 @@ def judge_figures(day, state):
     for file in sorted(os.listdir(closed)):
         # The gateway's last hours are in the newest two.
         if file.endswith(".db"):
-            rest = subprocess.run(["sqlite3", "-readonly", os.path.join(closed, file), ".mode insert accounting", "SELECT 0, * FROM accounting"],
-                                  capture_output=True, text=True, timeout=60)
-            judge(rest.stderr == "", f"a closed generation can be read: {rest.stderr}")
-            subprocess.run(["sqlite3", bill], input=rest.stdout, text=True, check=True, timeout=60)
+            for table in ("accounting", "grants"):
+                words = [os.path.join(closed, file), f".mode insert {table}", f"SELECT 0, * FROM {table}"]
+                rest = subprocess.run(["sqlite3", "-readonly", *words], capture_output=True, text=True, timeout=60)
+                judge(rest.stderr == "", f"a closed generation can be read: {rest.stderr}")
+                subprocess.run(["sqlite3", bill], input=rest.stdout, text=True, check=True, timeout=60)
     answers = [answer_of(bill, text) for kind, text in texts if kind == "sql"]
     judge(answers == wanted_of(day), f"the figures are the gateway's own: {answers}, not {wanted_of(day)}")
 
 
 def answer_of(bill, text):
     """What a query gives, without times of day."""
-    text = text.replace("10.20.0.7", "10.20.0.2").replace("(10 << 24) + (20 << 16) + 7", "(10 << 24) + (20 << 16) + 2").replace("mira@example.net", "user1")
+    for printed_text, own in (("(20 << 16) + 7", "(20 << 16) + 2"), ("2026-11-29 14:03'", "now', '+1 minute'"), ("mira@example.net", "user1")):
+        text = text.replace(printed_text, own)
     ran = subprocess.run(["sqlite3", "-readonly", bill], input=text, capture_output=True, text=True, timeout=60)
     judge((ran.returncode, ran.stderr) == (0, ""), f"a query works as printed: {ran.returncode} {ran.stderr} {text}")
     return [re.sub(r"\|\d{4}-\d\d-\d\d \d\d:\d\d:\d\d", "", line) for line in ran.stdout.splitlines()]
@@ -318,12 +363,13 @@ def answer_of(bill, text):
 
 def wanted_of(day):
     """What the queries are to give, from the gateway's own books."""
-    had = [f"{one.user.decode()}|{one.number}" for one in day.sessions if one.address == bytes((10, 20, 0, 2))]
+    last = [one for one in day.sessions if one.address == bytes((10, 20, 0, 2))][-1]
+    had = [f"{last.user.decode()}|{last.number}" + "|" * last.is_open()]
     mira = [one for one in day.sessions if one.user == b"user1"]
     month = [f"{sum(one.octets_in for one in mira)}|{sum(one.octets_out for one in mira)}|{sum(one.seconds for one in mira)}"]
     totals = {}
     for one in day.sessions:
         totals[one.user.decode()] = totals.get(one.user.decode(), 0) + one.octets_in + one.octets_out
     top = [f"{user}|{octets}" for user, octets in sorted(totals.items(), key=lambda item: -item[1])[:10]]
-    open_ones = [f"{one.number}|{one.user.decode()}" for one in day.sessions if not one.is_stopped]
+    open_ones = [f"{one.number}|{one.user.decode()}" for one in day.sessions if one.is_open()]
     return [had, month, top, open_ones, [f"{day.lost}"]]
