@@ -1,0 +1,11 @@
+use Rattle.std.proofs.Common.{◌≡◌, length, map}
+use Rattle.rad_dictionary.specs.Dictionary.{type_named}
+use Rattle.rad_dictionary.specs.Seen.{row_seen}
+use Rattle.rad_dictionary.proofs.dictionary.type_in.Given as goal
+
+-- the definitions that are left give what all of them do
+abbrev pub invariant-loop-rest : goal.invariant-loop-rest
+invariant-loop-rest l = type_named (map row_seen l.rest) l.name ≡ type_named (map row_seen l.definitions) l.name
+
+abbrev pub decreases-loop-rest : goal.decreases-loop-rest
+decreases-loop-rest l = length l.rest
