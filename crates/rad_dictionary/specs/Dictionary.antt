@@ -1,5 +1,5 @@
--- The attributes of the RFCs that an Access-Accept can be given: their names, their Types and what their Values are. A text is a list of octets,
--- which are numbers below 256.
+-- The attributes of the RFCs that an Access-Accept can be given: their names, their Types and what their Values are. A text is a
+-- list of octets, which are numbers below 256.
 use Rattle.std.specs.Prelude.{ℕ, ◌==◌, Bool, not, List, [], ◌∷◌, ◌++◌, codes, Option, find, option_map, unwrap_or}
 use Rattle.std.specs.List.{list_any}
 use Rattle.std.specs.Str.{str_eq_ignore_ascii_case}
@@ -124,8 +124,8 @@ integer = kinds.Integer 0 number_max
 abbrev pub short : Kind
 short = kinds.Integer 0 65535
 
--- RFC 2865, section 5, RFC 2868, section 3, RFC 2869, section 5, RFC 3162, section 2, RFC 4372, section 2.2, RFC 4818, section 3, and
--- RFC 6911, section 3
+-- RFC 2865, section 5, RFC 2868, section 3, RFC 2869, section 5, RFC 3162, section 2, RFC 4372, section 2.2, RFC 4818, section 3,
+-- and RFC 6911, section 3
 abbrev pub dictionary : List Row
 dictionary =
     row (codes "Framed-IP-Netmask") 9 kinds.Address
@@ -191,9 +191,9 @@ kind_of rows number = unwrap_or (option_map (λ row. row.kind) (find (λ row. ro
 abbrev pub written_types : List ℕ
 written_types = 0 ∷ 6 ∷ 7 ∷ 8 ∷ 18 ∷ 24 ∷ 25 ∷ 27 ∷ 33 ∷ 79 ∷ 80 ∷ []
 
--- The User-Name; those that other packets have (RFC 2865, section 5.44, RFC 2866, section 5.13, RFC 2867, section 5, RFC 2869, section 5.19,
--- RFC 3162, section 3, RFC 5176, section 3.5, and RFC 7155, section 4.4.10.7); and those whose Value differs in each reply: Tunnel-Password
--- (RFC 2868, section 3.5), ARAP-Features and ARAP-Challenge-Response (RFC 2869, sections 5.5 and 5.15).
+-- The User-Name; those that other packets have (RFC 2865, section 5.44, RFC 2866, section 5.13, RFC 2867, section 5, RFC 2869,
+-- section 5.19, RFC 3162, section 3, RFC 5176, section 3.5, and RFC 7155, section 4.4.10.7); and those whose Value differs in each
+-- reply: Tunnel-Password (RFC 2868, section 3.5), ARAP-Features and ARAP-Challenge-Response (RFC 2869, sections 5.5 and 5.15).
 abbrev pub others_types : List ℕ
 others_types =
     1 ∷ 2 ∷ 3 ∷ 4 ∷ 5 ∷ 30 ∷ 31 ∷ 32 ∷ 40 ∷ 41 ∷ 42 ∷ 43 ∷ 44 ∷ 45 ∷ 46 ∷ 47 ∷ 48 ∷ 49 ∷ 50 ∷ 51 ∷ 52 ∷ 53 ∷ 55 ∷ 60 ∷ 61 ∷ 68 ∷ 69

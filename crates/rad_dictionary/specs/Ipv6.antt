@@ -1,5 +1,5 @@
--- IPv6 addresses and prefixes as texts spell them (RFC 4291, sections 2.2 and 2.3), and as Values have them. A text is a list of octets, which
--- are numbers below 256.
+-- IPv6 addresses and prefixes as texts spell them (RFC 4291, sections 2.2 and 2.3), and as Values have them. A text is a list of
+-- octets, which are numbers below 256.
 use Rattle.std.specs.Prelude.{ℕ, ◌-◌, ◌%◌, ◌^◌, ◌==◌, Bool, if◌then◌else◌, List, ◌∷◌, Option, Some, None, option_map}
 use Rattle.std.specs.Int.{w128, from_be_bytes}
 use Rattle.std.specs.Net.Addr.{octets_of}

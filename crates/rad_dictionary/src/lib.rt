@@ -1,9 +1,10 @@
 //! The attributes that a configuration can name, and their Values.
 //!
-//! `attribute_of` makes an attribute of what a configuration says of it: which one is meant, by its name in an RFC, its Type or a vendor's
-//! number, and its Value as a number, a text or hex digits. `may_be_granted` says which Types an Access-Accept can be given.
+//! `attribute_of` makes an attribute of what a configuration says of it: which one is meant, by its name in an RFC, its Type or a
+//! vendor's number, and its Value as a number, a text or hex digits. `may_be_granted` says which Types an Access-Accept can be
+//! given.
 //!
-//! Other crates rest on this: Type and Value are what `specs/Values.antt` says of the parts, by the names and kinds of
+//! Other crates rest on this: Type and Value are what `specs/Meant.antt` says of the parts, by the names and kinds of
 //! `specs/Dictionary.antt`, and a refusal names the part that doesn't fit.
 #![tactic(auto)]
 

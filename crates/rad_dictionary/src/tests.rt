@@ -3,6 +3,7 @@ ghost use Rattle.std.specs.Prelude.{◌≤◌, IfSome};
 ghost use Rattle.rad_dictionary.specs.Values.{tag_max};
 
 use crate::{Given, Misfit, Named, TAG_MAX, attribute_of, may_be_granted};
+use std::process::Abort;
 use std::test::Fail;
 
 /// What is said of an attribute, and its Type and Value.
@@ -366,6 +367,10 @@ const LONGEST: &[(Named<'static>, Option<u8>, usize)] = &[
     ),
 ];
 
+fn holds(rt: &impl Abort, is: bool, named: &Named<'_>) {
+    assert!(rt; is, "{named:?}");
+}
+
 // A tag, if there is one that can be.
 fn tag_of(number: Option<u8>) -> Option<u8>
     ensures { IfSome result (λ tag. (1 ≤ tag) × (tag ≤ tag_max)) }
@@ -377,8 +382,8 @@ fn tag_of(number: Option<u8>) -> Option<u8>
 fn as_others_make_them(rt: HostRuntime) -> Result<(), Fail> {
     for (named, tag, given, kind, value) in ROWS {
         let meant = attribute_of(rt.alloc(), named, tag_of(*tag), given)?;
-        assert_eq!(rt; meant.kind, *kind);
-        assert_eq!(rt; meant.value.as_slice(), *value, "{named:?} {given:?}");
+        let is = meant.kind == *kind && meant.value.as_slice() == *value;
+        holds(&rt, is, named);
     }
     Ok(())
 }
@@ -387,7 +392,7 @@ fn as_others_make_them(rt: HostRuntime) -> Result<(), Fail> {
 fn what_does_not_fit(rt: HostRuntime) -> Result<(), Fail> {
     for (named, tag, given, misfit) in REFUSED {
         let refused = attribute_of(rt.alloc(), named, tag_of(*tag), given).err();
-        assert_eq!(rt; refused, Some(*misfit), "{named:?} {given:?}");
+        holds(&rt, refused == Some(*misfit), named);
     }
     Ok(())
 }
@@ -399,10 +404,10 @@ fn values_that_are_just_short_enough(rt: HostRuntime) -> Result<(), Fail> {
         let tag = tag_of(*tag);
         let mut text = vec![in alloc; b'a'; *most]?;
         let fits = attribute_of(alloc, named, tag, &Given::Text(&text));
-        assert!(rt; fits.is_ok(), "{named:?} {most}");
+        holds(&rt, fits.is_ok(), named);
         text.push(b'a')?;
         let refused = attribute_of(alloc, named, tag, &Given::Text(&text));
-        assert_eq!(rt; refused.err(), Some(Misfit::Value), "{named:?} {most}");
+        holds(&rt, refused.err() == Some(Misfit::Value), named);
     }
     Ok(())
 }
@@ -433,7 +438,7 @@ fn what_a_reply_may_have(rt: HostRuntime) -> Result<(), Fail> {
                 | 95
                 | 101
         );
-        assert_eq!(rt; may_be_granted(kind), !is_kept_out, "{kind}");
+        holds(&rt, may_be_granted(kind) != is_kept_out, &Named::Type(kind));
     }
     Ok(())
 }
