@@ -1,5 +1,5 @@
 -- Warnings: what may be wrong with a configuration that has no fault, and with its file.
-use Rattle.std.specs.Prelude.{ℕ, ◌==◌, ◌&&◌, bit_and, nat_lt, not, Bool, false, length, Option, Some, None, is_some}
+use Rattle.std.specs.Prelude.{ℕ, ◌==◌, ◌&&◌, ◌||◌, bit_and, nat_lt, not, Bool, false, length, Option, Some, None, is_some}
 use Rattle.std.specs.List.{list_any}
 use Rattle.rad_config.specs.Configurations.{Configuration}
 use Rattle.rad_config.specs.declared.user.User.{User}
@@ -10,9 +10,17 @@ use Rattle.rad_check.specs.declared.warning.Warning.TheVariants.{NoClient, NoUse
 abbrev pub short_hold : ℕ
 short_hold = 120
 
--- whether there are pools whose addresses are held for less
+-- whether a user has an address of their own
+abbrev pub has_address : User → Bool
+has_address user = is_some user.address
+
+-- whether sessions may have addresses
+abbrev pub gives_addresses : Configuration → Bool
+gives_addresses configuration = not (length configuration.pools == 0) || list_any has_address configuration.users
+
+-- whether there are addresses, which are held for less
 abbrev pub is_held_briefly : Configuration → Bool
-is_held_briefly configuration = not (length configuration.pools == 0) && nat_lt configuration.hold short_hold
+is_held_briefly configuration = gives_addresses configuration && nat_lt configuration.hold short_hold
 
 -- whether there are several clients, of which none has a share
 abbrev pub are_unshared : Configuration → Bool

@@ -3,10 +3,11 @@ ghost use Rattle.std.specs.Prelude.{IfSome, IsTrue};
 ghost use Rattle.rad_check.specs.Details.{fits};
 
 use crate::place::{column_after, line_after};
-use crate::shared::{same_as, shared_pools};
-use rad_config_fault::{ConfigFault, Part};
+use crate::shared::{pool_with, same_as, shared_pools};
+use rad_config_fault::{ConfigFault, Part, Spot};
 use std::alloc::Global;
 use std::fmt;
+use toml::Table;
 use toml::de::Error;
 
 /// What more there is to say of a fault. It is printed after the fault, on the same line, and has nothing of a value in it.
@@ -20,9 +21,18 @@ pub enum Detail {
         column: usize,
         error: Error,
     },
-    /// The earlier entry of the part, from 1, that has the same name or network.
+    /// The earlier entry of the part, from 1, that has the same name, network or address.
     SameAs {
         part: Part,
+        index: usize,
+    },
+    /// The same of an entry in the configuration's own file, where the fault is in the file of users.
+    SameAsInConfig {
+        part: Part,
+        index: usize,
+    },
+    /// The pool, from 1, that has the user's address.
+    InPool {
         index: usize,
     },
     /// The two pools, from 1, that share an address.
@@ -42,6 +52,10 @@ impl fmt::Display for Detail {
                 error,
             } => { write!(f, " at line {line}, column {column}: {}", error.message()) }
             Detail::SameAs { part, index } => write!(f, ": the same as {part} {index}"),
+            Detail::SameAsInConfig { part, index } => {
+                write!(f, ": the same as {part} {index} of the configuration")
+            }
+            Detail::InPool { index } => write!(f, ": in {} {index}", Part::Pool),
             Detail::Pools { first, second } => write!(f, ": pools {first} and {second}"),
         }
     }
@@ -75,14 +89,24 @@ fn in_document(alloc: Global, text: &[u8], fault: ConfigFault) -> Option<Detail>
 {
     let document = toml::table_from_slice(alloc, text).ok()?;
     match fault {
-        ConfigFault::BadValue(spot) => Some(Detail::SameAs {
-            part: spot.part,
-            index: same_as(&document, spot)?,
-        }),
+        ConfigFault::BadValue(spot) => bad_value(&document, spot),
         ConfigFault::PoolsOverlap => {
             let (first, second) = shared_pools(&document)?;
             Some(Detail::Pools { first, second })
         }
         _ => None,
     }
+}
+
+fn bad_value(document: &Table, spot: Spot) -> Option<Detail>
+    ensures { IfSome result (λ detail. IsTrue (fits (ConfigFault.BadValue spot) detail)) }
+{
+    if let Some(index) = same_as(document, spot) {
+        return Some(Detail::SameAs {
+            part: spot.part,
+            index,
+        });
+    }
+    let index = pool_with(document, spot)?;
+    Some(Detail::InPool { index })
 }

@@ -1,6 +1,6 @@
-//! Entries of a document that are the same, or share addresses.
+//! Entries of a document that are the same, or have the same address.
 ghost use Rattle.std.specs.Prelude.{◌≡◌, ◌<◌, IfSome, IsSome, IsTrue, length};
-ghost use Rattle.rad_check.specs.Details.{is_distinct, share};
+ghost use Rattle.rad_check.specs.Details.{is_distinct, is_own_address, share};
 
 use rad_config_fault::{Key, Part, Spot};
 use rad_text::decimal;
@@ -16,7 +16,7 @@ pub struct Range {
     pub last: u32,
 }
 
-/// The earlier entry, from 1, that has the same name or network as a spot has.
+/// The earlier entry, from 1, that has the same name, network or address as a spot has.
 pub fn same_as(document: &Table, spot: Spot) -> Option<usize>
     ensures distinct { IsSome result → IsTrue (is_distinct spot.key) }
     ensures earlier { IfSome result (λ index. index < spot.index) }
@@ -30,8 +30,26 @@ pub fn same_as(document: &Table, spot: Spot) -> Option<usize>
     let text = text_at(others.first()?, spot.key)?;
     let found = earlier
         .iter()
-        .position(|item| is_same(spot.key, text, text_at(item, spot.key)))?;
+        .position(|item| is_same(spot.part, text, text_at(item, spot.key)))?;
     Some(found + 1)
+}
+
+/// The first pool, from 1, that has the address of a spot, if that is a user's own.
+pub fn pool_with(document: &Table, spot: Spot) -> Option<usize>
+    ensures { IsSome result → IsTrue (is_own_address spot) }
+{
+    if !is_own_address(spot) {
+        return None;
+    }
+    let place = spot.index.checked_sub(1)? as usize;
+    let entry = items_of(document, spot.part)?.get(place)?;
+    let address = decimal::address(text_at(entry, spot.key)?.as_bytes())?;
+    let own = Range {
+        first: address,
+        last: address,
+    };
+    let pool = sharing(items_of(document, Part::Pool)?, own)?;
+    Some(pool + 1)
 }
 
 /// The first two pools, from 1, that share an address: of those that share one with an earlier pool the first, and that pool.
@@ -61,6 +79,13 @@ fn is_distinct(key: Key) -> bool
     matches!(key, Key::Address | Key::Name)
 }
 
+// Whether a spot is that of an address of a user's own.
+fn is_own_address(spot: Spot) -> bool
+    ensures { result ≡ is_own_address spot }
+{
+    matches!((spot.part, spot.key), (Part::User, Key::Address))
+}
+
 // Whether an address is in both ranges.
 fn share(one: Range, other: Range) -> bool
     ensures { result ≡ share one other }
@@ -68,11 +93,11 @@ fn share(one: Range, other: Range) -> bool
     one.first <= other.last && other.first <= one.last
 }
 
-// Whether two texts say the same name, or the same network.
-fn is_same(key: Key, text: &str, other: Option<&str>) -> bool {
-    match (key, other) {
+// Whether two texts say the same of a part: of clients the same network.
+fn is_same(part: Part, text: &str, other: Option<&str>) -> bool {
+    match (part, other) {
         (_, None) => false,
-        (Key::Address, Some(other)) => network(text) == network(other),
+        (Part::Client, Some(other)) => network(text) == network(other),
         (_, Some(other)) => text == other,
     }
 }

@@ -2,4 +2,5 @@
 
 mod details;
 mod names;
+mod users;
 mod warnings;

@@ -1,18 +1,41 @@
-//! Names of a document that no part has.
+//! Names of a document that their table doesn't have.
 
-use crate::known::{LISTS, is_known, is_of_top};
+use crate::known::{LISTS, Scope, has_reply, is_known, is_of_entry, is_of_reply, is_of_top};
 use crate::lines::push_warning;
 use crate::near::near_name;
-use rad_config_fault::Part;
+use crate::users_file::is_table_of_users;
+use rad_config_fault::{Key, Part};
 use std::fmt;
 use toml::{Table, Value};
 
-/// A name that its part doesn't have.
+/// A table of a document.
 #[derive(Clone, Copy)]
-pub struct Unknown<'a> {
-    pub part: Part,
+pub struct Site {
+    pub scope: Scope,
     /// The entry, from 1; 0 at the top.
     pub index: usize,
+    /// The attribute's place in the entry's reply, from 1; 0 outside a reply.
+    pub place: usize,
+}
+
+impl fmt::Display for Site {
+    fn fmt<W: fmt::Write>(&self, f: &mut fmt::Formatter<W>) -> fmt::Result {
+        let Site {
+            scope,
+            index,
+            place,
+        } = self;
+        match scope {
+            Scope::Part(part) => write!(f, "{part} {index}"),
+            Scope::Reply(part) => write!(f, "{part} {index} reply {place}"),
+        }
+    }
+}
+
+/// A name that its table doesn't have.
+#[derive(Clone, Copy)]
+pub struct Unknown<'a> {
+    pub site: Site,
     pub name: &'a str,
     /// Whether it is a table, or an array of tables.
     pub is_table: bool,
@@ -21,17 +44,16 @@ pub struct Unknown<'a> {
 impl<'a> fmt::Display for Unknown<'a> {
     fn fmt<W: fmt::Write>(&self, f: &mut fmt::Formatter<W>) -> fmt::Result {
         let Unknown {
-            part,
-            index,
+            site,
             name,
             is_table,
         } = self;
         // A name is any text: escaped, it neither ends the line nor speaks to a terminal.
         let name = name.escape_default();
-        match part {
-            Part::Top if *is_table => write!(f, "unknown table '{name}'")?,
-            Part::Top => write!(f, "unknown key '{name}' at the top")?,
-            _ => write!(f, "unknown key '{name}' in {part} {index}")?,
+        match site.scope {
+            Scope::Part(Part::Top) if *is_table => write!(f, "unknown table '{name}'")?,
+            Scope::Part(Part::Top) => write!(f, "unknown key '{name}' at the top")?,
+            _ => write!(f, "unknown key '{name}' in {site}")?,
         }
         self.write_hint(f)
     }
@@ -40,19 +62,35 @@ impl<'a> fmt::Display for Unknown<'a> {
 impl<'a> Unknown<'a> {
     // Where the key belongs, or which name may be meant.
     fn write_hint<W: fmt::Write>(&self, f: &mut fmt::Formatter<W>) -> fmt::Result {
-        if is_of_top(self.part, self.name) {
+        let (scope, name) = (self.site.scope, self.name);
+        let (Scope::Part(part) | Scope::Reply(part)) = scope;
+        if is_of_top(scope, name) {
             return f.write_str(": it belongs at the top, before the first [[..]]");
         }
-        match near_name(self.part, self.name) {
+        if is_of_entry(scope, name) {
+            return write!(f, ": it belongs in the {part}, outside its reply");
+        }
+        if is_of_reply(scope, name) {
+            return f.write_str(": it belongs in a table of reply");
+        }
+        if is_table_of_users(scope, name, self.is_table) {
+            return write!(f, ": did you mean '{}'?", Part::User.name());
+        }
+        match near_name(scope, name) {
             Some(known) => write!(f, ": did you mean '{}'?", known.name()),
             None => Ok(()),
         }
     }
 }
 
-/// Appends a warning for each name of a document that its part doesn't have.
+/// Appends a warning for each name of a document that its table doesn't have.
 pub fn warn_of_names(lines: &mut String, document: &Table) {
-    warn_of_table(lines, Part::Top, 0, document);
+    let top = Site {
+        scope: Scope::Part(Part::Top),
+        index: 0,
+        place: 0,
+    };
+    warn_of_table(lines, top, document);
     for part in LISTS.iter() {
         warn_of_list(lines, *part, document);
     }
@@ -62,21 +100,49 @@ fn warn_of_list(lines: &mut String, part: Part, document: &Table) {
     let Some(Value::Array(items)) = document.get(part.name()) else {
         return;
     };
-    for (place, item) in items.iter().enumerate() {
-        if let Value::Table(table) = item {
-            warn_of_table(lines, part, place + 1, table);
+    for (item_place, item) in items.iter().enumerate() {
+        if let Value::Table(entry) = item {
+            warn_of_entry(lines, part, item_place + 1, entry);
         }
     }
 }
 
-fn warn_of_table(lines: &mut String, part: Part, index: usize, table: &Table) {
-    for (name, value) in table.iter() {
-        if !is_known(part, name) {
-            let unknown = Unknown {
-                part,
+fn warn_of_entry(lines: &mut String, part: Part, index: usize, entry: &Table) {
+    let site = Site {
+        scope: Scope::Part(part),
+        index,
+        place: 0,
+    };
+    warn_of_table(lines, site, entry);
+    if has_reply(part) {
+        warn_of_reply(lines, part, index, entry);
+    }
+}
+
+fn warn_of_reply(lines: &mut String, part: Part, index: usize, entry: &Table) {
+    let Some(Value::Array(items)) = entry.get(Key::Reply.name()) else {
+        return;
+    };
+    for (item_place, item) in items.iter().enumerate() {
+        if let Value::Table(attribute) = item {
+            let site = Site {
+                scope: Scope::Reply(part),
                 index,
+                place: item_place + 1,
+            };
+            warn_of_table(lines, site, attribute);
+        }
+    }
+}
+
+fn warn_of_table(lines: &mut String, site: Site, table: &Table) {
+    for (name, value) in table.iter() {
+        let is_table = is_table(value);
+        if !is_known(site.scope, name) || is_table_of_users(site.scope, name, is_table) {
+            let unknown = Unknown {
+                site,
                 name,
-                is_table: is_table(value),
+                is_table,
             };
             push_warning(lines, unknown);
         }

@@ -1,11 +1,11 @@
 //! Warnings.
 ghost use Rattle.std.specs.Prelude.{◌≡◌, is_some};
 ghost use Rattle.std.specs.List.{list_any};
-ghost use Rattle.rad_check.specs.Warnings.{applies, are_unshared, has_pool, is_held_briefly};
+ghost use Rattle.rad_check.specs.Warnings.{applies, are_unshared, gives_addresses, has_address, has_pool, is_held_briefly};
 
 use rad_config::{Config, User};
 
-/// A `hold` below this, in seconds, is short where there are pools: a session whose Start comes later loses its address.
+/// A `hold` below this, in seconds, is short where there are addresses: a session whose Start comes later loses its address.
 pub const SHORT_HOLD: u32 = 120;
 
 /// What may be wrong with a configuration, though it can be served.
@@ -15,7 +15,7 @@ pub enum Warning {
     NoClient,
     /// There are no users: every log-in is rejected.
     NoUser,
-    /// There are pools, and `hold` is below `SHORT_HOLD`.
+    /// There are pools, or users with an address of their own, and `hold` is below `SHORT_HOLD`.
     ShortHold,
     /// There are several clients, and none has a share: one of them can fill what all need.
     NoShare,
@@ -38,11 +38,31 @@ impl Warning {
     }
 }
 
-// Whether there are pools whose addresses are held for less than `SHORT_HOLD`.
+// Whether there are addresses, which are held for less than `SHORT_HOLD`.
 fn is_held_briefly(config: &Config) -> bool
     ensures { result ≡ is_held_briefly config.now }
 {
-    !config.pools().is_empty() && config.hold() < SHORT_HOLD
+    gives_addresses(config) && config.hold() < SHORT_HOLD
+}
+
+// Whether sessions may have addresses.
+fn gives_addresses(config: &Config) -> bool
+    ensures { result ≡ gives_addresses config.now }
+{
+    !config.pools().is_empty() || some_address(config)
+}
+
+// Whether a user has an address of their own.
+fn some_address(config: &Config) -> bool
+    ensures { result ≡ list_any has_address config.now.users }
+{
+    config.users().iter().any(|user| has_address(user))
+}
+
+fn has_address(user: &User) -> bool
+    ensures { result ≡ has_address user.now }
+{
+    user.address.is_some()
 }
 
 // Whether there are several clients, of which none has a share.

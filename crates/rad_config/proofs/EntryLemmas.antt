@@ -13,7 +13,7 @@ use Rattle.rad_packet.specs.Ladders.{◌>>=◌}
 use Rattle.rad_config_fault.specs.declared.config_fault.Part.{Part}
 use Rattle.rad_config_fault.specs.declared.config_fault.ConfigFault.{ConfigFault}
 use Rattle.rad_config_fault.specs.declared.config_fault.ConfigFault.TheVariants.{NoMemory, TooMany}
-use Rattle.rad_config.specs.Configurations.{EntryData, and_entry, entry_of, entries_from, items_at, items_in, list_of, count_items}
+use Rattle.rad_config.specs.Entries.{EntryData, and_entry, entry_of, entries_from, items_at, items_in, list_of, count_items}
 
 module _ {A : Type 0} (part : Part) (read : List A → EntryData → Result A ConfigFault) (values : List Value) (i : ℕ) (value : Value)
     (earlier : List A) (within : i < length values) (found : value ≡ get_or values i value) where
@@ -78,7 +78,7 @@ pub entries_from-all : {A : Type 0} (part : Part) (read : List A → EntryData �
 unfolding entries_from
 entries_from-all part read values i index earlier past = rw (drop_all i values past)
 
-count_items-view : (values : List Value) → count_items (items_view values) ≡ length values
+pub count_items-view : (values : List Value) → count_items (items_view values) ≡ length values
 count_items-view [] = refl
 count_items-view (value ∷ values) = omega (arith, count_items-view values)
 

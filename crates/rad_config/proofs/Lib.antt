@@ -1,4 +1,5 @@
 pub mod EntryLemmas
+pub mod GroupLemmas
 pub mod NameLemmas
 pub mod PoolLemmas
 pub mod UserLemmas

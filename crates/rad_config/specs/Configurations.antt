@@ -1,32 +1,36 @@
 -- What a configuration text says, or its first fault. A text is a list of octets, which are numbers below 256; an index counts
 -- from 1, and a place from 0.
-use Rattle.std.specs.Prelude.{◌≡◌, ◌⊎◌, ℕ, ◌+◌, ◌&&◌, ◌||◌, nat_le, nat_lt, Bool, false, if◌then◌else◌, List, [], ◌∷◌, ◌++◌, position, slice_get, Option, option_and_then, Some, None, Result, Ok, Err, ok_or, is_some}
+use Rattle.std.specs.Prelude.{ℕ, ◌+◌, ◌&&◌, ◌||◌, nat_eq, nat_le, nat_lt, Bool, false, not, if◌then◌else◌, List, [], ◌∷◌, ◌++◌, length, position, slice_get, Option, option_and_then, Some, None, Result, Ok, Err, ok_or, is_some, unwrap_or}
 use Rattle.std.specs.List.{list_any}
 use Rattle.std.specs.Str.{bytes_eq, is_utf8}
-use Rattle.toml.specs.Data.{Data, as_array, as_table, Items, no_items, item, Members, get_member}
+use Rattle.toml.specs.Data.{Members}
 use Rattle.toml.specs.Parse.{parse_document}
+use Rattle.rad_packet.specs.Attributes.{Attribute, size}
+use Rattle.rad_packet.specs.Codes.{code_access_accept}
 use Rattle.rad_packet.specs.Ladders.{◌>>=◌, refuse_if}
 use Rattle.rad_auth.specs.Clients.{Client, clients_max, has_network}
-use Rattle.rad_config_fault.specs.declared.config_fault.Key.{Key}
 use Rattle.rad_config_fault.specs.declared.config_fault.Key.TheVariants as keys
-use Rattle.rad_config_fault.specs.declared.config_fault.Part.{Part}
 use Rattle.rad_config_fault.specs.declared.config_fault.Part.TheVariants as parts
-use Rattle.rad_config_fault.specs.declared.config_fault.Spot.{Spot}
 use Rattle.rad_config_fault.specs.declared.config_fault.ConfigFault.{ConfigFault}
-use Rattle.rad_config_fault.specs.declared.config_fault.ConfigFault.TheVariants.{Syntax, Missing, BadValue, HoldBelowWindow, PoolsOverlap, TooMany, NoMemory, StaleBelowWindow}
+use Rattle.rad_config_fault.specs.declared.config_fault.ConfigFault.TheVariants.{Syntax, BadValue, HoldBelowWindow, PoolsOverlap, StaleBelowWindow}
 use Rattle.rad_config.specs.declared.pool.Pool.{Pool}
 use Rattle.rad_config.specs.declared.spans.Times.{Times}
 use Rattle.rad_config.specs.declared.user.User.{User}
-use Rattle.rad_config_fault.specs.Faults.{key_name, part_name}
-use Rattle.rad_config.specs.Keys.{Row, pool_place}
+use Rattle.rad_config.specs.Entries.{EntryData, at_key, has_key, list_of, spot, value}
+use Rattle.rad_config.specs.Keys.{group_place, named_group, pool_place}
 use Rattle.rad_config.specs.Keys as rows
+use Rattle.rad_config.specs.Profiles.{Group, Profile, blank, group_at, over, profile_of, reply_of}
+use Rattle.rad_config.specs.Replies.{reply_in}
 
--- how many pools and users there may be
+-- how many pools, groups and users there may be
 abbrev pub pools_max : ℕ
 pools_max = 16
 
+abbrev pub groups_max : ℕ
+groups_max = 256
+
 abbrev pub users_max : ℕ
-users_max = 4096
+users_max = 65536
 
 -- Times are in seconds; without `stale` an active session lives on until it is stopped. Each client has a share in percent, or none.
 pub record Configuration : Type 0 where
@@ -46,81 +50,6 @@ share_of configuration client = option_and_then (λ share. share) (slice_get con
 abbrev pub is_reached : Option ℕ → ℕ → Bool
 is_reached None count = false
 is_reached (Some most) count = nat_le most count
-
--- what a call returned, seen by view, is what is read, unless memory ran out
-abbrev pub Gives : {X Y : Type 0} → (X → Y) → Result X ConfigFault → Result Y ConfigFault → Type 0
-Gives view (Ok value) read = read ≡ Ok (view value)
-Gives view (Err fault) read = (fault ≡ NoMemory) ⊎ (read ≡ Err fault)
-
--- ---- the rule of the table
-
--- a table of the text: an entry of a part, or the top with index 0
-pub record EntryData : Type 0 where
-  pub part : Part
-  pub index : ℕ
-  pub members : Members
-
-abbrev pub spot : EntryData → Key → Spot
-spot e key = record { part = e.part; index = e.index; key = key }
-
-abbrev pub at_key : EntryData → Key → Option Data
-at_key e key = get_member (key_name key) e.members
-
--- whether the key is present
-abbrev pub has_key : EntryData → Key → Bool
-has_key e key = is_some (at_key e key)
-
--- data that is there fits, or is a bad value; an absent key has a default, or is missing
-abbrev pub value_at : {A : Type 0} → Spot → Row A → Option Data → Result A ConfigFault
-value_at at row (Some d) = ok_or (row.fit d) (BadValue at)
-value_at at row None = ok_or row.absent (Missing at)
-
-unfoldable pub value : {A : Type 0} → EntryData → Row A → Result A ConfigFault
-value e row = value_at (spot e row.key) row (at_key e row.key)
-
--- ---- lists of entries
-
-abbrev pub count_items : Items → ℕ
-count_items no_items = 0
-count_items (item d ds) = count_items ds + 1
-
--- an entry's table
-unfoldable pub entry_of : Part → ℕ → Data → Result EntryData ConfigFault
-entry_of part index d = do
-  members ← ok_or (as_table d) (BadValue (record { part = part; index = index; key = keys.Entry }))
-  Ok (record { part = part; index = index; members = members })
-
--- the earlier entries, and one more
-unfoldable pub and_entry : {A : Type 0} → Part → (List A → EntryData → Result A ConfigFault) → ℕ → List A → Data → Result (List A) ConfigFault
-and_entry part read index earlier d = do
-  entry ← entry_of part index d
-  value ← read earlier entry
-  Ok (earlier ++ value ∷ [])
-
--- The entries from this index on, after the earlier ones: the first fault is that of the first entry that has one.
-unfoldable pub entries_from : {A : Type 0} → Part → (List A → EntryData → Result A ConfigFault) → ℕ → List A → Items → Result (List A) ConfigFault
-entries_from part read index earlier no_items = Ok earlier
-entries_from part read index earlier (item d ds) = do
-  entries ← and_entry part read index earlier d
-  entries_from part read (index + 1) entries ds
-
--- the items of a list, which is empty where it is absent
-unfoldable pub items_in : Part → ℕ → Option Data → Result Items ConfigFault
-items_in part most None = Ok no_items
-items_in part most (Some d) = do
-  ds ← ok_or (as_array d) (BadValue (record { part = part; index = 0; key = keys.List }))
-  few ← refuse_if (nat_lt most (count_items ds)) (TooMany part)
-  Ok ds
-
--- the items of a part's list
-abbrev pub items_at : Part → ℕ → Members → Result Items ConfigFault
-items_at part most members = items_in part most (get_member (part_name part) members)
-
--- a part's list of at most so many entries
-unfoldable pub list_of : {A : Type 0} → Part → ℕ → (List A → EntryData → Result A ConfigFault) → Members → Result (List A) ConfigFault
-list_of part most read members = do
-  ds ← items_at part most members
-  entries_from part read 1 [] ds
 
 -- ---- parts
 
@@ -160,29 +89,21 @@ abbrev pub overlap : List Pool → Bool
 overlap [] = false
 overlap (pool ∷ pools) = list_any (share pool) pools || overlap pools
 
--- the place of the user with this name, octet for octet
-abbrev pub user_place : List User → List ℕ → Option ℕ
-user_place users name = position (λ user. bytes_eq name user.name) users
-
--- a user, whose name no earlier one has
-unfoldable pub user_in : List Pool → List User → EntryData → Result User ConfigFault
-user_in pools earlier e = do
-  name ← value e rows.user_name
-  new ← refuse_if (is_some (user_place earlier name)) (BadValue (spot e keys.Name))
-  password ← value e rows.password
+-- What an entry says of users beside these pools; a challenge or an answer may be missing unless it is needed.
+unfoldable pub profile_in : List Pool → Bool → Bool → EntryData → Result Profile ConfigFault
+profile_in pools needs_challenge needs_answer e = do
   pool ← value e (rows.user_pool pools)
   sessions ← value e rows.sessions
   service ← value e rows.service
   protocol ← value e rows.protocol
   timeout ← value e rows.timeout
   message ← value e rows.message
-  challenge ← value e (rows.challenge (has_key e keys.Answer))
-  answer ← value e (rows.answer (has_key e keys.Challenge))
+  challenge ← value e (rows.challenge needs_challenge)
+  answer ← value e (rows.answer needs_answer)
   challenges ← value e rows.user_challenges
   grants ← value e rows.grants
   Ok (record {
-    name = name;
-    password = password;
+    address = None;
     pool = pool;
     sessions = sessions;
     service = service;
@@ -195,9 +116,135 @@ user_in pools earlier e = do
     grants = grants;
   })
 
+-- the group that an entry names, if there is one of that name
+abbrev pub group_of : List Group → EntryData → Option Group
+group_of groups e = group_at groups (option_and_then (named_group groups) (at_key e keys.Group))
+
+-- whether an entry names a group that isn't there
+abbrev pub names_no_group : List Group → EntryData → Bool
+names_no_group groups e = has_key e keys.Group && not (is_some (group_of groups e))
+
+-- what an Access-Accept has room for: 4,096 octets are the packet's header, its Message-Authenticator, this, and 3,584 of Proxy-States
+abbrev pub accept_max : ℕ
+accept_max = 474
+
+-- the size of an attribute of so many octets, if there is one
+abbrev pub size_if_any : {A : Type 0} → ℕ → Option A → ℕ
+size_if_any octets None = 0
+size_if_any octets (Some one) = octets
+
+abbrev pub text_size : Option (List ℕ) → ℕ
+text_size None = 0
+text_size (Some text) = length text + 2
+
+-- the size of what an Access-Accept has: its Class, what is said of the user, and the reply
+abbrev pub accept_size : Profile → List Attribute → ℕ
+accept_size said reply =
+    14 + size_if_any 6 said.service + size_if_any 6 said.protocol + size_if_any 6 said.pool + size_if_any 6 said.address
+    + size_if_any 6 said.timeout + text_size said.message + size reply
+
+abbrev pub is_too_long : Profile → List Attribute → Bool
+is_too_long said reply = nat_lt accept_max (accept_size said reply)
+
+-- what the group that an entry names says of its users
+abbrev pub said_before : List Group → EntryData → Profile
+said_before groups e = profile_of (group_of groups e)
+
+-- an entry's own reply after that of the group that it names
+abbrev pub whole_reply : List Group → EntryData → List Attribute → List Attribute
+whole_reply groups e own = reply_of (group_of groups e) ++ own
+
+-- A group, whose name no earlier one has. The group that it names is an earlier one.
+unfoldable pub group_in : List Pool → List Group → EntryData → Result Group ConfigFault
+group_in pools earlier e = do
+  name ← value e rows.group_name
+  new ← refuse_if (is_some (group_place earlier name)) (BadValue (spot e keys.Name))
+  there ← refuse_if (names_no_group earlier e) (BadValue (spot e keys.Group))
+  own ← profile_in pools false false e
+  reply ← reply_in e
+  fits ← refuse_if (is_too_long blank (whole_reply earlier e reply)) (BadValue (spot e keys.Reply))
+  Ok (record {
+    name = name;
+    profile = over own (said_before earlier e);
+    reply = record { code = code_access_accept; attributes = whole_reply earlier e reply };
+  })
+
+-- the place of the user with this name, octet for octet
+abbrev pub user_place : List User → List ℕ → Option ℕ
+user_place users name = position (λ user. bytes_eq name user.name) users
+
+-- whether a challenge has to be said, and an answer: where the other is, and the group has none
+abbrev pub needs_challenge : Profile → EntryData → Bool
+needs_challenge group e = (has_key e keys.Answer || is_some group.answer) && not (is_some group.challenge)
+
+abbrev pub needs_answer : Profile → EntryData → Bool
+needs_answer group e = (has_key e keys.Challenge || is_some group.challenge) && not (is_some group.answer)
+
+-- whether an address is this one
+abbrev pub is_that : ℕ → Option ℕ → Bool
+is_that address None = false
+is_that address (Some own) = nat_eq address own
+
+-- whether a user has the address
+abbrev pub has_own : ℕ → User → Bool
+has_own address user = is_that address user.address
+
+-- whether it is one of a pool's
+abbrev pub is_within : ℕ → Pool → Bool
+is_within address pool = nat_le pool.first address && nat_le address pool.last
+
+-- whether some user has it, or a pool
+abbrev pub is_given : List Pool → List User → ℕ → Bool
+is_given pools earlier address = list_any (has_own address) earlier || list_any (is_within address) pools
+
+-- whether a user can't have the address of their own that the entry says, if it says one: beside a pool or a number of sessions, or
+-- where it is given already
+abbrev pub is_misplaced : List Pool → List User → Option ℕ → EntryData → Bool
+is_misplaced pools earlier None e = false
+is_misplaced pools earlier (Some address) e = has_key e keys.Pool || has_key e keys.Sessions || is_given pools earlier address
+
+-- What a user's entry says beside what its group says, with an address of the user's own.
+unfoldable pub own_in : List Pool → List User → Profile → EntryData → Result Profile ConfigFault
+own_in pools earlier group e = do
+  own ← profile_in pools (needs_challenge group e) (needs_answer group e) e
+  address ← value e rows.user_address
+  apart ← refuse_if (is_misplaced pools earlier address e) (BadValue (spot e keys.Address))
+  Ok (record own { address = address })
+
+-- a user of whom this is said
+abbrev pub user_with : List ℕ → List ℕ → Profile → List Attribute → User
+user_with name password said reply = record {
+  name = name;
+  password = password;
+  address = said.address;
+  pool = said.pool;
+  sessions = unwrap_or said.sessions 1;
+  service = said.service;
+  protocol = said.protocol;
+  timeout = said.timeout;
+  message = said.message;
+  challenge = said.challenge;
+  answer = said.answer;
+  challenges = said.challenges;
+  grants = said.grants;
+  reply = record { code = code_access_accept; attributes = reply };
+}
+
+-- A user, whose name no earlier one has. What the entry doesn't say its group says.
+unfoldable pub user_in : List Pool → List Group → List User → EntryData → Result User ConfigFault
+user_in pools groups earlier e = do
+  name ← value e rows.user_name
+  new ← refuse_if (is_some (user_place earlier name)) (BadValue (spot e keys.Name))
+  password ← value e rows.password
+  there ← refuse_if (names_no_group groups e) (BadValue (spot e keys.Group))
+  own ← own_in pools earlier (said_before groups e) e
+  reply ← reply_in e
+  fits ← refuse_if (is_too_long (over own (said_before groups e)) (whole_reply groups e reply)) (BadValue (spot e keys.Reply))
+  Ok (user_with name password (over own (said_before groups e)) (whole_reply groups e reply))
+
 -- ---- the whole
 
--- the clients and their shares, the pools, and the users beside these pools
+-- the clients and their shares, the pools, the groups beside these, and the users
 abbrev pub clients_of : Members → Result (List Client) ConfigFault
 clients_of members = list_of parts.Client clients_max client_in members
 
@@ -207,8 +254,11 @@ shares_of members = list_of parts.Client clients_max share_in members
 abbrev pub pools_of : Members → Result (List Pool) ConfigFault
 pools_of members = list_of parts.Pool pools_max pool_in members
 
-abbrev pub users_of : List Pool → Members → Result (List User) ConfigFault
-users_of pools members = list_of parts.User users_max (user_in pools) members
+abbrev pub groups_of : List Pool → Members → Result (List Group) ConfigFault
+groups_of pools members = list_of parts.Group groups_max (group_in pools) members
+
+abbrev pub users_of : List Pool → List Group → Members → Result (List User) ConfigFault
+users_of pools groups members = list_of parts.User users_max (user_in pools groups) members
 
 abbrev pub top : Members → EntryData
 top members = record { part = parts.Top; index = 0; members = members }
@@ -243,7 +293,8 @@ configuration_of text = do
   clients ← clients_of members
   shares ← shares_of members
   pools ← separate_pools members
-  users ← users_of pools members
+  groups ← groups_of pools members
+  users ← users_of pools groups members
   Ok (record {
     window = spans.window;
     hold = spans.hold;

@@ -8,11 +8,15 @@ use Rattle.toml.specs.Data.{Data, as_str, as_integer, as_bool}
 use Rattle.rad_packet.specs.Attributes.{value_max}
 use Rattle.rad_auth.specs.Clients.{secret_max}
 use Rattle.rad_auth.specs.Passwords.{password_max}
+use Rattle.rad_dictionary.specs.Parts.{Giving, Naming}
+use Rattle.rad_dictionary.specs.Parts as parts
+use Rattle.rad_dictionary.specs.Values.{tag_max}
 use Rattle.rad_text.specs.Decimals.{address_of}
 use Rattle.rad_config_fault.specs.declared.config_fault.Key.{Key}
 use Rattle.rad_config_fault.specs.declared.config_fault.Key.TheVariants as keys
 use Rattle.rad_config.specs.Networks.{network_of}
 use Rattle.rad_config.specs.declared.network.Network.{Network}
+use Rattle.rad_config.specs.Profiles.{Group}
 use Rattle.rad_config.specs.declared.pool.Pool.{Pool}
 
 -- ---- rows
@@ -39,6 +43,20 @@ optional key fit = record { key = key; fit = λ d. option_map Some (fit d); abse
 -- a key that may be absent unless it is needed
 abbrev pub optional_unless : {A : Type 0} → Bool → Key → (Data → Option A) → Row (Option A)
 optional_unless needed key fit = record { key = key; fit = λ d. option_map Some (fit d); absent = if needed then None else Some None }
+
+-- ---- bounds
+
+-- The addresses of pools and users. Framed-IP-Address gives the two highest ones a meaning of their own (RFC 2865, section 5.8).
+abbrev pub address_max : ℕ
+address_max = 4294967293
+
+-- how far the last address of a pool may be above its first
+abbrev pub above_first_max : ℕ
+above_first_max = 65535
+
+-- the greatest number of four octets, which is the greatest address too
+abbrev pub number_max : ℕ
+number_max = 4294967295
 
 -- ---- kinds of values
 
@@ -80,19 +98,33 @@ pool_place pools name = position (λ pool. bytes_eq name pool.name) pools
 abbrev pub named_pool : List Pool → Data → Option ℕ
 named_pool pools d = option_and_then (pool_place pools) (as_str d)
 
--- ---- bounds
+-- the place of the group with this name
+abbrev pub group_place : List Group → List ℕ → Option ℕ
+group_place groups name = position (λ group. bytes_eq name group.name) groups
 
--- The addresses of pools. Framed-IP-Address gives the two highest ones a meaning of their own (RFC 2865, section 5.8).
-abbrev pub address_max : ℕ
-address_max = 4294967293
+abbrev pub named_group : List Group → Data → Option ℕ
+named_group groups d = option_and_then (group_place groups) (as_str d)
 
--- how far the last address of a pool may be above its first
-abbrev pub above_first_max : ℕ
-above_first_max = 65535
+-- a text as a name, or a number as a Type
+abbrev pub name_or_type : Option (List ℕ) → Data → Option Naming
+name_or_type (Some name) d = Some (parts.name name)
+name_or_type None d = option_map parts.kind (number 1 255 d)
 
--- the greatest number of four octets, which is the greatest address too
-abbrev pub number_max : ℕ
-number_max = 4294967295
+-- what names an attribute: under a vendor a number; else a name or a Type
+abbrev pub named_attribute : Option ℕ → Data → Option Naming
+named_attribute (Some vendor) d = option_map (parts.of_vendor vendor) (number 1 255 d)
+named_attribute None d = name_or_type (as_str d) d
+
+-- what is given as an attribute's Value: a text, or a number
+abbrev pub text_or_number : Option (List ℕ) → Data → Option Giving
+text_or_number (Some text) d = Some (parts.text text)
+text_or_number None d = option_map parts.number (number 0 number_max d)
+
+abbrev pub given_value : Data → Option Giving
+given_value d = text_or_number (as_str d) d
+
+abbrev pub given_hex : Data → Option Giving
+given_hex d = option_map parts.hex (as_str d)
 
 -- ---- the table, part by part, in the order in which keys are checked
 
@@ -140,8 +172,8 @@ password = required keys.Password (text_without_zero 1 password_max)
 abbrev pub user_pool : List Pool → Row (Option ℕ)
 user_pool pools = optional keys.Pool (named_pool pools)
 
-abbrev pub sessions : Row ℕ
-sessions = with_default 1 keys.Sessions (number 1 4096)
+abbrev pub sessions : Row (Option ℕ)
+sessions = optional keys.Sessions (number 1 4096)
 
 abbrev pub service : Row (Option ℕ)
 service = optional keys.Service (number 0 number_max)
@@ -168,3 +200,31 @@ user_challenges = optional keys.Challenges (number 1 1024)
 
 abbrev pub grants : Row (Option ℕ)
 grants = optional keys.Grants (number 1 65536)
+
+-- an address of the user's own
+abbrev pub user_address : Row (Option ℕ)
+user_address = optional keys.Address (address 1 address_max)
+
+abbrev pub group_name : Row (List ℕ)
+group_name = required keys.Name (text 1 64)
+
+-- ---- an attribute of a reply
+
+-- the number of a vendor, whose high octet is zero (RFC 2865, section 5.26)
+abbrev pub vendor : Row (Option ℕ)
+vendor = optional keys.Vendor (number 1 16777215)
+
+-- an attribute by its name or its Type, or by a vendor's number and its own
+abbrev pub attribute : Option ℕ → Row Naming
+attribute vendor = required keys.Attribute (named_attribute vendor)
+
+abbrev pub tag : Row (Option ℕ)
+tag = optional keys.Tag (number 1 tag_max)
+
+-- a number or a text
+abbrev pub attribute_value : Row Giving
+attribute_value = required keys.Value given_value
+
+-- hex digits
+abbrev pub attribute_hex : Row Giving
+attribute_hex = required keys.Hex given_hex

@@ -1,11 +1,14 @@
 pub mod Configurations
+pub mod Entries
 pub use Rattle.rad_config_fault.specs.Faults
 pub mod Inputs
 pub mod Keys
 pub mod Networks
+pub mod Profiles
 pub mod Ranges
 pub mod ReadEntries
 pub mod Readers
+pub mod Replies
 pub mod Spans
 pub mod UserTables
 pub mod Views

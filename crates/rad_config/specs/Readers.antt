@@ -5,7 +5,13 @@ use Rattle.toml.specs.Data.{Data, Items}
 use Rattle.toml.specs.View.{items_view}
 use Rattle.toml.specs.declared.value.Value.{Value}
 use Rattle.rad_auth.specs.Clients.{Client}
-use Rattle.rad_config.specs.Configurations.{Gives, and_entry, client_in, entries_from, pool_in, share_in, user_in, value}
+use Rattle.rad_config.specs.Configurations.{client_in, group_in, pool_in, share_in, user_in}
+use Rattle.rad_config.specs.Entries.{and_entry, entries_from, value}
+use Rattle.rad_config_fault.specs.Faults.{Gives}
+use Rattle.rad_packet.specs.Attributes.{Attribute}
+use Rattle.rad_config_fault.specs.declared.config_fault.Part.{Part}
+use Rattle.rad_config.specs.Profiles.{Group}
+use Rattle.rad_config.specs.Replies.{attribute_in}
 use Rattle.rad_config.specs.Keys.{Row}
 use Rattle.rad_config.specs.Ranges.{HasLength}
 use Rattle.rad_config.specs.Views.{entry_data}
@@ -32,7 +38,7 @@ HasRowLength row text = HasLength row.least row.most text.now
 abbrev pub found_items : Bor (List Value) → Items
 found_items items = items_view items.now
 
--- the clients, their shares, the pools, and the users beside these pools, that items are
+-- the clients, their shares, the pools, the groups beside these pools, and the users, that items are
 abbrev pub clients_from : Items → Result (List Client) ConfigFault
 clients_from items = entries_from parts.Client client_in 1 [] items
 
@@ -42,10 +48,13 @@ shares_from items = entries_from parts.Client share_in 1 [] items
 abbrev pub pools_from : Items → Result (List Pool) ConfigFault
 pools_from items = entries_from parts.Pool pool_in 1 [] items
 
-abbrev pub users_from : List Pool → Items → Result (List User) ConfigFault
-users_from pools items = entries_from parts.User (user_in pools) 1 [] items
+abbrev pub groups_from : List Pool → Items → Result (List Group) ConfigFault
+groups_from pools items = entries_from parts.Group (group_in pools) 1 [] items
 
--- the earlier clients, shares, pools and users, and the one that an item is
+abbrev pub users_from : List Pool → List Group → Items → Result (List User) ConfigFault
+users_from pools groups items = entries_from parts.User (user_in pools groups) 1 [] items
+
+-- the earlier clients, shares, pools, groups and users, and the one that an item is
 abbrev pub and_client : ℕ → List Client → Data → Result (List Client) ConfigFault
 and_client index earlier d = and_entry parts.Client client_in index earlier d
 
@@ -55,5 +64,12 @@ and_share index earlier d = and_entry parts.Client share_in index earlier d
 abbrev pub and_pool : ℕ → List Pool → Data → Result (List Pool) ConfigFault
 and_pool index earlier d = and_entry parts.Pool pool_in index earlier d
 
-abbrev pub and_user : List Pool → ℕ → List User → Data → Result (List User) ConfigFault
-and_user pools index earlier d = and_entry parts.User (user_in pools) index earlier d
+abbrev pub and_group : List Pool → ℕ → List Group → Data → Result (List Group) ConfigFault
+and_group pools index earlier d = and_entry parts.Group (group_in pools) index earlier d
+
+abbrev pub and_user : List Pool → List Group → ℕ → List User → Data → Result (List User) ConfigFault
+and_user pools groups index earlier d = and_entry parts.User (user_in pools groups) index earlier d
+
+-- the earlier attributes of a reply, and the one that an item is
+abbrev pub and_attribute : Part → ℕ → List Attribute → Data → Result (List Attribute) ConfigFault
+and_attribute part index earlier d = and_entry part attribute_in index earlier d

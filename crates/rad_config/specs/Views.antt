@@ -4,7 +4,7 @@ use Rattle.std.specs.Borrow.{Bor}
 use Rattle.toml.specs.Data.{Data, as_bool}
 use Rattle.toml.specs.View.{view, table_view}
 use Rattle.toml.specs.declared.value.Value.{Value}
-use Rattle.rad_config.specs.Configurations.{EntryData}
+use Rattle.rad_config.specs.Entries.{EntryData}
 use Rattle.rad_config.specs.Keys.{Row, required, with_default, optional, optional_unless, number, address, network, text, text_without_zero}
 use Rattle.rad_config.specs.declared.entry.Entry.{Entry}
 use Rattle.rad_config.specs.declared.keys.AddressRow.{AddressRow}
@@ -35,6 +35,10 @@ flag_row row = with_default row.default row.key as_bool
 -- an address whose key has to be present
 abbrev pub address_row : AddressRow → Row ℕ
 address_row row = required row.key (address row.least row.most)
+
+-- an address whose key may be absent
+abbrev pub optional_address_row : AddressRow → Row (Option ℕ)
+optional_address_row row = optional row.key (address row.least row.most)
 
 -- a network whose key has to be present
 abbrev pub network_row : NetworkRow → Row Network

@@ -3,13 +3,14 @@ ghost use Rattle.std.specs.Prelude.{◌≡◌, ◌≤◌, All, IfOk, IfSome, fal
 ghost use Rattle.std.specs.Int.{IsInRange};
 ghost use Rattle.toml.specs.Parse.{parse_document};
 ghost use Rattle.toml.specs.View.{table_view};
-ghost use Rattle.rad_config.specs.Configurations.{Gives, is_below, ordered_spans, overlap, pools_max, separate_pools};
+ghost use Rattle.rad_config.specs.Configurations.{is_below, ordered_spans, overlap, pools_max, separate_pools};
+ghost use Rattle.rad_config_fault.specs.Faults.{Gives};
 ghost use Rattle.rad_config.specs.Ranges.{IsPool};
 ghost use Rattle.rad_config.specs.Spans.{milliseconds};
 
 use crate::entry::Entry;
 use crate::keys::{HOLD, STALE, WINDOW};
-use crate::lists::{read_clients, read_pools, read_shares, read_users};
+use crate::lists::{read_clients, read_groups, read_pools, read_shares, read_users};
 use crate::pool::Pool;
 use crate::read_pool::some_overlap;
 use crate::same::{same_pools, same_shares, same_users};
@@ -63,7 +64,8 @@ impl Model for Config {
 
 impl Config {
     ghost use Rattle.std.specs.Prelude.{◌≡◌, ◌<◌, ◌↔◌, IsTrue, length, slice_get, IfSome, Some};
-    ghost use Rattle.rad_config.specs.Configurations.{Gives, configuration_of, share_of, user_place};
+    ghost use Rattle.rad_config.specs.Configurations.{configuration_of, share_of, user_place};
+    ghost use Rattle.rad_config_fault.specs.Faults.{Gives};
     ghost use Rattle.rad_config.specs.Ranges.{HasShare, IsConfiguration, IsPool, IsUser};
     ghost use Rattle.rad_config.specs.Spans.{spans_of};
 
@@ -71,7 +73,7 @@ impl Config {
     ///
     /// The text is TOML; `docs/FORMATS.md` has the table of its keys. Checks are made in this order: `Syntax`; the keys at the
     /// top, then `HoldBelowWindow`, then `StaleBelowWindow`; the clients, and then their shares; the pools, then `PoolsOverlap`;
-    /// the users. A list must be an array (`BadValue`), and not too long (`TooMany`); then each entry is checked in order, key by
+    /// the groups; the users. A list must be an array (`BadValue`), and not too long (`TooMany`); then each entry is checked in order, key by
     /// key in the table's order. If an allocation fails, `NoMemory` is returned before any later check.
     #[tactic(auto, unfolding(crate::specs::Configurations::configuration_of, crate::specs::Configurations::separate_pools))]
     pub fn read(alloc: Global, text: &str) -> Result<Config, ConfigFault>
@@ -82,7 +84,8 @@ impl Config {
         let clients = read_clients(alloc, &document)?;
         let shares = read_shares(alloc, &document)?;
         let pools = separate_pools(alloc, &document)?;
-        let users = read_users(alloc, &pools, &document)?;
+        let groups = read_groups(alloc, &pools, &document)?;
+        let users = read_users(alloc, &pools, &groups, &document)?;
         let Times {
             window,
             hold,

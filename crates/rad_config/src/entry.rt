@@ -5,7 +5,7 @@ use crate::network::Network;
 use rad_config_fault::{ConfigFault, Key, Part, Spot};
 use toml::{Table, Value};
 
-/// A table of the text: an entry of a part, whose index counts from 1, or the top with index 0.
+/// A table of the text: an entry of a part or an attribute of its reply, whose index counts from 1, or the top with index 0.
 #[derive(Clone, Copy)]
 pub struct Entry<'a> {
     pub part: Part,
@@ -17,10 +17,10 @@ impl<'a> Entry<'a> {
     ghost use Rattle.std.specs.Prelude.{◌≡◌, ◌||◌, IfOk, IfSome};
     ghost use Rattle.std.specs.Int.{IsInRange};
     ghost use Rattle.std.specs.Option.{option_copied};
-    ghost use Rattle.rad_config.specs.Configurations.{at_key, has_key, spot};
+    ghost use Rattle.rad_config.specs.Entries.{at_key, has_key, spot};
     ghost use Rattle.rad_config.specs.Networks.{IsNetwork};
     ghost use Rattle.rad_config.specs.Readers.{FoundIf, GivesValue, HasRowLength};
-    ghost use Rattle.rad_config.specs.Views.{address_row, data_of, entry_data, flag_row, network_row, number_row, required_text_row, default_row, text_row, text_row_unless};
+    ghost use Rattle.rad_config.specs.Views.{address_row, data_of, entry_data, flag_row, network_row, number_row, optional_address_row, required_text_row, default_row, text_row, text_row_unless};
 
     /// Where a fault at a key is.
     pub fn spot(&self, key: Key) -> Spot
@@ -49,7 +49,7 @@ impl<'a> Entry<'a> {
     }
 
     /// The number at a key that may be absent.
-    #[tactic(auto, unfolding(crate::specs::Configurations::value))]
+    #[tactic(auto, unfolding(crate::specs::Entries::value))]
     pub fn number(&self, row: &NumberRow) -> Result<Option<u32>, ConfigFault>
         ensures read { GivesValue (λ found. found) result self.now (number_row row.now) }
         ensures range { IfOk result (λ found. IfSome found (IsInRange row.now.least row.now.most)) }
@@ -62,7 +62,7 @@ impl<'a> Entry<'a> {
     }
 
     /// The number at a key, or its default.
-    #[tactic(auto, unfolding(crate::specs::Configurations::value))]
+    #[tactic(auto, unfolding(crate::specs::Entries::value))]
     pub fn number_or_default(&self, row: &DefaultRow) -> Result<u32, ConfigFault>
         requires { IsInRange row.now.number.least row.now.number.most row.now.default }
         ensures read { GivesValue (λ number. number) result self.now (default_row row.now) }
@@ -73,7 +73,7 @@ impl<'a> Entry<'a> {
     }
 
     /// The flag at a key, or its default.
-    #[tactic(auto, unfolding(crate::specs::Configurations::value))]
+    #[tactic(auto, unfolding(crate::specs::Entries::value))]
     pub fn flag_or_default(&self, row: &FlagRow) -> Result<bool, ConfigFault>
         ensures { GivesValue (λ flag. flag) result self.now (flag_row row.now) }
     {
@@ -84,7 +84,7 @@ impl<'a> Entry<'a> {
     }
 
     /// The address at a required key.
-    #[tactic(auto, unfolding(crate::specs::Configurations::value))]
+    #[tactic(auto, unfolding(crate::specs::Entries::value))]
     pub fn address(&self, row: &AddressRow) -> Result<u32, ConfigFault>
         ensures read { GivesValue (λ address. address) result self.now (address_row row.now) }
         ensures range { IfOk result (IsInRange row.now.least row.now.most) }
@@ -93,8 +93,21 @@ impl<'a> Entry<'a> {
         row.fit(value).ok_or(self.bad(row.key))
     }
 
+    /// The address at a key that may be absent.
+    #[tactic(auto, unfolding(crate::specs::Entries::value))]
+    pub fn address_if_any(&self, row: &AddressRow) -> Result<Option<u32>, ConfigFault>
+        ensures read { GivesValue (λ found. found) result self.now (optional_address_row row.now) }
+        ensures range { IfOk result (λ found. IfSome found (IsInRange row.now.least row.now.most)) }
+    {
+        let Some(value) = self.get(row.key) else {
+            return Ok(None);
+        };
+        let address = row.fit(value).ok_or(self.bad(row.key))?;
+        Ok(Some(address))
+    }
+
     /// The network at a required key.
-    #[tactic(auto, unfolding(crate::specs::Configurations::value))]
+    #[tactic(auto, unfolding(crate::specs::Entries::value))]
     pub fn network(&self, row: &NetworkRow) -> Result<Network, ConfigFault>
         ensures read { GivesValue (λ network. network) result self.now (network_row row.now) }
         ensures fits { IfOk result IsNetwork }
@@ -104,7 +117,7 @@ impl<'a> Entry<'a> {
     }
 
     /// The octets of the text at a required key.
-    #[tactic(auto, unfolding(crate::specs::Configurations::value))]
+    #[tactic(auto, unfolding(crate::specs::Entries::value))]
     pub fn required_text(&self, row: &TextRow) -> Result<&'a [u8], ConfigFault>
         ensures read { GivesValue (λ text. text.now) result self.now (required_text_row row.now) }
         ensures range { IfOk result (HasRowLength row.now) }
@@ -114,7 +127,7 @@ impl<'a> Entry<'a> {
     }
 
     /// The octets of the text at a key that may be absent.
-    #[tactic(auto, unfolding(crate::specs::Configurations::value))]
+    #[tactic(auto, unfolding(crate::specs::Entries::value))]
     pub fn text(&self, row: &TextRow) -> Result<Option<&'a [u8]>, ConfigFault>
         ensures read { GivesValue option_copied result self.now (text_row row.now) }
         ensures range { IfOk result (λ found. IfSome found (HasRowLength row.now)) }
@@ -128,7 +141,7 @@ impl<'a> Entry<'a> {
     }
 
     /// The octets of the text at a key that is required if it is needed.
-    #[tactic(auto, unfolding(crate::specs::Configurations::value))]
+    #[tactic(auto, unfolding(crate::specs::Entries::value))]
     pub fn text_unless(&self, needed: bool, row: &TextRow) -> Result<Option<&'a [u8]>, ConfigFault>
         ensures read { GivesValue option_copied result self.now (text_row_unless needed row.now) }
         ensures range { IfOk result (λ found. IfSome found (HasRowLength row.now)) }
@@ -141,15 +154,15 @@ impl<'a> Entry<'a> {
         }
     }
 
-    // The fault of a key whose value doesn't fit.
-    fn bad(&self, key: Key) -> ConfigFault
+    /// The fault of a key whose value doesn't fit.
+    pub fn bad(&self, key: Key) -> ConfigFault
         ensures { result ≡ ConfigFault.BadValue (spot (entry_data self.now) key) }
     {
         ConfigFault::BadValue(self.spot(key))
     }
 
-    // The fault of a required key that is absent.
-    fn missing(&self, key: Key) -> ConfigFault
+    /// The fault of a required key that is absent.
+    pub fn missing(&self, key: Key) -> ConfigFault
         ensures { result ≡ ConfigFault.Missing (spot (entry_data self.now) key) }
     {
         ConfigFault::Missing(self.spot(key))

@@ -1,4 +1,4 @@
-//! The table of keys: which values fit each, and the defaults. A user's pool is any pool's name, so it has no row here.
+//! The table of keys: which values fit each, and the defaults. A user's pool and group are names of entries, so they have no rows here.
 ghost use Rattle.std.specs.Prelude.{◌≡◌, ◌+◌, min, IfSome};
 ghost use Rattle.std.specs.Int.{IsInRange};
 ghost use Rattle.std.specs.Option.{option_copied};
@@ -11,6 +11,7 @@ ghost use Rattle.rad_config.specs.Views.{text_fit};
 use crate::network::{Network, network_of};
 use rad_auth::{PASSWORD_MAX, SECRET_MAX};
 use rad_config_fault::Key;
+use rad_dictionary::TAG_MAX;
 use rad_packet::attribute::VALUE_MAX;
 use rad_text::decimal;
 use toml::Value;
@@ -109,7 +110,7 @@ pub const POOL_NAME: TextRow = TextRow {
     zeros: true,
 };
 
-// The highest address of a pool: Framed-IP-Address gives the two above it a meaning of their own (RFC 2865, section 5.8).
+// The highest address of a pool or a user: Framed-IP-Address gives the two above it a meaning of their own (RFC 2865, section 5.8).
 const ADDRESS_MAX: u32 = 4_294_967_293;
 
 /// From 0.0.0.1 to 255.255.255.253.
@@ -152,13 +153,10 @@ pub const PASSWORD: TextRow = TextRow {
     zeros: false,
 };
 
-pub const SESSIONS: DefaultRow = DefaultRow {
-    number: NumberRow {
-        key: Key::Sessions,
-        least: 1,
-        most: 4_096,
-    },
-    default: 1,
+pub const SESSIONS: NumberRow = NumberRow {
+    key: Key::Sessions,
+    least: 1,
+    most: 4_096,
 };
 
 /// In percent.
@@ -218,6 +216,46 @@ pub const GRANTS: NumberRow = NumberRow {
     key: Key::Grants,
     least: 1,
     most: 65_536,
+};
+
+/// From 0.0.0.1 to 255.255.255.253.
+pub const USER_ADDRESS: AddressRow = AddressRow {
+    key: Key::Address,
+    least: 1,
+    most: ADDRESS_MAX,
+};
+
+pub const GROUP_NAME: TextRow = TextRow {
+    key: Key::Name,
+    least: 1,
+    most: 64,
+    zeros: true,
+};
+
+/// A vendor's number, whose high octet is zero (RFC 2865, section 5.26).
+pub const VENDOR: NumberRow = NumberRow {
+    key: Key::Vendor,
+    least: 1,
+    most: 16_777_215,
+};
+
+/// An attribute by its Type, or by the number that its vendor gave it.
+pub const ATTRIBUTE: NumberRow = NumberRow {
+    key: Key::Attribute,
+    least: 1,
+    most: 255,
+};
+
+pub const TAG: NumberRow = NumberRow {
+    key: Key::Tag,
+    least: 1,
+    most: TAG_MAX as u32,
+};
+
+pub const VALUE: NumberRow = NumberRow {
+    key: Key::Value,
+    least: 0,
+    most: u32::MAX,
 };
 
 impl NumberRow {

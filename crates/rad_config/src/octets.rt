@@ -1,5 +1,6 @@
 //! A configuration as octets.
-ghost use Rattle.rad_config.specs.Configurations.{Gives, configuration_of_octets};
+ghost use Rattle.rad_config.specs.Configurations.{configuration_of_octets};
+ghost use Rattle.rad_config_fault.specs.Faults.{Gives};
 
 use crate::config::Config;
 use rad_config_fault::ConfigFault;

@@ -1,7 +1,8 @@
 //! Reading clients.
 ghost use Rattle.std.specs.Prelude.{◌≡◌, false, IfOk};
 ghost use Rattle.rad_auth.specs.Clients.{IsSecret, has_network};
-ghost use Rattle.rad_config.specs.Configurations.{Gives, client_in};
+ghost use Rattle.rad_config.specs.Configurations.{client_in};
+ghost use Rattle.rad_config_fault.specs.Faults.{Gives};
 ghost use Rattle.rad_config.specs.Networks.{IsNetwork};
 ghost use Rattle.rad_config.specs.ReadEntries.{entry_client};
 ghost use Rattle.rad_config.specs.Views.{entry_data};

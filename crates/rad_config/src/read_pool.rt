@@ -1,7 +1,8 @@
 //! Reading pools.
 ghost use Rattle.std.specs.Prelude.{◌≡◌, ◌<◌, ◌≤◌, IfOk, IfSome, length};
 ghost use Rattle.std.specs.List.{list_any};
-ghost use Rattle.rad_config.specs.Configurations.{Gives, overlap, pool_in, pools_max, share};
+ghost use Rattle.rad_config.specs.Configurations.{is_within, overlap, pool_in, pools_max, share};
+ghost use Rattle.rad_config_fault.specs.Faults.{Gives};
 ghost use Rattle.rad_config.specs.Keys.{pool_place, user_pool};
 ghost use Rattle.rad_config.specs.Ranges.{IsPool};
 ghost use Rattle.rad_config.specs.Readers.{GivesValue};
@@ -39,7 +40,7 @@ fn place_of(pools: &[Pool], name: &[u8]) -> Option<usize>
 }
 
 /// The place of the pool that a user's entry names.
-#[tactic(auto, unfolding(crate::specs::Configurations::value))]
+#[tactic(auto, unfolding(crate::specs::Entries::value))]
 pub fn read_pool_place(pools: &[Pool], entry: &Entry<'_>) -> Result<Option<u32>, ConfigFault>
     requires { length pools.now ≤ pools_max }
     ensures read { GivesValue (λ place. place) result entry.now (user_pool pools.now) }
@@ -52,6 +53,15 @@ pub fn read_pool_place(pools: &[Pool], entry: &Entry<'_>) -> Result<Option<u32>,
     let name = value.as_str().ok_or(bad)?;
     let place = place_of(pools, name.as_bytes()).ok_or(bad)?;
     Ok(Some(place as u32))
+}
+
+/// Whether one of the pools has this address.
+pub fn some_has(pools: &[Pool], address: u32) -> bool
+    ensures { result ≡ list_any (is_within address) pools.now }
+{
+    pools
+        .iter()
+        .any(|pool| pool.first <= address && address <= pool.last)
 }
 
 // Whether two pools share an address.

@@ -1,104 +1,173 @@
 //! Reading users.
-ghost use Rattle.std.specs.Prelude.{◌≡◌, ◌≤◌, length, IfOk, None};
+ghost use Rattle.std.specs.Prelude.{◌≡◌, ◌≤◌, ◌||◌, All, IfOk, None, is_some, length};
 ghost use Rattle.std.specs.Option.{option_copied};
-ghost use Rattle.rad_config.specs.Configurations.{Gives, pools_max, user_in, user_place};
-ghost use Rattle.rad_config.specs.Ranges.{IsUser};
-ghost use Rattle.rad_config.specs.ReadEntries.{entry_user};
+ghost use Rattle.rad_packet.specs.Codes.{code_access_accept};
+ghost use Rattle.rad_config.specs.Configurations.{is_given, is_misplaced, needs_answer, needs_challenge, own_in, pools_max, user_in, user_place};
+ghost use Rattle.rad_config_fault.specs.Faults.{Gives};
+ghost use Rattle.rad_config.specs.Entries.{has_key};
+ghost use Rattle.rad_config.specs.Ranges.{IsGroup, IsProfile, IsUser};
+ghost use Rattle.rad_config.specs.ReadEntries.{entry_user, groups_seen, profile_seen};
 ghost use Rattle.rad_config.specs.Views.{entry_data};
 
 use crate::entry::Entry;
-use crate::keys::{
-    ANSWER, CHALLENGE, GRANTS, MESSAGE, PASSWORD, PROTOCOL, SERVICE, SESSIONS, TIMEOUT,
-    USER_CHALLENGES, USER_NAME,
-};
+use crate::keys::{PASSWORD, USER_ADDRESS, USER_NAME};
 use crate::pool::Pool;
-use crate::read_pool::read_pool_place;
+use crate::profile::Profile;
+use crate::read_group::{Group, after_group, group_of, is_too_long, names_no_group, profile_of};
+use crate::read_pool::some_has;
+use crate::read_profile::read_profile;
+use crate::read_reply::read_reply;
 use crate::text::Text;
 use crate::user::{User, Users};
 use rad_config_fault::{ConfigFault, Key};
+use rad_packet::Body;
 use std::alloc::{AllocError, Global};
 
-/// What an entry says of a user.
-#[derive(Clone, Copy)]
+/// What an entry says of a user, and what its group says.
+#[derive(Drop)]
 pub struct UserEntry<'a> {
     pub name: &'a [u8],
     pub password: &'a [u8],
-    pub pool: Option<u32>,
-    pub sessions: u32,
-    pub service: Option<u32>,
-    pub protocol: Option<u32>,
-    pub timeout: Option<u32>,
-    pub message: Option<&'a [u8]>,
-    pub challenge: Option<&'a [u8]>,
-    pub answer: Option<&'a [u8]>,
-    pub challenges: Option<u32>,
-    pub grants: Option<u32>,
+    pub profile: Profile<'a>,
+    pub reply: Body,
 }
 
-/// The user that an entry says, whose name no earlier one has.
+/// The user that an entry says beside these pools and groups, whose name no earlier one has.
 #[tactic(auto, unfolding(crate::specs::Configurations::user_in))]
 pub fn read_user<'a>(
+    alloc: Global,
     pools: &[Pool],
+    groups: &[Group<'a>],
     earlier: &Users,
     entry: &Entry<'a>,
 ) -> Result<UserEntry<'a>, ConfigFault>
-    requires { length pools.now ≤ pools_max }
-    ensures read { Gives entry_user result (user_in pools.now earlier.now (entry_data entry.now)) }
+    requires pools { length pools.now ≤ pools_max }
+    requires groups { All (IsGroup (length pools.now)) (groups_seen groups.now) }
+    ensures read { Gives entry_user result
+        (user_in pools.now (groups_seen groups.now) earlier.now (entry_data entry.now)) }
+    ensures accept { IfOk result (λ user. user.reply.code ≡ code_access_accept) }
     ensures new { IfOk result (λ user. user_place earlier.now user.name.now ≡ None) }
     ensures range { IfOk result (λ user. IsUser (length pools.now) (entry_user user)) }
 {
     let name = entry.required_text(&USER_NAME)?;
     if earlier.find(name).is_some() {
-        return Err(ConfigFault::BadValue(entry.spot(Key::Name)));
+        return Err(entry.bad(Key::Name));
     }
     let password = entry.required_text(&PASSWORD)?;
-    let pool = read_pool_place(pools, entry)?;
-    let sessions = entry.number_or_default(&SESSIONS)?;
-    let service = entry.number(&SERVICE)?;
-    let protocol = entry.number(&PROTOCOL)?;
-    let timeout = entry.number(&TIMEOUT)?;
-    let message = entry.text(&MESSAGE)?;
-    let challenge = entry.text_unless(entry.has(Key::Answer), &CHALLENGE)?;
-    let answer = entry.text_unless(entry.has(Key::Challenge), &ANSWER)?;
-    let challenges = entry.number(&USER_CHALLENGES)?;
-    let grants = entry.number(&GRANTS)?;
+    let group = group_of(groups, entry);
+    if names_no_group(group, entry) {
+        return Err(entry.bad(Key::Group));
+    }
+    let said = profile_of(group);
+    let own = read_own(pools, earlier, &said, entry)?;
+    let reply = read_reply(alloc, entry)?;
+    let reply = after_group(group, reply)?;
+    let profile = own.over(said);
+    if is_too_long(&profile, &reply) {
+        return Err(entry.bad(Key::Reply));
+    }
     Ok(UserEntry {
         name,
         password,
-        pool,
-        sessions,
-        service,
-        protocol,
-        timeout,
-        message,
-        challenge,
-        answer,
-        challenges,
-        grants,
+        profile,
+        reply,
     })
+}
+
+// What a user's entry says beside what its group says, with an address of the user's own.
+#[tactic(auto, unfolding(crate::specs::Configurations::own_in))]
+fn read_own<'a>(
+    pools: &[Pool],
+    earlier: &Users,
+    group: &Profile<'_>,
+    entry: &Entry<'a>,
+) -> Result<Profile<'a>, ConfigFault>
+    requires { length pools.now ≤ pools_max }
+    ensures read { Gives profile_seen result
+        (own_in pools.now earlier.now (profile_seen group.now) (entry_data entry.now)) }
+    ensures range { IfOk result (λ own. IsProfile (length pools.now) (profile_seen own)) }
+    ensures challenge { IfOk result (λ own. is_some own.challenge
+        ≡ (needs_challenge (profile_seen group.now) (entry_data entry.now)
+        || has_key (entry_data entry.now) Key.Challenge)) }
+    ensures answer { IfOk result (λ own. is_some own.answer
+        ≡ (needs_answer (profile_seen group.now) (entry_data entry.now)
+        || has_key (entry_data entry.now) Key.Answer)) }
+{
+    let own = read_profile(
+        pools,
+        needs_challenge(group, entry),
+        needs_answer(group, entry),
+        entry,
+    )?;
+    let address = entry.address_if_any(&USER_ADDRESS)?;
+    if is_misplaced(pools, earlier, address, entry) {
+        return Err(entry.bad(Key::Address));
+    }
+    Ok(Profile { address, ..own })
+}
+
+// Whether a user can't have the address of their own that the entry says, if it says one.
+fn is_misplaced(pools: &[Pool], earlier: &Users, address: Option<u32>, entry: &Entry<'_>) -> bool
+    ensures { result ≡ is_misplaced pools.now earlier.now address (entry_data entry.now) }
+{
+    let Some(address) = address else {
+        return false;
+    };
+    entry.has(Key::Pool) || entry.has(Key::Sessions) || is_given(pools, earlier, address)
+}
+
+// Whether an earlier user has the address, or a pool.
+fn is_given(pools: &[Pool], earlier: &Users, address: u32) -> bool
+    ensures { result ≡ is_given pools.now earlier.now address }
+{
+    earlier.has_address(address) || some_has(pools, address)
+}
+
+// Whether a challenge has to be said: where an answer is, and the group has none.
+fn needs_challenge(group: &Profile<'_>, entry: &Entry<'_>) -> bool
+    ensures { result ≡ needs_challenge (profile_seen group.now) (entry_data entry.now) }
+{
+    (entry.has(Key::Answer) || group.answer.is_some()) && group.challenge.is_none()
+}
+
+// Whether an answer has to be said.
+fn needs_answer(group: &Profile<'_>, entry: &Entry<'_>) -> bool
+    ensures { result ≡ needs_answer (profile_seen group.now) (entry_data entry.now) }
+{
+    (entry.has(Key::Challenge) || group.challenge.is_some()) && group.answer.is_none()
 }
 
 impl<'a> UserEntry<'a> {
     ghost use Rattle.std.specs.Prelude.{◌≡◌, IfOk};
+    ghost use Rattle.rad_packet.specs.Codes.{code_access_accept};
     ghost use Rattle.rad_config.specs.ReadEntries.{entry_user};
 
     /// The user with octets of their own.
-    pub fn to_user(&self, alloc: Global) -> Result<User, AllocError>
-        ensures { IfOk result (λ user. user ≡ entry_user self.now) }
+    pub fn into_user(self, alloc: Global) -> Result<User, AllocError>
+        requires { self.reply.code ≡ code_access_accept }
+        ensures { IfOk result (λ user. user ≡ entry_user self.entry) }
     {
+        let UserEntry {
+            name,
+            password,
+            profile,
+            reply,
+        } = self;
         Ok(User {
-            name: Text::copy_of(alloc, self.name)?,
-            password: Text::copy_of(alloc, self.password)?,
-            pool: self.pool,
-            sessions: self.sessions,
-            service: self.service,
-            protocol: self.protocol,
-            timeout: self.timeout,
-            message: copy_of_some(alloc, self.message)?,
-            challenge: copy_of_some(alloc, self.challenge)?,
-            answer: copy_of_some(alloc, self.answer)?,
-            challenges: self.challenges,
-            grants: self.grants,
+            name: Text::copy_of(alloc, name)?,
+            password: Text::copy_of(alloc, password)?,
+            address: profile.address,
+            pool: profile.pool,
+            sessions: profile.sessions.unwrap_or(1),
+            service: profile.service,
+            protocol: profile.protocol,
+            timeout: profile.timeout,
+            message: copy_of_some(alloc, profile.message)?,
+            challenge: copy_of_some(alloc, profile.challenge)?,
+            answer: copy_of_some(alloc, profile.answer)?,
+            challenges: profile.challenges,
+            grants: profile.grants,
+            reply,
         })
     }
 }

@@ -54,11 +54,14 @@ fn same_user(user: &User, other: &User) -> bool
         && same_challenge(user, other)
 }
 
-// Who may enter, and from which pool.
+// Who may enter, and at which address or from which pool.
 fn same_access(user: &User, other: &User) -> bool
     ensures { IsTrue result ↔ HaveSameAccess user.now other.now }
 {
-    user.name.same(&other.name) && user.password.same(&other.password) && user.pool == other.pool
+    user.name.same(&other.name)
+        && user.password.same(&other.password)
+        && user.address == other.address
+        && user.pool == other.pool
 }
 
 // How much they may have.
@@ -78,6 +81,7 @@ fn same_attributes(user: &User, other: &User) -> bool
         && user.protocol == other.protocol
         && user.timeout == other.timeout
         && same_text(&user.message, &other.message)
+        && user.reply.same(&other.reply)
 }
 
 // What an Access-Challenge asks.

@@ -1,21 +1,31 @@
 //! Users, found by an index.
+ghost use Rattle.std.specs.Prelude.{◌≡◌, ◌<◌, ◌||◌, ℕ, nat_eq};
+ghost use Rattle.std.specs.List.{list_any};
+ghost use Rattle.indexmap.specs.IndexSet.{spare};
+ghost use Rattle.rad_config.specs.Configurations.{is_that};
+
 use crate::text::Text;
 use indexmap::IndexSet;
+use rad_packet::Body;
 use std::alloc::{AllocError, Global};
 use std::marker::Model;
 
 /// The most users that a configuration has.
-pub const USERS_MAX: usize = 4_096;
+pub const USERS_MAX: usize = 65_536;
 
 /// A user: who is granted access, and what a session of theirs is given.
 ///
 /// In a configuration the name, the message and the challenge have 1 to 253 octets, the password and the answer 1 to 128
-/// without a zero; `sessions` is 1 to 4,096, `pool` a pool's place, counted from 0, `timeout` at least 1, `challenges` 1 to 1,024 and
-/// `grants` 1 to 65,536. Challenge and answer are both there, or neither.
+/// without a zero; `address` is 0.0.0.1 to 255.255.255.253, `sessions` 1 to 4,096, `pool` a pool's place, counted from 0, `timeout` at least 1, `challenges` 1 to 1,024 and
+/// `grants` 1 to 65,536. Challenge and answer are both there, or neither. An Access-Accept with the reply fits a packet with as many
+/// Proxy-States as there may be.
 #[derive(Drop)]
 pub struct User {
     pub name: Text,
     pub password: Text,
+    /// The address of the user's own, which stands in no pool; without it addresses come from the pool, if there is one. Its most
+    /// significant octet comes first.
+    pub address: Option<u32>,
     /// The place of the pool that addresses come from.
     pub pool: Option<u32>,
     /// How many sessions there may be at a time, those included that haven't begun.
@@ -36,6 +46,8 @@ pub struct User {
     pub challenges: Option<u32>,
     /// How many sessions may be in the table, ended ones included; without it only the table's size limits them.
     pub grants: Option<u32>,
+    /// Further attributes of an Access-Accept, in the body of one.
+    pub reply: Body,
 }
 
 /// The users in the order of the text, at most `USERS_MAX`.
@@ -44,6 +56,8 @@ pub struct Users {
     rows: Vec<User>,
     // The users' names: a name has the place of its user.
     names: IndexSet<Vec<u8>>,
+    // The addresses of users' own.
+    addresses: IndexSet<u32>,
 }
 
 impl Model for Users {
@@ -55,12 +69,13 @@ impl Model for Users {
 
     ghost view = { λ users. users.rows.items };
 
-    ghost invariant = { λ users. KeepsUsers users.names.keys users.rows.items };
+    ghost invariant = { λ users. KeepsUsers users.names.keys users.addresses.keys users.rows.items };
 }
 
 impl Users {
     ghost use Rattle.std.specs.Prelude.{◌≡◌, ◌<◌, ◌≤◌, [], ◌∷◌, ◌++◌, length, OnOk, IfSome, None};
-    ghost use Rattle.rad_config.specs.Configurations.{user_place, users_max};
+    ghost use Rattle.std.specs.List.{list_any};
+    ghost use Rattle.rad_config.specs.Configurations.{has_own, user_place, users_max};
     ghost use Rattle.rad_config.specs.Ranges.{AreNamedApart};
 
     /// No users.
@@ -70,6 +85,7 @@ impl Users {
         Users {
             rows: Vec::new(alloc),
             names: IndexSet::new(alloc),
+            addresses: IndexSet::new(alloc),
         }
     }
 
@@ -91,6 +107,13 @@ impl Users {
         Some(place as u32)
     }
 
+    /// Whether one of the users has this address of their own.
+    pub fn has_address(&self, address: u32) -> bool
+        ensures { result ≡ list_any (has_own address) self.now }
+    {
+        self.addresses.contains(&address)
+    }
+
     /// Adds a user, whose name is new, after the others.
     pub fn add(&mut self, user: User) -> Result<(), AllocError>
         requires room { length self.old < users_max }
@@ -99,8 +122,21 @@ impl Users {
     {
         let name = Vec::from_slice(*self.rows.allocator(), user.name.octets())?;
         self.rows.reserve(1)?;
+        self.addresses.reserve(1)?;
         self.names.insert(name)?;
+        add_address(&mut self.addresses, user.address);
         self.rows.push(user).unwrap();
         Ok(())
+    }
+}
+
+// Adds an address, if there is one, to those that users have.
+fn add_address(addresses: &mut IndexSet<u32>, address: Option<u32>)
+    requires { 0 < spare addresses.old }
+    ensures { (other : ℕ) → list_any (nat_eq other) addresses.new.keys
+        ≡ (list_any (nat_eq other) addresses.old.keys || is_that other address) }
+{
+    if let Some(address) = address {
+        addresses.insert(address).unwrap();
     }
 }

@@ -1,11 +1,16 @@
 -- The faults of a configuration text, its parts and its keys: numbers and names.
-use Rattle.std.specs.Prelude.{ℕ, List, codes}
+use Rattle.std.specs.Prelude.{◌≡◌, ◌⊎◌, ℕ, List, codes, Result, Ok, Err}
 use Rattle.rad_config_fault.specs.declared.config_fault.ConfigFault.{ConfigFault}
-use Rattle.rad_config_fault.specs.declared.config_fault.ConfigFault.TheVariants.{Syntax, Missing, BadValue, HoldBelowWindow, PoolsOverlap, TooMany, NoMemory, StaleBelowWindow}
+use Rattle.rad_config_fault.specs.declared.config_fault.ConfigFault.TheVariants.{Syntax, Missing, BadValue, HoldBelowWindow, PoolsOverlap, TooMany, NoMemory, StaleBelowWindow, BadReply}
 use Rattle.rad_config_fault.specs.declared.config_fault.Key.{Key}
 use Rattle.rad_config_fault.specs.declared.config_fault.Key.TheVariants as keys
 use Rattle.rad_config_fault.specs.declared.config_fault.Part.{Part}
 use Rattle.rad_config_fault.specs.declared.config_fault.Part.TheVariants as parts
+
+-- what a call returned, seen by view, is what is read, unless memory ran out
+abbrev pub Gives : {X Y : Type 0} → (X → Y) → Result X ConfigFault → Result Y ConfigFault → Type 0
+Gives view (Ok value) read = read ≡ Ok (view value)
+Gives view (Err fault) read = (fault ≡ NoMemory) ⊎ (read ≡ Err fault)
 
 abbrev pub fault_number : ConfigFault → ℕ
 fault_number Syntax = 1
@@ -16,6 +21,7 @@ fault_number PoolsOverlap = 5
 fault_number (TooMany part) = 6
 fault_number NoMemory = 7
 fault_number StaleBelowWindow = 8
+fault_number (BadReply spot) = 9
 
 abbrev pub fault_name : ConfigFault → List ℕ
 fault_name Syntax = codes "Syntax"
@@ -26,6 +32,7 @@ fault_name PoolsOverlap = codes "PoolsOverlap"
 fault_name (TooMany part) = codes "TooMany"
 fault_name NoMemory = codes "NoMemory"
 fault_name StaleBelowWindow = codes "StaleBelowWindow"
+fault_name (BadReply spot) = codes "BadReply"
 
 -- a part as it is printed; a list of entries has this key
 abbrev pub part_name : Part → List ℕ
@@ -33,6 +40,7 @@ part_name parts.Top = codes "top"
 part_name parts.Client = codes "client"
 part_name parts.Pool = codes "pool"
 part_name parts.User = codes "user"
+part_name parts.Group = codes "group"
 
 -- a key as a text spells it, and what else may be at fault in a part: its list, or an entry
 abbrev pub key_name : Key → List ℕ
@@ -59,3 +67,11 @@ key_name keys.Answer = codes "answer"
 key_name keys.Share = codes "share"
 key_name keys.Challenges = codes "challenges"
 key_name keys.Grants = codes "grants"
+key_name keys.Group = codes "group"
+key_name keys.Reply = codes "reply"
+key_name keys.Attribute = codes "attribute"
+key_name keys.Vendor = codes "vendor"
+key_name keys.Value = codes "value"
+key_name keys.Hex = codes "hex"
+key_name keys.Tag = codes "tag"
+key_name keys.Users = codes "users"

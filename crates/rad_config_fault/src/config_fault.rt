@@ -32,6 +32,9 @@ pub enum ConfigFault {
     /// `stale` is less than `window`.
     #[error("config fault {number} {name}", number = self.label().0, name = self.label().1)]
     StaleBelowWindow,
+    /// A key of an attribute of a `reply` is absent, or its value doesn't fit.
+    #[error("config fault {number} {name} at {0}", number = self.label().0, name = self.label().1)]
+    BadReply(ReplySpot),
 }
 
 impl ConfigFault {
@@ -49,6 +52,7 @@ impl ConfigFault {
             ConfigFault::TooMany(_) => (6, "TooMany"),
             ConfigFault::NoMemory => (7, "NoMemory"),
             ConfigFault::StaleBelowWindow => (8, "StaleBelowWindow"),
+            ConfigFault::BadReply(_) => (9, "BadReply"),
         }
     }
 }
@@ -70,6 +74,29 @@ impl fmt::Display for Spot {
     }
 }
 
+/// Where a fault of a `reply` is: an entry with a reply, an attribute's place in it, and a key.
+///
+/// Places count from 1.
+#[derive(Clone, Copy, Debug, PartialEq, Eq)]
+pub struct ReplySpot {
+    pub part: Part,
+    pub index: u32,
+    pub place: u32,
+    pub key: Key,
+}
+
+impl fmt::Display for ReplySpot {
+    fn fmt<W: fmt::Write>(&self, f: &mut fmt::Formatter<W>) -> fmt::Result {
+        let ReplySpot {
+            part,
+            index,
+            place,
+            key,
+        } = self;
+        write!(f, "{part} {index} reply {place} {key}")
+    }
+}
+
 /// A part of a configuration: the keys at the top, or a list of entries.
 #[derive(Clone, Copy, Debug, PartialEq, Eq)]
 pub enum Part {
@@ -77,6 +104,7 @@ pub enum Part {
     Client,
     Pool,
     User,
+    Group,
 }
 
 impl Part {
@@ -89,6 +117,7 @@ impl Part {
             Part::Client => "client",
             Part::Pool => "pool",
             Part::User => "user",
+            Part::Group => "group",
         }
     }
 }
@@ -125,6 +154,14 @@ pub enum Key {
     Share,
     Challenges,
     Grants,
+    Group,
+    Reply,
+    Attribute,
+    Vendor,
+    Value,
+    Hex,
+    Tag,
+    Users,
 }
 
 impl Key {
@@ -156,6 +193,14 @@ impl Key {
             Key::Share => "share",
             Key::Challenges => "challenges",
             Key::Grants => "grants",
+            Key::Group => "group",
+            Key::Reply => "reply",
+            Key::Attribute => "attribute",
+            Key::Vendor => "vendor",
+            Key::Value => "value",
+            Key::Hex => "hex",
+            Key::Tag => "tag",
+            Key::Users => "users",
         }
     }
 }

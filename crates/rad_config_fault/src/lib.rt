@@ -5,4 +5,4 @@
 
 mod config_fault;
 
-pub use config_fault::{ConfigFault, Key, Part, Spot};
+pub use config_fault::{ConfigFault, Key, Part, ReplySpot, Spot};

@@ -145,6 +145,7 @@ dictionary =
     ∷ row (codes "Termination-Action") 29 (kinds.Enumerated names.TerminationAction)
     ∷ row (codes "Login-LAT-Service") 34 kinds.Text
     ∷ row (codes "Login-LAT-Node") 35 kinds.Text
+    ∷ row (codes "Login-LAT-Group") 36 kinds.Unknown
     ∷ row (codes "Framed-AppleTalk-Link") 37 short
     ∷ row (codes "Framed-AppleTalk-Network") 38 short
     ∷ row (codes "Framed-AppleTalk-Zone") 39 kinds.Text

@@ -43,7 +43,7 @@ attribute_meant naming tag how = do
   Ok (record { kind = kind; value = value })
 
 -- an attribute that an Access-Accept can be given, with a Value of 1 to 253 octets
-pub record IsGranted (attribute : Attribute) : Type 0 where
+pub record IsGrantable (attribute : Attribute) : Type 0 where
   pub kind : may_be_granted attribute.kind ≡ true
   pub least : 1 ≤ length attribute.value
   pub most : length attribute.value ≤ value_max

@@ -1,7 +1,7 @@
 //! Attributes as a configuration says them.
-ghost use Rattle.std.specs.Prelude.{◌≡◌, ◌⊎◌, ◌≤◌, IfOk, IfSome, true};
-ghost use Rattle.rad_dictionary.specs.Dictionary.{dictionary, may_be_granted};
-ghost use Rattle.rad_dictionary.specs.Meant.{IsGranted, attribute_meant, granted_type, kind_meant, type_meant};
+ghost use Rattle.std.specs.Prelude.{◌≡◌, ◌≤◌, IfOk, IfSome, true};
+ghost use Rattle.rad_dictionary.specs.Dictionary.{may_be_granted};
+ghost use Rattle.rad_dictionary.specs.Meant.{IsGrantable, attribute_meant, granted_type, kind_meant, type_meant};
 ghost use Rattle.rad_dictionary.specs.Parts as parts;
 ghost use Rattle.rad_dictionary.specs.Seen.{Gives, attribute_seen, giving, naming};
 ghost use Rattle.rad_dictionary.specs.Values.{tag_max};
@@ -43,7 +43,7 @@ pub fn attribute_of(
 ) -> Result<Meant, Misfit>
     requires { IfSome tag (λ tag. (1 ≤ tag) × (tag ≤ tag_max)) }
     ensures value { Gives result (attribute_meant (naming named.now) tag (giving given.now)) }
-    ensures granted { IfOk result (λ meant. IsGranted (attribute_seen meant)) }
+    ensures granted { IfOk result (λ meant. IsGrantable (attribute_seen meant)) }
 {
     let kind = type_meant(named).ok_or(Misfit::Attribute)?;
     let what = kind_meant(named, kind);

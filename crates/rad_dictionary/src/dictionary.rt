@@ -64,6 +64,7 @@ pub(crate) const DICTIONARY: &[Definition] = &[
     ),
     Definition("Login-LAT-Service", 34, Kind::Text),
     Definition("Login-LAT-Node", 35, Kind::Text),
+    Definition("Login-LAT-Group", 36, Kind::Unknown),
     Definition("Framed-AppleTalk-Link", 37, SHORT),
     Definition("Framed-AppleTalk-Network", 38, SHORT),
     Definition("Framed-AppleTalk-Zone", 39, Kind::Text),

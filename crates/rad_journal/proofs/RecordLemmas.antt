@@ -65,14 +65,14 @@ inside : (x y : List ℕ) → Some x ≡ Some y → x ≡ y
 inside x y e = cc
 
 pub is_granted : GrantsAreRecorded
-is_granted clients request user grant entry kept wall number asked fits answer is =
+is_granted clients request user grant entry kept wall number asked own fits answer is =
     let body : Body = access_accept user grant request.packet in
     let list : List Attribute = body.attributes in
     let octets : kept.answer ≡ 2 ∷ attributes_octets list = inside _ _ (sym (kept_as wall entry kept is).answer ∙ ap answer_octets answer) in
     let said_list : accepted kept.answer ≡ Some list = ap accepted octets ∙ of-spelled list in
     let class : class_number list ≡ Some grant.number =
-    first_class grant.number list (class_value grant.number) (accept_has_class user grant request.packet) (ap (λ n. Some n) (from_be_bytes-to_be_bytes_8 grant.number fits.number)) in
-    let address = said_address list grant.address fits.address (accept_has_address user grant request.packet) in
+    first_class grant.number list (class_value grant.number) (accept_has_class user grant request.packet own) (ap (λ n. Some n) (from_be_bytes-to_be_bytes_8 grant.number fits.number)) in
+    let address = said_address list grant.address fits.address (accept_has_address user grant request.packet own) in
     ap (λ r. grant_read number kept r (accepted kept.answer)) (reads_again clients request entry kept wall asked is)
     ∙ ap (grant_read number kept (Ok request.packet)) said_list
     ∙ ap (λ o. option_map (λ session. grant_row (occasion_of number kept (Some session)) (first_integer type_framed_ip_address list) request.packet.attributes) o) class

@@ -1,6 +1,6 @@
 -- What is recorded beside the entries, each record under the number of its entry: each Accounting-Request in one register, each
 -- session that is granted in another.
-use Rattle.std.specs.Prelude.{◌≡◌, ◌≢◌, ℕ, suc, ◌<◌, ◌^◌, ◌==◌, if◌then◌else◌, pos, List, [], ◌∷◌, ◌++◌, Option, None, Some, IfSome, option_map, option_to_list, Result, Ok, Err}
+use Rattle.std.specs.Prelude.{◌≡◌, ◌≢◌, All, ℕ, suc, ◌<◌, ◌^◌, ◌==◌, if◌then◌else◌, pos, List, [], ◌∷◌, ◌++◌, Option, None, Some, IfSome, option_map, option_to_list, Result, Ok, Err}
 use Rattle.rad_accounting.specs.Records.{grant_row, report_row}
 use Rattle.rad_accounting.specs.declared.occasion.Occasion.{Occasion}
 use Rattle.rad_packet.specs.Attributes.{Attribute, attributes_of, first_integer}
@@ -11,6 +11,7 @@ use Rattle.rad_packet.specs.Types.{type_framed_ip_address}
 use Rattle.rad_packet.specs.declared.packet.ReadFault.{ReadFault}
 use Rattle.rad_auth.specs.Clients.{Client}
 use Rattle.rad_auth.specs.declared.arrival.Request.{Request}
+use Rattle.rad_dictionary.specs.Meant.{IsGrantable}
 use Rattle.rad_config.specs.declared.user.User.{User}
 use Rattle.rad_pool.specs.declared.grant.Grant.{Grant}
 use Rattle.rad_server.specs.Accounting.{class_number}
@@ -115,7 +116,7 @@ pub record FitsAttributes (grant : Grant) : Type 0 where
 -- the session that is granted to an admitted request that is kept has a record, with its number and its address
 abbrev pub GrantsAreRecorded : Type 0
 GrantsAreRecorded = (clients : List Client) (request : Request) (user : User) (grant : Grant) (entry : Entry) (kept : Kept) (wall number : ℕ)
-    → IsRequestOf clients entry request → FitsAttributes grant → entry.answer ≡ Send (access_accept user grant request.packet)
+    → IsRequestOf clients entry request → All IsGrantable user.reply.attributes → FitsAttributes grant → entry.answer ≡ Send (access_accept user grant request.packet)
     → kept_by wall entry ≡ Some kept
     → record_of Grants number kept
     ≡ Some (grant_row (occasion_of number kept (Some grant.number)) grant.address request.packet.attributes)

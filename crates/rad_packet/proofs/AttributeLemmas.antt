@@ -4,6 +4,7 @@ use Rattle.std.specs.Prelude.{option_map, unwrap_or, is_some}
 use Rattle.std.specs.List.{AllByRecursion}
 use Rattle.std.proofs.lemmas.Bool.{ltb-false, le-ltb, lt-ltb}
 use Rattle.std.proofs.lemmas.List.{take_at, drop_at, take-append-drop, length-append, length-take, length-drop, get_or-drop, flat_map_more}
+use Rattle.std.proofs.lemmas.List.Concat.{flat_map-append}
 use Rattle.std.proofs.lemmas.List.Sums.{count_by-le-length}
 use Rattle.rad_packet.specs.Attributes.{Attribute, IsAttribute, AreAttributes, IsFirst, attribute_octets, attributes_octets, attributes_within, attributes_of, attributes_in, count, size}
 
@@ -220,6 +221,29 @@ are-push octets a are is =
     rw (in-push octets a are) (record {
       spelled = ap (λ (xs : List ℕ). xs ++ attribute_octets a) are.spelled ∙ sym (spelled_push (attributes_in octets) a);
       each = all_push (attributes_in octets) a are.each is;
+    })
+
+-- attributes after others
+all_append : (front back : List Attribute) → AllByRecursion IsAttribute front → AllByRecursion IsAttribute back → AllByRecursion IsAttribute (front ++ back)
+all_append [] back none each = each
+all_append (a ∷ front) back each others = (each.0, all_append front back each.1 others)
+
+spelled_append : (front back : List Attribute) → attributes_octets (front ++ back) ≡ attributes_octets front ++ attributes_octets back
+spelled_append front back = flat_map-append attribute_octets front back
+
+pub in-append : (octets others : List ℕ) → AreAttributes octets (attributes_in octets) → AreAttributes others (attributes_in others)
+    → attributes_in (octets ++ others) ≡ attributes_in octets ++ attributes_in others
+in-append octets others are those =
+    in-spelled (octets ++ others) (attributes_in octets ++ attributes_in others)
+    (ap (λ o. o ++ others) are.spelled ∙ ap (λ o. attributes_octets (attributes_in octets) ++ o) those.spelled ∙ sym (spelled_append (attributes_in octets) (attributes_in others)))
+
+pub are-append : (octets others : List ℕ) → AreAttributes octets (attributes_in octets) → AreAttributes others (attributes_in others)
+    → AreAttributes (octets ++ others) (attributes_in (octets ++ others))
+are-append octets others are those =
+    subst (λ (list : List Attribute). AreAttributes (octets ++ others) list) (sym (in-append octets others are those))
+    (record {
+      spelled = ap (λ o. o ++ others) are.spelled ∙ ap (λ o. attributes_octets (attributes_in octets) ++ o) those.spelled ∙ sym (spelled_append (attributes_in octets) (attributes_in others));
+      each = all_append (attributes_in octets) (attributes_in others) are.each those.each;
     })
 
 pub are-nil : (octets : List ℕ) → octets ≡ [] → AreAttributes octets (attributes_in octets)

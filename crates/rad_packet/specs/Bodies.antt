@@ -11,6 +11,10 @@ pub record Body : Type 0 where
 abbrev pub with_attribute : ℕ → List ℕ → Body → Body
 with_attribute kind value body = record body { attributes = body.attributes ++ record { kind = kind; value = value } ∷ [] }
 
+-- the body with more attributes, after its own
+abbrev pub with_attributes : List Attribute → Body → Body
+with_attributes list body = record body { attributes = body.attributes ++ list }
+
 -- the packet that says this body
 abbrev pub packet_of_body : Body → ℕ → List ℕ → Packet
 packet_of_body body identifier authenticator = record {

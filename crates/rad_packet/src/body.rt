@@ -2,7 +2,7 @@
 ghost use Rattle.std.specs.Prelude.{◌≡◌, [], ◌++◌, ◌≤◌, ◌↔◌, IsTrue, length, IfOk, OnOk, OnErr};
 ghost use Rattle.std.specs.List.{AllByRecursion};
 ghost use Rattle.rad_packet.specs.Attributes.{IsAttribute, attribute_octets, attributes_octets, size, value_max};
-ghost use Rattle.rad_packet.specs.Bodies.{with_attribute};
+ghost use Rattle.rad_packet.specs.Bodies.{with_attribute, with_attributes};
 
 use crate::attribute::Attributes;
 use crate::octets::Octets;
@@ -60,6 +60,18 @@ impl Body {
         ensures unchanged { OnErr result (self.new ≡ self.old) }
     {
         append_attribute(&mut self.octets, kind, value)?;
+        Ok(())
+    }
+
+    /// Appends the attributes of another body.
+    ///
+    /// Bodies that share their octets with this one don't change. If memory is refused, the body is unchanged.
+    pub fn append(&mut self, other: &Body) -> Result<(), AllocError>
+        ensures appended { OnOk result
+            (self.new ≡ with_attributes other.now.attributes self.old) }
+        ensures unchanged { OnErr result (self.new ≡ self.old) }
+    {
+        self.octets.append(other.octets.octets(), &[])?;
         Ok(())
     }
 

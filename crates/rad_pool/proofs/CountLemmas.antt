@@ -15,13 +15,13 @@ use Rattle.rad_pool.specs.declared.counts.Counts.{Counts}
 use Rattle.rad_pool.specs.declared.session.Phase.{Phase}
 use Rattle.rad_pool.specs.declared.session.Phase.TheVariants.{Active, Ended, Pending}
 use Rattle.rad_pool.specs.declared.session.Session.{Session}
-use Rattle.rad_pool.specs.Counts.{Comes, CountsAll, CountsOpen, CountsRows, CountsSources, Ends, HasRoom, HoldsCounts, KeepsRoom, Leaves, found_open_by, is_open_by, one_of, one_open_by, open_by, source_of, user_of}
+use Rattle.rad_pool.specs.Counts.{Comes, CountsAll, CountsOpen, CountsRows, CountsSources, Ends, GainsOther, HasRoom, HoldsCounts, KeepsRoom, Leaves, found_open_by, is_open_by, one_of, one_open_by, open_by, source_of, user_of}
 use Rattle.rad_pool.specs.Grants.{sessions_of}
 use Rattle.rad_pool.specs.Meant.{SentName, meant, is_meant}
 use Rattle.rad_pool.specs.Sessions.{IsOfSource, if_numbered, is_live, is_open, live_sessions, session_ended, session_renewed, session_reset}
 use Rattle.rad_pool.specs.Sources.{HasNoZero, count_at}
-use Rattle.rad_pool.proofs.InsideLemmas.{inside_between, inside_changed, inside_copied, inside_gone, inside_granted}
-use Rattle.rad_pool.proofs.PlaceLemmas.{places_between, places_changed, places_copied, places_gone, places_granted}
+use Rattle.rad_pool.proofs.OtherLemmas.{others_between, others_changed, others_copied, others_granted, others_left}
+use Rattle.rad_pool.proofs.PlaceLemmas.{one_same, places_between, places_changed, places_copied, places_gone, places_granted}
 use Rattle.rad_pool.proofs.FindLemmas.{Means, find_false, find_none, find_true, none_passes}
 
 abbrev pub num : Session → ℕ
@@ -78,15 +78,17 @@ of_gone n spans now rows left old new h is less =
 kept_room : (old new : Counts) → HasRoom old → KeepsRoom old new → HasRoom new
 kept_room old new has keeps = record {
   sources = omega (arith, has.sources, keeps.sources);
+  others = omega (arith, has.others, keeps.others);
   links = record { newest = omega (arith, has.links.newest, keeps.links.newest); neighbours = omega (arith, has.links.neighbours, keeps.links.neighbours) };
 }
 
 same_room : (counts : Counts) → KeepsRoom counts counts
-same_room counts = record { sources = omega arith; links = record { newest = omega arith; neighbours = omega arith } }
+same_room counts = record { sources = omega arith; others = omega arith; links = record { newest = omega arith; neighbours = omega arith } }
 
 both_room : (old mid new : Counts) → KeepsRoom old mid → KeepsRoom mid new → KeepsRoom old new
 both_room old mid new first second = record {
   sources = omega (arith, first.sources, second.sources);
+  others = omega (arith, first.others, second.others);
   links = record { newest = omega (arith, first.links.newest, second.links.newest); neighbours = omega (arith, first.links.neighbours, second.links.neighbours) };
 }
 
@@ -94,10 +96,10 @@ room_gone : (dead : List Session) (old new : Counts) → FoldsTo Leaves old dead
 room_gone [] old new h = subst (KeepsRoom old) h (same_room old)
 room_gone (x ∷ dead) old new h =
     let first : Leaves old x h.0 = h.1 in
-    both_room old h.0 new (record { sources = first.sources.room; links = first.links }) (room_gone dead h.0 new h.2)
+    both_room old h.0 new (record { sources = first.sources.room; others = first.others.room; links = first.links }) (room_gone dead h.0 new h.2)
 
 ends_room : (found : Option Session) (old new : Counts) → Ends old found new → KeepsRoom old new
-ends_room found old new ends = record { sources = ends.sources.room; links = ends.links }
+ends_room found old new ends = record { sources = ends.sources.room; others = omega (arith, ap spare ends.others); links = ends.links }
 
 -- what sources that have gone leave of the map
 record LosesAll (dead : List Session) (old new : IndexMap ℕ ℕ HashKey) : Type 0 where
@@ -127,7 +129,7 @@ holds_left spans now rows left old new h is told =
       grants = record { is = λ n lt. let before : n < length old.grants.items = omega (arith, lt, grants.0) in of_gone n spans now rows left _ _ (h.grants.is n before) is (grants.1 n before) };
       sources = record { is = λ n. gone_at source_of n spans now rows left _ _ (h.sources.is n) is (sources.is n); only = sources.only h.sources.only };
       pools = places_gone spans now rows left old new h.pools is told;
-      inside = inside_gone spans now rows left old new h.inside is told;
+      others = others_left spans now rows left old new h.others is told;
     }
 
 pub rows_left : (now : ℕ) (rows left : SeenRows Session Spans) (old new : Counts) → CountsRows rows old → left.rows ≡ live_sessions rows.spans now rows.rows → left.has_room ≡ rows.has_room
@@ -166,7 +168,7 @@ holds_renewed number now rows rows' counts h changed = record {
   grants = record { is = λ n lt. of_changed change (λ x. user_kept (eqb x.number number) (is_open x.phase) x) n rows rows' _ (h.grants.is n lt) changed };
   sources = record { is = λ n. changed_at source_of change (one_renewed source_of now (λ x. refl) number) n rows rows' _ (h.sources.is n) changed; only = h.sources.only };
   pools = places_changed change rows rows' counts counts (λ x. address_kept (eqb x.number number) (is_open x.phase) x) h.pools changed refl;
-  inside = inside_changed change rows rows' counts counts (λ x. address_kept (eqb x.number number) (is_open x.phase) x) h.inside changed refl refl;
+  others = others_changed change rows rows' counts counts (λ x. address_kept (eqb x.number number) (is_open x.phase) x) h.others changed refl refl;
 }
   where
     change : Session → Session
@@ -229,7 +231,7 @@ holds_stopped n rows rows' found old new h rising is changed ends = record {
   grants = subst (CountsAll rows') (sym ends.grants) (record { is = λ k lt. of_changed (if_numbered session_ended n) (λ x. user_kept (eqb x.number n) x) k rows rows' _ (h.grants.is k lt) changed });
   sources = record { is = λ k. stopped_at source_of k n rows rows' found _ _ (h.sources.is k) rising is changed (ends.sources.is k); only = ends.sources.only h.sources.only };
   pools = places_changed (if_numbered session_ended n) rows rows' old new (λ x. address_kept (eqb x.number n) x) h.pools changed ends.pools;
-  inside = inside_changed (if_numbered session_ended n) rows rows' old new (λ x. address_kept (eqb x.number n) x) h.inside changed ends.pools ends.outside;
+  others = others_changed (if_numbered session_ended n) rows rows' old new (λ x. address_kept (eqb x.number n) x) h.others changed ends.pools (ap (λ others. others.entries) ends.others);
 }
   where
     user_kept : (b : Bool) (x : Session) → Session.user (cond b (session_ended x) x) ≡ x.user
@@ -266,7 +268,7 @@ holds_between before rest x old new h ends = record {
   grants = subst (CountsAll (before ++ session_ended x ∷ rest)) (sym ends.grants) (record { is = λ n lt. h.grants.is n lt ∙ of_ended n before rest x });
   sources = record { is = λ n. ended_at source_of n before rest x _ _ (h.sources.is n) (ends.sources.is n); only = ends.sources.only h.sources.only };
   pools = places_between before rest x old new h.pools ends.pools;
-  inside = inside_between before rest x old new h.inside ends.pools ends.outside;
+  others = others_between before rest x old new h.others ends.pools (ap (λ others. others.entries) ends.others);
 }
 
 -- those before `rest` have ended, if they are of the source; the map of sources has as much room as at the start
@@ -397,7 +399,7 @@ holds_granted rows rows' session old new h open' few is comes = record {
     only = comes.sources.only h.sources.only;
   };
   pools = places_granted rows rows' session old new h.pools is comes.pools;
-  inside = inside_granted rows rows' session old new h.inside is comes.pools comes.outside;
+  others = others_granted rows rows' session old new h.others few is comes.pools comes.others;
 }
 
 pub rows_granted : (rows rows' : SeenRows Session Spans) (session : Session) (old new : Counts) → CountsRows rows old → is_open session.phase ≡ true → length rows.rows + 1 < 2 ^ 64
@@ -429,8 +431,11 @@ pub rows_back_ended : (rows rows' : SeenRows Session Spans) (session : Session) 
     → Comes old session mid → Ends mid (Some (record session { phase = Active })) new → CountsRows rows' new
 rows_back_ended rows rows' session old mid new h ended few is none comes ends =
     let opened : Session = record session { phase = Active } in
+    let gained : GainsOther old.pools.items opened old.others.entries mid.others.entries = record {
+      is = λ address out low. omega (arith, comes.others.is address out low, one_same address session opened refl);
+    } in
     let come : Comes old opened mid
-    = record { users = comes.users; grants = comes.grants; sources = comes.sources; pools = comes.pools; outside = comes.outside } in
+    = record { users = comes.users; grants = comes.grants; sources = comes.sources; pools = comes.pools; others = gained } in
     let open_holds : HoldsCounts (rows.rows ++ opened ∷ []) mid
     = holds_granted rows.rows (rows.rows ++ opened ∷ []) opened old mid h refl few refl come in
     let same : session ≡ session_ended opened = ap (λ (phase : Phase). record session { phase = phase }) ended in
@@ -503,18 +508,18 @@ pub no_source : (counts : List (ℕ × ℕ)) → counts ≡ [] → CountsSources
 no_source counts is = subst (CountsSources []) (sym is) (record { is = λ source. refl; only = record { only = λ source zero. refl } })
 
 -- equal counts of equal sessions
-holds_copied : (rows rows' : List Session) (old new : Counts) → HoldsCounts rows old → rows' ≡ rows → new.users.items ≡ old.users.items → new.grants.items ≡ old.grants.items → new.sources.entries ≡ old.sources.entries → new.pools.items ≡ old.pools.items → new.outside ≡ old.outside → HoldsCounts rows' new
-holds_copied rows rows' old new h is users grants sources places outside = record {
+holds_copied : (rows rows' : List Session) (old new : Counts) → HoldsCounts rows old → rows' ≡ rows → new.users.items ≡ old.users.items → new.grants.items ≡ old.grants.items → new.sources.entries ≡ old.sources.entries → new.pools.items ≡ old.pools.items → new.others.entries ≡ old.others.entries → HoldsCounts rows' new
+holds_copied rows rows' old new h is users grants sources places others = record {
   users = subst (λ xs. CountsOpen user_of xs new.users.items) (sym is) (subst (CountsOpen user_of rows) (sym users) h.users);
   grants = subst (λ xs. CountsAll xs new.grants.items) (sym is) (subst (CountsAll rows) (sym grants) h.grants);
   sources = subst (λ xs. CountsSources xs new.sources.entries) (sym is) (subst (CountsSources rows) (sym sources) h.sources);
   pools = places_copied rows rows' old new h.pools is places;
-  inside = inside_copied rows rows' old new h.inside is places outside;
+  others = others_copied rows rows' old new h.others is places others;
 }
 
 pub rows_copied : (rows rows' : SeenRows Session Spans) (old new : Counts) → CountsRows rows old → rows'.rows ≡ rows.rows → new.users.items ≡ old.users.items → new.grants.items ≡ old.grants.items → new.sources.entries ≡ old.sources.entries
-    → new.pools.items ≡ old.pools.items → new.outside ≡ old.outside → (rows'.has_room ≡ true → HasRoom new) → CountsRows rows' new
-rows_copied rows rows' old new h is users grants sources places outside room = record {
-  holds = holds_copied rows.rows rows'.rows old new h.holds is users grants sources places outside;
+    → new.pools.items ≡ old.pools.items → new.others.entries ≡ old.others.entries → (rows'.has_room ≡ true → HasRoom new) → CountsRows rows' new
+rows_copied rows rows' old new h is users grants sources places others room = record {
+  holds = holds_copied rows.rows rows'.rows old new h.holds is users grants sources places others;
   room = room;
 }

@@ -42,7 +42,7 @@ live_left spans now rows old new is told =
 or_false : (a b : Bool) → a ≡ false → b ≡ false → (a || b) ≡ false
 or_false a b p q = ap (λ c. c || b) p ∙ q
 
-or_first : (a b : Bool) → a ≡ true → (a || b) ≡ true
+pub or_first : (a b : Bool) → a ≡ true → (a || b) ≡ true
 or_first a b p = ap (λ c. c || b) p
 
 or_second : (a b : Bool) → b ≡ true → (a || b) ≡ true

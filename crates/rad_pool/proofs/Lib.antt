@@ -2,7 +2,7 @@ mod LawfulLemmas
 mod PoolLemmas
 mod FindLemmas
 mod PlaceLemmas
-mod InsideLemmas
+mod OtherLemmas
 mod CountLemmas
 mod DeadLemmas
 mod HolderLemmas

@@ -163,7 +163,7 @@ places_same rows rows' old new h same kept =
       uses = λ a lt. counted.uses a lt ∙ sym (same (places.first + a));
     }) old.pools.items h)
 
-one_same : (address : ℕ) (x y : Session) → x.address ≡ y.address → one address x ≡ one address y
+pub one_same : (address : ℕ) (x y : Session) → x.address ≡ y.address → one address x ≡ one address y
 one_same address x y same = sym (one_is address x) ∙ ap (λ o. cond {A = ℕ} (is_at address o) 1 0) same ∙ one_is address y
 
 pub held_changed : (change : Session → Session) → ((x : Session) → Session.address (change x) ≡ x.address) → (address : ℕ) (rows : List Session) → held_by address (map change rows) ≡ held_by address rows

@@ -1,7 +1,10 @@
-use Rattle.std.proofs.Common.{◌≡◌, ℕ, zero, suc, ◌+◌, Bool, true, false, List, [], ◌∷◌, Option, filter, arith, find, refl, ap, sym, ◌∙◌}
+use Rattle.std.proofs.Common.{◌≡◌, ℕ, zero, suc, ◌+◌, ◌-◌, Bool, true, false, cond, not, List, [], ◌∷◌, Option, None, Some, option_map, Result, Err, Ok, ok_or, filter, arith, find, refl, ap, sym, ◌∙◌}
 use Rattle.std.specs.List.{range_with_len}
 use Rattle.rad_config.specs.declared.spans.Spans.{Spans}
+use Rattle.rad_pool.specs.declared.grant.Refusal.{Refusal}
+use Rattle.rad_pool.specs.declared.grant.Refusal.TheVariants.{NoAddress}
 use Rattle.rad_pool.specs.declared.session.Session.{Session}
+use Rattle.rad_pool.specs.Grants.{address_from, addresses, is_held, own_pool}
 use Rattle.rad_pool.specs.Sessions.{Sessions, cut, is_live, live_sessions}
 
 -- past a number that doesn't fit, the first that fits is the same
@@ -12,6 +15,20 @@ first_past fits a b (suc n) m first at more misses is =
     let same : n ≡ m = omega arith in
     let skipped : find fits (range_with_len a (suc n)) ≡ find fits (range_with_len b m) = rw (misses, at, same) refl in
     sym skipped ∙ is
+
+-- of a user's own address, that one or none is given
+pub own_free : (sessions : List Session) (address : ℕ) (b : Bool) → is_held sessions address ≡ b
+    → address_from sessions (Some (own_pool address)) ≡ cond b (Err NoAddress) (Ok (Some address))
+unfolding address_from
+own_free sessions address b held =
+    let one : address + 1 - address ≡ 1 = omega arith in
+    let only : addresses (own_pool address) ≡ address ∷ [] = ap (range_with_len address) one in
+    ap (λ list. ok_or (option_map Some (find (λ a. not (is_held sessions a)) list)) NoAddress) only
+    ∙ ap (λ held. ok_or (option_map Some (cond (not held) (Some address) None)) NoAddress) held ∙ over b
+  where
+    over : (b : Bool) → ok_or (option_map Some (cond (not b) (Some address) None)) NoAddress ≡ cond {A = Result (Option ℕ) Refusal} b (Err NoAddress) (Ok (Some address))
+    over true = refl
+    over false = refl
 
 -- to filter once more changes nothing
 pub filter_twice : {X : Type 0} (p : X → Bool) (xs : List X) → filter p (filter p xs) ≡ filter p xs

@@ -1,6 +1,5 @@
--- Counts of sessions: of the open ones of each user and of each source, of all of each user, and of those that have each address of a
--- pool; and whether some session may have another address.
-use Rattle.std.specs.Prelude.{◌≡◌, ℕ, ◌+◌, ◌-◌, ◌<◌, ◌≤◌, ◌^◌, ◌==◌, ◌&&◌, ◌||◌, not, Bool, true, false, List, length, slice_index, cond, count_by, map, All, Option, None, Some}
+-- Counts of sessions: of the open ones of each user and of each source, of all of each user, and of those that have each address.
+use Rattle.std.specs.Prelude.{◌≡◌, ℕ, ◌+◌, ◌-◌, ◌<◌, ◌≤◌, ◌^◌, ◌==◌, ◌&&◌, not, Bool, true, List, length, slice_index, cond, count_by, map, All, Option, None, Some}
 use Rattle.std.specs.List.{list_any}
 use Rattle.indexmap.specs.IndexMap.{IndexMap, spare}
 use Rattle.rad_places.specs.Places.{SeenPlaces, is_inside, place_of, uses_at, with_note, with_use, without_use}
@@ -9,9 +8,11 @@ use Rattle.rad_config.specs.declared.spans.Spans.{Spans}
 use Rattle.rad_rows.specs.Rows.{SeenRows}
 use Rattle.rad_rows.specs.declared.hash_key.HashKey.{HashKey}
 use Rattle.rad_pool.specs.Links.{HasLinkRoom, KeepsLinkRoom}
+use Rattle.rad_pool.specs.Others.{uses_of}
 use Rattle.rad_pool.specs.Sessions.{is_open}
 use Rattle.rad_pool.specs.Sources.{HasNoZero, count_at}
 use Rattle.rad_pool.specs.declared.counts.Counts.{Counts}
+use Rattle.rad_pool.specs.declared.others.Uses.{Uses}
 use Rattle.rad_pool.specs.declared.session.Phase.{Phase}
 use Rattle.rad_pool.specs.declared.session.Session.{Session}
 
@@ -65,30 +66,31 @@ pub record IsCounted (sessions : List Session) (places : SeenPlaces) : Type 0 wh
   pub uses : (place : ℕ) → place < length places.uses → uses_at place places ≡ count_by (has_address (places.first + place)) sessions
 
 -- whether an address is of no pool
-abbrev pub is_outside : List SeenPlaces → Option ℕ → Bool
-is_outside pools None = false
-is_outside pools (Some address) = not (list_any (is_inside address) pools)
+abbrev pub is_outside : List SeenPlaces → ℕ → Bool
+is_outside pools address = not (list_any (is_inside address) pools)
 
--- no session has an address of no pool
-pub record IsInside (sessions : List Session) (pools : List SeenPlaces) : Type 0 where
-  pub none : (address : ℕ) → is_outside pools (Some address) ≡ true → count_by (has_address address) sessions ≡ 0
+-- as many uses of each address of no pool as sessions have it
+pub record CountsOthers (sessions : List Session) (pools : List SeenPlaces) (others : List (ℕ × Uses)) : Type 0 where
+  pub is : (address : ℕ) → is_outside pools address ≡ true → uses_of others address ≡ count_by (has_address address) sessions
 
--- the counts of all sources, and of the users and the pools that there are counts for
+-- the counts of all sources and all addresses, and of the users that there are counts for
 pub record HoldsCounts (sessions : List Session) (counts : Counts) : Type 0 where
   pub users : CountsOpen user_of sessions counts.users.items
   pub grants : CountsAll sessions counts.grants.items
   pub sources : CountsSources sessions counts.sources.entries
   pub pools : All (IsCounted sessions) counts.pools.items
-  pub inside : counts.outside ≡ false → IsInside sessions counts.pools.items
+  pub others : CountsOthers sessions counts.pools.items counts.others.entries
 
--- there is room for one source more, and to link one session more
+-- there is room for one source and one address more, and to link one session more
 pub record HasRoom (counts : Counts) : Type 0 where
   pub sources : 0 < spare counts.sources
+  pub others : 0 < spare counts.others
   pub links : HasLinkRoom counts.links
 
 -- there is as much room as there was
 pub record KeepsRoom (old new : Counts) : Type 0 where
   pub sources : spare old.sources ≤ spare new.sources
+  pub others : spare old.others ≤ spare new.others
   pub links : KeepsLinkRoom old.links new.links
 
 -- the counts of rows, and room in them where there is room for one row more
@@ -157,13 +159,24 @@ pub record LosesSource (found : Option Session) (old new : IndexMap ℕ ℕ Hash
   pub only : HasNoZero old.entries → HasNoZero new.entries
   pub room : spare old ≤ spare new
 
+-- one use more of the session's address, if it is of no pool and one more can be counted
+pub record GainsOther (pools : List SeenPlaces) (session : Session) (old new : List (ℕ × Uses)) : Type 0 where
+  pub is : (address : ℕ) → is_outside pools address ≡ true → uses_of old address + 1 < 2 ^ 64
+      → uses_of new address ≡ uses_of old address + cond (has_address address session) 1 0
+
+-- one use less of it; its memory is ready for another
+pub record LosesOther (pools : List SeenPlaces) (session : Session) (old new : IndexMap ℕ Uses HashKey) : Type 0 where
+  pub is : (address : ℕ) → is_outside pools address ≡ true
+      → uses_of new.entries address ≡ uses_of old.entries address - cond (has_address address session) 1 0
+  pub room : spare old ≤ spare new
+
 -- a session comes, Pending
 pub record Comes (old : Counts) (session : Session) (new : Counts) : Type 0 where
   pub users : GainsOne (user_of session) old.users.items new.users.items
   pub grants : GainsOne (user_of session) old.grants.items new.grants.items
   pub sources : GainsSource session.source old.sources.entries new.sources.entries
   pub pools : new.pools.items ≡ map (places_come session.address session.number) old.pools.items
-  pub outside : new.outside ≡ (old.outside || is_outside old.pools.items session.address)
+  pub others : GainsOther old.pools.items session old.others.entries new.others.entries
 
 -- a session goes
 pub record Leaves (old : Counts) (session : Session) (new : Counts) : Type 0 where
@@ -172,7 +185,7 @@ pub record Leaves (old : Counts) (session : Session) (new : Counts) : Type 0 whe
   pub sources : LosesSource (Some session) old.sources new.sources
   pub links : KeepsLinkRoom old.links new.links
   pub pools : new.pools.items ≡ map (places_left session.address) old.pools.items
-  pub outside : new.outside ≡ old.outside
+  pub others : LosesOther old.pools.items session old.others new.others
 
 -- a session that was perhaps found ends, and keeps its address
 pub record Ends (old : Counts) (found : Option Session) (new : Counts) : Type 0 where
@@ -181,4 +194,4 @@ pub record Ends (old : Counts) (found : Option Session) (new : Counts) : Type 0 
   pub sources : LosesSource found old.sources new.sources
   pub links : KeepsLinkRoom old.links new.links
   pub pools : new.pools.items ≡ old.pools.items
-  pub outside : new.outside ≡ old.outside
+  pub others : new.others ≡ old.others

@@ -1,9 +1,11 @@
 pub mod Counts
 pub mod Dead
 pub mod Grants
+pub mod Holders
 pub mod Lawful
 pub mod Links
 pub mod Meant
+pub mod Others
 pub mod Reports
 pub mod Restored
 pub mod Sessions

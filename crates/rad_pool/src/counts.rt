@@ -1,14 +1,17 @@
-//! How many open sessions each user and each source has, how many of any phase each user has, and how many sessions have each address
-//! of a pool.
-ghost use Rattle.std.specs.Prelude.{◌≡◌, ◌==◌, ◌<◌, [], All, IfOk, IsOk, OnOk, map, replicate};
+//! How many open sessions each user and each source has, how many of any phase each user has, and how many sessions have each address.
+ghost use Rattle.std.specs.Prelude.{◌≡◌, ◌==◌, ◌<◌, [], All, IfOk, IsOk, List, OnOk, count_by, length, map, replicate};
 ghost use Rattle.indexmap.specs.IndexMap.{hasher_of, spare};
 ghost use Rattle.rad_config.specs.Ranges.{IsPool};
-ghost use Rattle.rad_pool.specs.Counts.{Comes, Ends, GainsOne, HasLowUses, HasRoom, HoldsCounts, IsCounted, Leaves, LosesAt, LosesOne, is_outside, places_come, places_left};
+ghost use Rattle.rad_places.specs.Places.{uses_at};
+ghost use Rattle.rad_pool.specs.Counts.{Comes, Ends, GainsOne, GainsOther, HasLowUses, HasRoom, HoldsCounts, IsCounted, Leaves, LosesAt, LosesOne, LosesOther, is_outside, places_come, places_left};
+ghost use Rattle.rad_pool.specs.Grants.{has_address};
 ghost use Rattle.rad_pool.specs.Sources.{HasNoZero, count_at};
+ghost use Rattle.rad_pool.specs.declared.session.Session.{Session};
 
 use crate::links::Links;
+use crate::others::Uses;
 use crate::session::{Phase, Session};
-use crate::sources;
+use crate::{others, sources};
 use indexmap::IndexMap;
 use rad_config::{Config, Pool};
 use rad_places::Places;
@@ -28,8 +31,8 @@ pub(crate) struct Counts {
     pub(crate) links: Links,
     /// How many sessions, ended ones included, have each address, and the number of the one that got it last.
     pub(crate) pools: Vec<Places>,
-    /// Whether a session came whose address is of none of the pools.
-    pub(crate) outside: bool,
+    /// The same of each address that is of none of the pools. One that no session has is not there.
+    pub(crate) others: IndexMap<u32, Uses, HashKey>,
 }
 
 impl Counts {
@@ -40,14 +43,16 @@ impl Counts {
     {
         let users = zeros(alloc, config.users().len())?;
         let grants = zeros(alloc, config.users().len())?;
+        let sources = IndexMap::with_hasher(alloc, key);
         let pools = open_pools(alloc, config.pools())?;
+        let others = IndexMap::with_hasher(alloc, key);
         Ok(Counts {
             users,
             grants,
-            sources: IndexMap::with_hasher(alloc, key),
+            sources,
             links: Links::open(alloc, key),
             pools,
-            outside: false,
+            others,
         })
     }
 
@@ -57,20 +62,21 @@ impl Counts {
         ensures grants { IfOk result (λ copy. copy.grants.items ≡ self.now.grants.items) }
         ensures sources { IfOk result (λ copy. copy.sources.entries ≡ self.now.sources.entries) }
         ensures pools { IfOk result (λ copy. copy.pools.items ≡ self.now.pools.items) }
-        ensures outside { IfOk result (λ copy. copy.outside ≡ self.now.outside) }
+        ensures others { IfOk result (λ copy. copy.others.entries ≡ self.now.others.entries) }
     {
         let users = self.users.clone()?;
         let grants = self.grants.clone()?;
         let sources = self.sources.clone()?;
         let links = self.links.copy()?;
         let pools = copy_pools(&self.pools)?;
+        let others = self.others.clone()?;
         Ok(Counts {
             users,
             grants,
             sources,
             links,
             pools,
-            outside: self.outside,
+            others,
         })
     }
 
@@ -80,19 +86,21 @@ impl Counts {
         ensures grants { self.new.grants ≡ self.old.grants }
         ensures sources { self.new.sources.entries ≡ self.old.sources.entries }
         ensures pools { self.new.pools ≡ self.old.pools }
-        ensures outside { self.new.outside ≡ self.old.outside }
+        ensures others { self.new.others.entries ≡ self.old.others.entries }
         ensures ready { OnOk result (HasRoom self.new) }
         ensures kept { HasRoom self.old → IsOk result }
         ensures still { HasRoom self.old → HasRoom self.new }
     {
         self.sources.reserve(1)?;
+        self.others.reserve(1)?;
         self.links.newest.reserve(1)?;
         self.links.neighbours.reserve(1)
     }
 
-    /// A session comes, which is Pending. Memory was made ready for its source.
+    /// A session comes, which is Pending. Memory was made ready for its source and its address.
     pub(crate) fn come(&mut self, session: &Session)
         requires room { 0 < spare self.old.sources }
+        requires others { 0 < spare self.old.others }
         requires pools { All HasLowUses self.old.pools.items }
         ensures { Comes self.old session.now self.new }
     {
@@ -100,7 +108,7 @@ impl Counts {
         add_one(&mut self.grants, session.user as usize);
         sources::add_open(&mut self.sources, session.source);
         self.links.add(session.source, session.number);
-        self.outside = self.outside || is_outside(&self.pools, session.address);
+        come_to_others(&mut self.others, &self.pools, session);
         come_to_pools(&mut self.pools, session.address, session.number);
     }
 
@@ -113,6 +121,19 @@ impl Counts {
             sources::remove_open(&mut self.sources, session.source, session.phase);
             self.links.remove(session.source, session.number);
         }
+    }
+
+    /// How many sessions have an address, ended ones included, and the number of the one that got it last.
+    pub(crate) fn uses(&self, address: u32) -> Uses
+        ensures { (sessions : List Session) → HoldsCounts sessions self.now →
+            result.count ≡ count_by (has_address address) sessions }
+    {
+        for places in &self.pools {
+            if let Some(place) = places.place_of(address) {
+                return uses_in(places, place);
+            }
+        }
+        others::get(&self.others, address)
     }
 
     /// Whether no session of a source is open.
@@ -133,6 +154,7 @@ impl Tally<Session> for Counts {
         remove_one(&mut self.grants, session.user as usize);
         sources::remove_open(&mut self.sources, session.source, session.phase);
         self.links.remove(session.source, session.number);
+        leave_others(&mut self.others, &self.pools, session);
         leave_pools(&mut self.pools, session.address);
     }
 }
@@ -192,19 +214,52 @@ fn copy_pools(pools: &Vec<Places>) -> Result<Vec<Places>, AllocError>
     Ok(copy)
 }
 
+// The uses of the address at a place of a pool.
+fn uses_in(places: &Places, place: usize) -> Uses
+    requires { place < length places.now.uses }
+    ensures { result.count ≡ uses_at place places.now }
+{
+    Uses {
+        count: places.uses(place),
+        last: places.note(place),
+    }
+}
+
 // Whether an address is of none of the pools.
-fn is_outside(pools: &[Places], address: Option<u32>) -> bool
+fn is_outside(pools: &[Places], address: u32) -> bool
     ensures { result ≡ is_outside pools.now address }
 {
-    let Some(address) = address else {
-        return false;
-    };
     for places in pools {
         if places.place_of(address).is_some() {
             return false;
         }
     }
     true
+}
+
+// A session comes, perhaps with an address of none of the pools.
+fn come_to_others(others: &mut IndexMap<u32, Uses, HashKey>, pools: &[Places], session: &Session)
+    requires { 0 < spare others.old }
+    ensures { GainsOther pools.now session.now others.old.entries others.new.entries }
+{
+    let Some(address) = session.address else {
+        return;
+    };
+    if is_outside(pools, address) {
+        others::add(others, address, session.number);
+    }
+}
+
+// A session goes, perhaps with an address of none of the pools.
+fn leave_others(others: &mut IndexMap<u32, Uses, HashKey>, pools: &[Places], session: &Session)
+    ensures { LosesOther pools.now session.now others.old others.new }
+{
+    let Some(address) = session.address else {
+        return;
+    };
+    if is_outside(pools, address) {
+        others::remove(others, address);
+    }
 }
 
 fn come_to_pools(pools: &mut Vec<Places>, address: Option<u32>, number: u64)

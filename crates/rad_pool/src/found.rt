@@ -1,13 +1,13 @@
 //! Which session an Accounting-Request means.
-ghost use Rattle.std.specs.Prelude.{◌≡◌, ◌==◌, ◌<◌, ◌+◌, length, if◌then◌else◌, None, Some};
-ghost use Rattle.rad_pool.specs.Counts.{HoldsCounts, IsCounted};
+ghost use Rattle.std.specs.Prelude.{◌≡◌, ◌==◌, ◌∷◌, [], if◌then◌else◌, None, Some};
+ghost use Rattle.rad_pool.specs.Counts.{HoldsCounts};
 ghost use Rattle.rad_pool.specs.Meant.{meant};
 
 use crate::counts::Counts;
+use crate::holder::{Holder, holder_of};
 use crate::session::Session;
 use crate::walk;
 use rad_config::Spans;
-use rad_places::Places;
 use rad_rows::Rows;
 
 /// The number of the session that a client means by its number.
@@ -44,45 +44,25 @@ pub(crate) fn find_at(
     requires { HoldsCounts rows.now.rows counts.now }
     ensures { result ≡ meant client None (Some address) name rows.now.rows }
 {
-    for places in &counts.pools {
-        if let Some(place) = places.place_of(address) {
-            return find_in(rows, places, place, client, address, name);
-        }
-    }
-    if counts.outside {
-        walk::find(rows, client, address, name)
-    } else {
-        None
+    match holder_of(rows, counts, address) {
+        Holder::Nobody => None,
+        Holder::One(session) => number_if_wanted(session, client, address, name),
+        Holder::Unknown => walk::find(rows, client, address, name),
     }
 }
 
-// The same for an address that has a place in a pool.
-fn find_in(
-    rows: &Rows<Session, Spans>,
-    places: &Places,
-    place: usize,
+// The session's number, if the client means it by the address.
+fn number_if_wanted(
+    session: &Session,
     client: u32,
     address: u32,
     name: Option<Option<u32>>,
 ) -> Option<u64>
-    requires within { place < length places.now.uses }
-    requires at { places.now.first + place ≡ address }
-    requires counted { IsCounted rows.now.rows places.now }
-    ensures { result ≡ meant client None (Some address) name rows.now.rows }
+    ensures { result ≡ meant client None (Some address) name (session.now ∷ []) }
 {
-    let uses = places.uses(place);
-    if uses == 0 {
-        return None;
-    }
-    let Some(session) = rows.get(places.note(place)) else {
-        return walk::find(rows, client, address, name);
-    };
-    // With one use no other session has the address.
-    if uses != 1 || !walk::has_address(session, address) {
-        return walk::find(rows, client, address, name);
-    }
     if walk::is_wanted(session, client, address, name) {
-        return Some(session.number);
+        Some(session.number)
+    } else {
+        None
     }
-    None
 }

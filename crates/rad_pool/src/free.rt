@@ -1,17 +1,20 @@
-//! The least address of a pool that no live session has.
-ghost use Rattle.std.specs.Prelude.{◌≡◌, ◌+◌, ◌<◌, ◌≤◌, ℕ, length, nat_lt};
+//! The address of a new session: a user's own, or the least of a pool, that no live session has.
+ghost use Rattle.std.specs.Prelude.{◌≡◌, ◌+◌, ◌<◌, ◌≤◌, ℕ, IfOk, Some, is_some, length, nat_lt, option_and_then, slice_get, true};
+ghost use Rattle.std.specs.Option.{option_or};
 ghost use Rattle.rad_config.specs.Ranges.{IsPool};
 ghost use Rattle.rad_config.specs.Spans.{moment_max};
 ghost use Rattle.rad_places.specs.Places.{uses_at};
 ghost use Rattle.rad_pool.specs.Counts.{HoldsCounts, IsCounted};
 ghost use Rattle.rad_pool.specs.Dead.{IsLeastFreed, TakesLesser, dead_sessions};
-ghost use Rattle.rad_pool.specs.Grants.{least_free};
+ghost use Rattle.rad_pool.specs.Grants.{address_from, is_held, least_free, own_pool, pool_of};
 ghost use Rattle.rad_pool.specs.Sessions.{live_sessions};
 
 use crate::counts::Counts;
+use crate::grant::Refusal;
+use crate::holder::{Holder, holder_of};
 use crate::session::Session;
 use crate::walk;
-use rad_config::{Pool, Spans};
+use rad_config::{Config, Pool, Spans};
 use rad_places::Places;
 use rad_rows::{Rows, Tally};
 
@@ -35,8 +38,72 @@ impl Tally<Session> for LeastFreed {
     }
 }
 
-/// The least address of a pool that no live session has. `number` is the place of the pool in the configuration.
-pub(crate) fn least_free(
+/// The address of a new session of the user at a place: the user's own, or else the least one of the user's pool; none without either.
+///
+/// `NoAddress` if a live session has it, or each one of the pool.
+#[tactic(auto, unfolding(crate::specs::Grants::address_from))]
+pub(crate) fn address_for(
+    rows: &Rows<Session, Spans>,
+    counts: &Counts,
+    config: &Config,
+    user: u32,
+    now: u64,
+) -> Result<Option<u32>, Refusal>
+    requires user { user < length config.now.users }
+    requires moment { now ≤ moment_max }
+    requires counts { HoldsCounts rows.now.rows counts.now }
+    ensures rule { result ≡ address_from (live_sessions rows.now.spans now rows.now.rows)
+        (pool_of config.now user) }
+    ensures pooled { IfOk result (λ address. is_some address ≡ true →
+        is_some (option_and_then (λ row. option_or row.address row.pool)
+        (slice_get config.now.users user)) ≡ true) }
+{
+    let asking = config.user_at(user);
+    if let Some(address) = asking.address {
+        return own_address(rows, counts, address, now);
+    }
+    let Some(place) = asking.pool else {
+        return Ok(None);
+    };
+    match least_free(rows, counts, now, place, config.pool_at(place)) {
+        Some(address) => Ok(Some(address)),
+        None => Err(Refusal::NoAddress),
+    }
+}
+
+// A user's own address, unless a live session has it.
+fn own_address(
+    rows: &Rows<Session, Spans>,
+    counts: &Counts,
+    address: u32,
+    now: u64,
+) -> Result<Option<u32>, Refusal>
+    requires moment { now ≤ moment_max }
+    requires counts { HoldsCounts rows.now.rows counts.now }
+    ensures { result ≡ address_from (live_sessions rows.now.spans now rows.now.rows)
+        (Some (own_pool address)) }
+{
+    if is_held(rows, counts, address, now) {
+        return Err(Refusal::NoAddress);
+    }
+    Ok(Some(address))
+}
+
+// Whether a live session has an address.
+fn is_held(rows: &Rows<Session, Spans>, counts: &Counts, address: u32, now: u64) -> bool
+    requires moment { now ≤ moment_max }
+    requires counts { HoldsCounts rows.now.rows counts.now }
+    ensures { result ≡ is_held (live_sessions rows.now.spans now rows.now.rows) address }
+{
+    match holder_of(rows, counts, address) {
+        Holder::Nobody => false,
+        Holder::One(session) => walk::is_live(session, rows.spans(), now),
+        Holder::Unknown => walk::is_held(rows, now, address),
+    }
+}
+
+// The least address of a pool that no live session has. `number` is the place of the pool in the configuration.
+fn least_free(
     rows: &Rows<Session, Spans>,
     counts: &Counts,
     now: u64,

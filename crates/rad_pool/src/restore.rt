@@ -8,6 +8,7 @@ ghost use Rattle.rad_pool.specs.Sessions.{is_open};
 ghost use Rattle.rad_pool.specs.declared.session.Phase.TheVariants.{Active};
 
 use crate::counts::Counts;
+use crate::holder::{Holder, holder_of};
 use crate::session::{Phase, Session};
 use crate::sessions::SESSIONS_MAX;
 use crate::users::UserCounts;
@@ -59,7 +60,7 @@ pub(crate) fn check(
     Ok(())
 }
 
-// Whether an address, if there is one, isn't in the pool of the user at a place.
+// Whether an address, if there is one, isn't the own one of the user at a place, or in the user's pool.
 fn is_astray(config: &Config, user: u32, address: Option<u32>) -> bool
     requires { user < length config.now.users }
     ensures { result ≡ is_astray (pool_of config.now user) address }
@@ -67,7 +68,11 @@ fn is_astray(config: &Config, user: u32, address: Option<u32>) -> bool
     let Some(address) = address else {
         return false;
     };
-    let Some(place) = config.user_at(user).pool else {
+    let user = config.user_at(user);
+    if let Some(own) = user.address {
+        return address != own;
+    }
+    let Some(place) = user.pool else {
         return true;
     };
     let pool = config.pool_at(place);
@@ -89,12 +94,11 @@ fn is_held(rows: &Rows<Session, Spans>, counts: &Counts, address: u32) -> bool
     requires { HoldsCounts rows.now.rows counts.now }
     ensures { result ≡ is_held rows.now.rows address }
 {
-    for places in &counts.pools {
-        if let Some(place) = places.place_of(address) {
-            return 0 < places.uses(place);
-        }
+    match holder_of(rows, counts, address) {
+        Holder::Nobody => false,
+        Holder::One(_) => true,
+        Holder::Unknown => walk::is_any_ones(rows, address),
     }
-    counts.outside && walk::is_any_ones(rows, address)
 }
 
 // Whether a user who has so many sessions may have no more like one in this phase.

@@ -4,7 +4,7 @@ ghost use Rattle.std.specs.Iterator.{YieldsFirst, item_count};
 ghost use Rattle.rad_config.specs.Configurations.{is_reached};
 ghost use Rattle.rad_config.specs.Spans.{moment_max, spans_of};
 ghost use Rattle.rad_row_fault.specs.Follows.{FollowsRules};
-ghost use Rattle.rad_pool.specs.Grants.{IsGranted, granted, with_session};
+ghost use Rattle.rad_pool.specs.Grants.{HasPoolFor, IsGranted, granted, with_session};
 ghost use Rattle.rad_pool.specs.Meant.{meant};
 ghost use Rattle.rad_pool.specs.Restored.{last_restorable, restorable, with_last, with_row};
 ghost use Rattle.rad_pool.specs.Sessions.{AreSame, cut, opening, renewed, source_reset, stopped};
@@ -117,6 +117,7 @@ impl Sessions {
         requires moment { now ≤ moment_max }
         ensures answer { result ≡ granted config.now user (cut now self.now.table) }
         ensures number { IfOk result (λ grant. grant.number ≡ self.now.table.next) }
+        ensures pooled { IfOk result (HasPoolFor config.now user) }
         ensures memory { IsErrOf result Refusal.NoMemory → ⊥ }
     {
         let Sessions { rows, counts } = self;
@@ -124,13 +125,7 @@ impl Sessions {
         if is_limited(asking, users::count_live(rows, counts, now, user)) {
             return Err(Refusal::SessionLimit);
         }
-        let address = match asking.pool {
-            None => None,
-            Some(place) => match free::least_free(rows, counts, now, place, config.pool_at(place)) {
-                None => return Err(Refusal::NoAddress),
-                Some(address) => Some(address),
-            },
-        };
+        let address = free::address_for(rows, counts, config, user, now)?;
         let last = rows.last();
         if SESSIONS_MAX <= rows.count_live(now) || last == u64::MAX {
             return Err(Refusal::Full);
@@ -152,7 +147,7 @@ impl Sessions {
     }
 
     /// Removes the sessions that are no longer live, and adds one for the user at place `user`: Pending, with the next number, and
-    /// with the least address of the user's pool that no session has. `source` is the address that the Access-Request came from.
+    /// with the user's own address, or the least one of the user's pool that no session has. `source` is the address that the Access-Request came from.
     ///
     /// Refusals are reported in the order of `Refusal`. After `NoMemory` nothing has changed; after `room` it doesn't come.
     pub fn grant(

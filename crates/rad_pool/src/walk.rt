@@ -1,5 +1,5 @@
-//! Plain walks over all sessions. They run where the counts don't tell: for a user or a pool that the table wasn't opened with, for an
-//! address that has two uses or whose note is of another session, and for one of no pool, once a session with such a one has come.
+//! Plain walks over all sessions. They run where the counts don't tell: for a user or a pool that the table wasn't opened with, and for
+//! an address that has two uses, or whose note is of another session.
 ghost use Rattle.std.specs.Prelude.{◌≡◌, ◌≤◌, ◌==◌, ◌&&◌, None, Some};
 ghost use Rattle.rad_config.specs.Ranges.{IsPool};
 ghost use Rattle.rad_config.specs.Spans.{moment_max};
@@ -13,8 +13,8 @@ use crate::users::UserCounts;
 use rad_config::{Pool, Spans};
 use rad_rows::{Row, Rows};
 
-// Whether a session is live at a moment.
-fn is_live(session: &Session, spans: Spans, now: u64) -> bool
+/// Whether a session is live at a moment.
+pub(crate) fn is_live(session: &Session, spans: Spans, now: u64) -> bool
     requires { now ≤ moment_max }
     ensures { result ≡ is_live spans now session.now }
 {
@@ -71,8 +71,8 @@ pub(crate) fn least_free(rows: &Rows<Session, Spans>, now: u64, pool: &Pool) -> 
     None
 }
 
-// Whether a live session has this address.
-fn is_held(rows: &Rows<Session, Spans>, now: u64, address: u32) -> bool
+/// Whether a live session has this address.
+pub(crate) fn is_held(rows: &Rows<Session, Spans>, now: u64, address: u32) -> bool
     requires { now ≤ moment_max }
     ensures { result ≡ is_held (live_sessions rows.now.spans now rows.now.rows) address }
 {

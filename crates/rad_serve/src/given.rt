@@ -2,10 +2,10 @@
 ghost use Rattle.std.specs.Prelude.{◌≡◌, Ok};
 ghost use Rattle.rad_config.specs.Configurations.{configuration_of_octets};
 
-use crate::input::{open_seed, open_text};
+use crate::given_fault::GivenFault;
+use crate::input::{open_seed, open_source};
 use crate::options::Options;
-use crate::serve_error::ServeError;
-use rad_check::{warn, warn_of_file};
+use rad_check::{Source, warn, warn_of_file};
 use rad_config::{Config, read_configuration};
 use rad_server::HashKey;
 use rand_chacha::ChaCha20Rng;
@@ -27,21 +27,25 @@ pub struct Given {
 impl Given {
     /// Reads the configuration and the seed.
     ///
-    /// `ConfigUnreadable`, `Config`, `SeedUnreadable`, in this order: one of them can't be read, or has a fault.
+    /// `ConfigUnreadable`, `Users`, `Config`, `SeedUnreadable`, in this order: one of them can't be read, or has a fault.
     pub fn read<R: Files + Eprint + AllocGlobal>(
         rt: &R,
         options: &Options,
-    ) -> Result<Given, ServeError> {
-        let text = open_text(rt, &options.config)?;
-        let config = read_configuration(rt.alloc(), &text)?;
+    ) -> Result<Given, GivenFault> {
+        let source = open_source(rt, &options.config)?;
+        let config = match read_configuration(rt.alloc(), &source.text) {
+            Ok(config) => config,
+            Err(fault) => return Err(GivenFault::from(source.into_fault(rt.alloc(), fault))),
+        };
         let mut warnings = String::new(rt.alloc());
         if options.reports.log.is_some() {
-            warn(&mut warnings, rt, &options.config, &text, &config);
+            warn(&mut warnings, rt, &options.config, &source, &config);
             warn_of_file(&mut warnings, rt, &options.seed);
             if let Some(folder) = &options.state {
                 warn_of_file(&mut warnings, rt, folder);
             }
         }
+        let Source { text, .. } = source;
         match open_seed(rt, &options.seed) {
             Ok(seed) => Ok(Given {
                 text,
@@ -51,7 +55,7 @@ impl Given {
             }),
             Err(error) => {
                 let _ = eprint!(rt; "{warnings}");
-                Err(error)
+                Err(GivenFault::Serve(error))
             }
         }
     }

@@ -2,7 +2,7 @@
 //!
 //! `UdpPorts` are the only sockets of this repository. They decide only which of them is asked next (`Asking`): what is answered is
 //! `rad_shell`'s `Turns`. What a failed call on a socket means is a table for those that receive and one for those that send. `serve`
-//! reads its two files, takes its memory, binds the ports or takes over those that it was given, and makes the turns. Where an operator
+//! reads its files, takes its memory, binds the ports or takes over those that it was given, and makes the turns. Where an operator
 //! is to be told of them, a `Reporter` watches the turns, and two threads write what it hands over, so that no file or terminal can hold
 //! up a reply.
 //!
@@ -14,6 +14,7 @@ mod calls;
 mod closing;
 mod failure;
 mod given;
+mod given_fault;
 mod held;
 mod input;
 mod life;
@@ -38,8 +39,9 @@ mod writer;
 pub use closing::close_state;
 pub use failure::{Failure, receive_failure, send_failure};
 pub use given::Given;
+pub use given_fault::GivenFault;
 pub use held::{Expected, HeldFault};
-pub use input::open_text;
+pub use input::open_source;
 pub use lives::{Lives, live, lives_are_one_run, nothing_is_one_run};
 pub use moments::Moments;
 pub use options::{Options, Reports, Sockets, Workers};

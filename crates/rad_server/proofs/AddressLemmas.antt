@@ -1,10 +1,12 @@
 -- The address of a kept Access-Accept is that of its session, for as long as the reply is kept.
 use Rattle.std.proofs.Common.{◌≡◌, ℕ, ◌+◌, ◌≤◌, ◌<◌, Bool, true, false, cond, eqb, nat_lt, List, [], ◌∷◌, ◌++◌, map, filter, find, All, Contains, Option, Some, None, IfSome, option_map, arith, refl, sym, ap, ◌∙◌}
-use Rattle.std.proofs.lemmas.Bool.{eqb-true, ltb-true, lt-ltb}
-use Rattle.std.proofs.lemmas.List.Elements.{All-cons, All-contains, All-nil, All-weaker, Contains-append_left, Contains-append_right, Contains-push}
+use Rattle.std.proofs.lemmas.Bool.{eqb-true, false≢true, ltb-true, lt-ltb}
+use Rattle.std.proofs.lemmas.List.Elements.{All-cons, All-contains, All-head, All-nil, All-tail, All-weaker, Contains-append_left, Contains-append_right, Contains-push}
 use Rattle.rad_packet.specs.Attributes.{Attribute, first_value, is_of, of_kind}
 use Rattle.rad_packet.specs.Bodies.{Body}
 use Rattle.rad_packet.specs.Packets.{Packet}
+use Rattle.rad_dictionary.specs.Dictionary.{may_be_granted}
+use Rattle.rad_dictionary.specs.Meant.{IsGrantable}
 use Rattle.rad_config.specs.declared.spans.Spans.{Spans}
 use Rattle.rad_config.specs.declared.user.User.{User}
 use Rattle.rad_pool.specs.Grants.{with_session}
@@ -59,14 +61,23 @@ none_of_kind kind other (a ∷ list) apart = at kind other a list (eqb a.kind ot
     at kind other a list false is apart others = others
     at kind other a list true is apart others = rw (eqb-true a.kind other is, apart) others
 
+-- nor is any that is granted of a Type that can't be
+granted_none : (kind : ℕ) (list : List Attribute) → may_be_granted kind ≡ false → All IsGrantable list → first_value kind list ≡ None
+granted_none kind [] kept_out all = refl
+granted_none kind (a ∷ list) kept_out all = at (eqb a.kind kind) refl (granted_none kind list kept_out (All-tail IsGrantable a list all))
+  where
+    at : (b : Bool) → eqb a.kind kind ≡ b → first_value kind list ≡ None → option_map (λ (x : Attribute). x.value) (cond b (Some a) (find (is_of kind) list)) ≡ None
+    at false e others = others
+    at true e others = absurd (false≢true (sym kept_out ∙ ap may_be_granted (sym (eqb-true a.kind kind e)) ∙ (All-head IsGrantable a list all).kind))
+
 -- an integer of an Access-Accept, as attributes
 abbrev integer : ℕ → Option ℕ → List Attribute
 integer kind number = attribute_if_any kind (option_map four_octets number)
 
 -- the Class of an Access-Accept has the number of the session that is granted
-pub accept_has_class : (user : User) (grant : Grant) (p : Packet)
+pub accept_has_class : (user : User) (grant : Grant) (p : Packet) → All IsGrantable user.reply.attributes
     → first_value 25 (access_accept user grant p).attributes ≡ Some (class_value grant.number)
-accept_has_class user grant p =
+accept_has_class user grant p granted =
     let service : List Attribute = integer 6 user.service in
     let protocol : List Attribute = integer 7 user.protocol in
     let address : List Attribute = integer 8 grant.address in
@@ -78,13 +89,15 @@ accept_has_class user grant p =
     let none4 = first_after 25 (service ++ protocol ++ address) timeout None none3 (none_if_any 25 27 (option_map four_octets user.timeout) refl) in
     let none5 = first_after 25 (service ++ protocol ++ address ++ timeout) message None none4 (none_if_any 25 18 user.message refl) in
     let found = first_after 25 (service ++ protocol ++ address ++ timeout ++ message) class (Some (class_value grant.number)) none5 refl in
-    first_before 25 (service ++ protocol ++ address ++ timeout ++ message ++ class) (of_kind 33 p.attributes) (Some (class_value grant.number)) found
+    let reply : List Attribute = user.reply.attributes in
+    let first = first_before 25 (service ++ protocol ++ address ++ timeout ++ message ++ class) reply (Some (class_value grant.number)) found (granted_none 25 reply refl granted) in
+    first_before 25 (service ++ protocol ++ address ++ timeout ++ message ++ class ++ reply) (of_kind 33 p.attributes) (Some (class_value grant.number)) first
     (none_of_kind 25 33 p.attributes refl)
 
 -- the address of an Access-Accept is that of the session
-pub accept_has_address : (user : User) (grant : Grant) (p : Packet)
+pub accept_has_address : (user : User) (grant : Grant) (p : Packet) → All IsGrantable user.reply.attributes
     → first_value 8 (access_accept user grant p).attributes ≡ option_map four_octets grant.address
-accept_has_address user grant p =
+accept_has_address user grant p granted =
     let value : Option (List ℕ) = option_map four_octets grant.address in
     let service : List Attribute = integer 6 user.service in
     let protocol : List Attribute = integer 7 user.protocol in
@@ -97,7 +110,9 @@ accept_has_address user grant p =
     let found4 = first_before 8 (service ++ protocol ++ address) timeout value found3 (none_if_any 8 27 (option_map four_octets user.timeout) refl) in
     let found5 = first_before 8 (service ++ protocol ++ address ++ timeout) message value found4 (none_if_any 8 18 user.message refl) in
     let found6 = first_before 8 (service ++ protocol ++ address ++ timeout ++ message) class value found5 refl in
-    first_before 8 (service ++ protocol ++ address ++ timeout ++ message ++ class) (of_kind 33 p.attributes) value found6
+    let reply : List Attribute = user.reply.attributes in
+    let found7 = first_before 8 (service ++ protocol ++ address ++ timeout ++ message ++ class) reply value found6 (granted_none 8 reply refl granted) in
+    first_before 8 (service ++ protocol ++ address ++ timeout ++ message ++ class ++ reply) (of_kind 33 p.attributes) value found7
     (none_of_kind 8 33 p.attributes refl)
   where
     own : (o : Option ℕ) → first_value 8 (integer 8 o) ≡ option_map four_octets o
@@ -219,15 +234,15 @@ live_has now window table body made same outlast seen live has accept value give
     )
 
 -- an Access-Accept has the session that is granted
-pub accept_has_session : (client source user_place now : ℕ) (user : User) (grant : Grant) (p : Packet) (table : Sessions)
+pub accept_has_session : (client source user_place now : ℕ) (user : User) (grant : Grant) (p : Packet) (table : Sessions) → All IsGrantable user.reply.attributes
     → HasItsSession (with_session client source user_place now grant table) (access_accept user grant p) now
-accept_has_session client source user_place now user grant p table accept value gives =
+accept_has_session client source user_place now user grant p table granted accept value gives =
     let new : Session = record { number = grant.number; client = client; source = source; user = user_place; address = grant.address; phase = Pending; made = now; seen = now } in (
       new,
       Contains-push table.sessions new,
       record {
-        address = sym (accept_has_address user grant p) ∙ gives;
-        number = accept_has_class user grant p;
+        address = sym (accept_has_address user grant p granted) ∙ gives;
+        number = accept_has_class user grant p granted;
       },
       refl,
     )

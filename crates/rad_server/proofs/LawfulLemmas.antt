@@ -1,12 +1,13 @@
 -- The state before the first request is lawful, and a step for a request that may be answered leads from a lawful state to a lawful
 -- one. The laws of the tables come from rad_pool and rad_recent.
 use Rattle.std.proofs.Common.{◌≡◌, ℕ, ◌≤◌, ◌<◌, Bool, true, false, cond, not, ◌==◌, List, [], ◌∷◌, length, find, All, Option, Some, None, IfSome, option_map, Result, Ok, Err, ok_or, arith, refl, ap, sym, subst, ◌∙◌}
-use Rattle.std.proofs.lemmas.Bool.{cond_both, ltb-true, or_parts}
-use Rattle.std.proofs.lemmas.List.Elements.{All-filter, All-head, All-nil, All-push, All-tail, All-weaker, filter_passes}
+use Rattle.std.proofs.lemmas.Bool.{cond_both, false≢true, ltb-true, or_parts}
+use Rattle.std.proofs.lemmas.List.Elements.{All-contains, All-filter, All-head, All-nil, All-push, All-tail, All-weaker, Contains-push, filter_passes}
 use Rattle.std.proofs.lemmas.Option.{IfSome_then, slice_get-get_or}
 use Rattle.std.specs.List.{position_or_len}
 use Rattle.std.specs.Str.{bytes_eq}
-use Rattle.std.specs.Prelude.{IfOk, IsOk, is_some, max, nat_lt}
+use Rattle.std.specs.Prelude.{IfOk, IsOk, is_some, max, nat_lt, option_and_then, slice_get, unwrap_or}
+use Rattle.std.specs.Option.{option_or}
 use Rattle.rad_packet.specs.Attributes.{value_max, first_integer}
 use Rattle.rad_packet.specs.Bodies.{Body}
 use Rattle.rad_packet.specs.Codes.{code_status_server}
@@ -25,11 +26,13 @@ use Rattle.rad_config.specs.Ranges.{HasLength, IsConfiguration, IsUser}
 use Rattle.rad_config.specs.Spans.{milliseconds, moment_max, spans_of}
 use Rattle.rad_config.specs.declared.spans.Spans.{Spans}
 use Rattle.rad_config.specs.declared.user.User.{User}
-use Rattle.rad_pool.specs.Grants.{granted, with_session}
-use Rattle.rad_pool.specs.Lawful.{ExpiryKeepsTheLaw, GrantKeepsTheLaw, IsLawful as AreLawfulSessions, IsLawfulSession, OpeningIsLawful as OpeningSessionsAreLawful, RenewalKeepsTheLaw, ResetKeepsTheLaw, StopKeepsTheLaw}
+use Rattle.rad_pool.specs.Grants.{granted, own_pool, pool_of, pool_of_user, with_session}
+use Rattle.rad_pool.specs.Lawful.{ExpiryKeepsTheLaw, GrantKeepsTheLaw, IsInPool, IsLawful as AreLawfulSessions, IsLawfulSession, OpeningIsLawful as OpeningSessionsAreLawful, RenewalKeepsTheLaw, ResetKeepsTheLaw, StopKeepsTheLaw}
 use Rattle.rad_pool.specs.Sessions.{Sessions, cut, renewed, source_reset, stopped}
 use Rattle.rad_pool.specs.declared.grant.Grant.{Grant}
 use Rattle.rad_pool.specs.declared.grant.Refusal.{Refusal}
+use Rattle.rad_pool.specs.declared.session.Phase.TheVariants.{Pending}
+use Rattle.rad_pool.specs.declared.session.Session.{Session}
 use Rattle.rad_recent.specs.Challenges.{Challenges, answered, has_state, is_challenge_live, next_number, waiting_with}
 use Rattle.rad_recent.specs.Lawful.{AnswerLeavesLawfulChallenges, AreLawfulReplies, ExpiryLeavesLawfulChallenges, ExpiryLeavesLawfulReplies, IssueLeavesLawfulChallenges, KeepingLeavesLawfulReplies, OpeningChallengesAreLawful, OpeningRepliesAreLawful, RemovalLeavesLawfulReplies}
 use Rattle.rad_recent.specs.Recent.{Replies, cut_replies, is_full, is_reply_live, replies_for, same_key, without_key}
@@ -39,7 +42,7 @@ use Rattle.rad_recent.specs.declared.challenge.Party.TheVariants as Party
 use Rattle.rad_recent.specs.declared.challenges.IssueFault.{IssueFault}
 use Rattle.rad_recent.specs.declared.kept.Kept.{Kept}
 use Rattle.rad_server.proofs.AddressLemmas.{KeepsSessions, OutlastReplies, WasSeen, accept_has_session, grant_keeps, live_has, renewal_keeps, reset_keeps, still_has, stop_keeps}
-use Rattle.rad_server.proofs.ReplyLemmas.{accept_is_reply, accounting_is_reply, challenge_is_reply, reject_is_reply}
+use Rattle.rad_server.proofs.ReplyLemmas.{accept_is_reply, can_be_accepted, accounting_is_reply, challenge_is_reply, reject_is_reply}
 use Rattle.rad_server.proofs.ShareLemmas.{MayWait, challenges_within, none_within, replies_within, shares_with_one, waiting_with_one}
 use Rattle.rad_server.specs.Access.{Challenged, Decision, Granted, access, access_with, answer_matches, answered_challenge, challenge_for, challenge_number, challenge_or_denial, decided, decision, decision_on_answer, decision_on_password, is_name_of, number_or_denial, password_matches, session_for, session_or_denial, user_by_answer, user_by_password, without_challenge}
 use Rattle.rad_server.specs.Accounting.{account, changed, reported, session_meant, shows_reset, shows_session, status_stop}
@@ -207,6 +210,10 @@ user_is_known configuration user is within =
     let row : User = user_at configuration user in
     rw (slice_get-get_or configuration.users user row within) (is.users user row within)
 
+-- a user who has a place is there
+is_there : {X : Type 0} (xs : List X) (i : ℕ) (d : X) → i < length xs → slice_get xs i ≡ Some (unwrap_or (slice_get xs i) d)
+is_there xs i d within = let e = slice_get-get_or xs i d within in e ∙ ap (λ o. Some (unwrap_or o d)) (sym e)
+
 -- a text of the configuration fits an attribute
 text_fits : (text : Option (List ℕ)) → IfSome text (HasLength 1 value_max) → IfSome text (λ octets. length octets ≤ value_max)
 text_fits text has = IfSome_then text has (λ octets known. known.1)
@@ -344,6 +351,22 @@ record IsLawfulResult (configuration : Configuration) (state : State) (result : 
   clock : result.1.clock ≡ state.clock
   replies : result.1.replies ≡ state.replies
 
+-- an address in a user's pool is one of a user with an address of their own, or a pool
+pooled : (configuration : Configuration) (user : ℕ) (row : User) (address : Option ℕ) → slice_get configuration.users user ≡ Some row
+    → IfSome address (IsInPool (pool_of configuration user)) → is_some address ≡ true → is_some (option_or row.address row.pool) ≡ true
+pooled configuration user row None is inside has = absurd (false≢true has)
+pooled configuration user row (Some address) is inside has = at row.address row.pool refl refl
+  where
+    at : (own pool : Option ℕ) → row.address ≡ own → row.pool ≡ pool → is_some (option_or row.address row.pool) ≡ true
+    at (Some held) pool e f = ap (λ o. is_some (option_or o row.pool)) e
+    at None (Some place) e f = ap (λ o. is_some (option_or o row.pool)) e ∙ ap is_some f
+    at None None e f =
+        let none : pool_of configuration user ≡ None =
+        ap (option_and_then (pool_of_user configuration.pools)) is
+        ∙ ap (λ own. option_or (option_map own_pool own) (option_and_then (slice_get configuration.pools) row.pool)) e
+        ∙ ap (option_and_then (slice_get configuration.pools)) f in
+        absurd (subst (λ o. IsInPool o address) none inside)
+
 -- a sound decision gives a lawful result
 decided_is_lawful : TableLaws → (configuration : Configuration) (state : State) (request : Request) (draw : List ℕ) (d : Result Decision Denial)
     → IsGiven configuration request draw → IsLawful configuration state → IsSound configuration state request.client d
@@ -359,7 +382,7 @@ decided_is_lawful laws configuration state request draw (Ok (Challenged user)) g
     let known = user_is_known configuration user given.valid sound.0 in
     let row : User = user_at configuration user in
     record {
-      reply = challenge_is_reply row state.challenges.next draw request.packet (text_fits row.challenge known.challenge) given.drawn
+      reply = challenge_is_reply row state.challenges.next draw request.packet (text_fits row.challenge known.said.challenge) given.drawn
           given.answerable.proxy_states;
       session = λ accept. absurd (omega (arith, accept));
       new = record {
@@ -388,20 +411,35 @@ decided_is_lawful laws configuration state request draw (Ok (Challenged user)) g
 decided_is_lawful laws configuration state request draw (Ok (Granted user grant)) given lawful sound =
     let known = user_is_known configuration user given.valid sound.0 in
     let row : User = user_at configuration user in
+    let at_place : slice_get configuration.users user ≡ Some row = is_there configuration.users user _ sound.0 in
+    let new = laws.sessions.grant configuration request.client request.source user state.clock grant state.sessions given.answerable.client sound.0 sound.1 lawful.sessions in
+    let session : Session = record {
+      number = grant.number;
+      client = request.client;
+      source = request.source;
+      user = user;
+      address = grant.address;
+      phase = Pending;
+      made = state.clock;
+      seen = state.clock;
+    } in
+    let sessions = with_session request.client request.source user state.clock grant state.sessions in
+    let is_lawful = IsLawfulSession configuration state.clock sessions.next in
+    let in_pool = (All-contains is_lawful sessions.sessions session new.sessions (Contains-push state.sessions.sessions session)).address in
     record {
-      reply = accept_is_reply row grant request.packet (text_fits row.message known.message) given.answerable.proxy_states;
-      session = accept_has_session request.client request.source user state.clock row grant request.packet state.sessions;
+      reply = accept_is_reply row grant request.packet (can_be_accepted (length configuration.pools) row grant known (pooled configuration user row grant.address at_place in_pool)) given.answerable.proxy_states;
+      session = accept_has_session request.client request.source user state.clock row grant request.packet state.sessions known.reply;
       new = record {
         clock = lawful.clock;
         spans = lawful.spans;
         window = lawful.window;
         hold = lawful.hold;
-        sessions = laws.sessions.grant configuration request.client request.source user state.clock grant state.sessions given.answerable.client sound.0 sound.1 lawful.sessions;
+        sessions = new;
         replies = lawful.replies;
         owned = lawful.owned;
         shares = lawful.shares;
         repeatable = lawful.repeatable;
-        addresses = addresses_kept state.sessions (with_session request.client request.source user state.clock grant state.sessions) state.replies.kept
+        addresses = addresses_kept state.sessions sessions state.replies.kept
             (grant_keeps request.client request.source user state.clock grant state.sessions) lawful.addresses;
         challenges = lawful.challenges;
         waiting = lawful.waiting;

@@ -1,8 +1,10 @@
 -- What the server replies can be sealed: it fits a packet, and has a Message-Authenticator first or none.
-use Rattle.std.proofs.Common.{◌≡◌, ◌⊎◌, ℕ, ◌+◌, ◌≤◌, Bool, true, false, cond, eqb, List, [], ◌∷◌, ◌++◌, length, Option, Some, None, refl, ap, ◌∙◌, arith, inl, inr}
+use Rattle.std.proofs.Common.{◌≡◌, All, sym, ◌⊎◌, ℕ, ◌+◌, ◌≤◌, Bool, true, false, cond, eqb, List, [], ◌∷◌, ◌++◌, length, Option, Some, None, refl, ap, ◌∙◌, arith, inl, inr}
 use Rattle.std.specs.Int.{w64, to_be_bytes}
-use Rattle.std.specs.Prelude.{IfSome, option_map}
-use Rattle.std.proofs.lemmas.Bool.{eqb-true, ne_eqb}
+use Rattle.std.specs.Prelude.{IfSome, is_some, option_map}
+use Rattle.std.specs.Option.{option_or}
+use Rattle.std.proofs.lemmas.List.Elements.{All-head, All-tail}
+use Rattle.std.proofs.lemmas.Bool.{eqb-true, false≢true, ne_eqb}
 use Rattle.std.proofs.lemmas.Grind.{flat_map-append}
 use Rattle.std.proofs.lemmas.List.{length-append}
 use Rattle.std.proofs.lemmas.List.Sums.{sum_by-append, sum_by-cons}
@@ -12,6 +14,11 @@ use Rattle.rad_auth.specs.Admission.{proxy_states_max, proxy_states_size}
 use Rattle.rad_auth.specs.Authenticators.{sixteen_zeros}
 use Rattle.rad_auth.specs.Sealing.{IsReply}
 use Rattle.rad_auth.specs.declared.arrival.Door.TheVariants.{Acct, Auth}
+use Rattle.rad_dictionary.specs.Dictionary.{may_be_granted}
+use Rattle.rad_dictionary.specs.Meant.{IsGrantable}
+use Rattle.rad_config.specs.Configurations.{size_if_any, text_size}
+use Rattle.rad_config.specs.Ranges.{IsUser}
+use Rattle.rad_server.specs.ReplyBodies.{CanBeAccepted}
 use Rattle.rad_config.specs.declared.user.User.{User}
 use Rattle.rad_pool.specs.declared.grant.Grant.{Grant}
 use Rattle.rad_recent.specs.Challenges.{state_value}
@@ -100,27 +107,116 @@ reject_is_reply denial p le = access_is_reply 3 (attribute 18 (denial_text denia
     short NoAddressLeft = record { size = omega arith; none = refl }
     short ServerFull = record { size = omega arith; none = refl }
 
-pub accept_is_reply : (user : User) (grant : Grant) (p : Packet) → IfSome user.message (λ message. length message ≤ value_max) → proxy_states_size p ≤ proxy_states_max
+-- what an Access-Accept has before the reply that is configured
+abbrev front : User → Grant → List Attribute
+front user grant =
+    attribute_if_any 6 (option_map four_octets user.service) ++ attribute_if_any 7 (option_map four_octets user.protocol)
+    ++ attribute_if_any 8 (option_map four_octets grant.address) ++ attribute_if_any 27 (option_map four_octets user.timeout)
+    ++ attribute_if_any 18 user.message ++ attribute 25 (class_value grant.number)
+
+-- none of it is a Message-Authenticator
+none_if_any : (kind : ℕ) (value : Option (List ℕ)) → (kind ≡ 80 → ⊥) → count 80 (attribute_if_any kind value) ≡ 0
+none_if_any kind None other = refl
+none_if_any kind (Some value) other = rw (ne_eqb kind 80 other) refl
+
+front_has_none : (user : User) (grant : Grant) → count 80 (front user grant) ≡ 0
+front_has_none user grant =
+    let service = attribute_if_any 6 (option_map four_octets user.service) in
+    let protocol = attribute_if_any 7 (option_map four_octets user.protocol) in
+    let address = attribute_if_any 8 (option_map four_octets grant.address) in
+    let timeout = attribute_if_any 27 (option_map four_octets user.timeout) in
+    let message = attribute_if_any 18 user.message in
+    let class = attribute 25 (class_value grant.number) in
+    let none_of_class : count 80 class ≡ 0 = refl in
+    omega (
+      arith,
+      count-append 80 service protocol,
+      count-append 80 (service ++ protocol) address,
+      count-append 80 (service ++ protocol ++ address) timeout,
+      count-append 80 (service ++ protocol ++ address ++ timeout) message,
+      count-append 80 (service ++ protocol ++ address ++ timeout ++ message) class,
+      none_if_any 6 (option_map four_octets user.service) (λ e. omega (arith, e)),
+      none_if_any 7 (option_map four_octets user.protocol) (λ e. omega (arith, e)),
+      none_if_any 8 (option_map four_octets grant.address) (λ e. omega (arith, e)),
+      none_if_any 27 (option_map four_octets user.timeout) (λ e. omega (arith, e)),
+      none_if_any 18 user.message (λ e. omega (arith, e)),
+      none_of_class,
+    )
+
+pub accept_is_reply : (user : User) (grant : Grant) (p : Packet) → CanBeAccepted user grant → proxy_states_size p ≤ proxy_states_max
     → IsReply (access_accept user grant p)
-accept_is_reply user grant p message le = access_is_reply 2 (accept_attributes user grant) p (inl refl) own le
+accept_is_reply user grant p can le =
+    access_is_reply 2 (accept_attributes user grant) p (inl refl)
+    (record {
+      size = can.fits;
+      none = omega (arith, count-append 80 (front user grant) user.reply.attributes, front_has_none user grant, can.none);
+    }) le
+
+-- ---- what a configuration gives
+
+-- none of the attributes that are granted is of a Type that can't be
+pub granted_count : (kind : ℕ) (list : List Attribute) → may_be_granted kind ≡ false → All IsGrantable list → count kind list ≡ 0
+granted_count kind [] kept_out all = refl
+granted_count kind (a ∷ list) kept_out all =
+    at (eqb a.kind kind) refl (granted_count kind list kept_out (All-tail IsGrantable a list all))
   where
-    integer : (kind : ℕ) (number : Option ℕ) (most so_far : ℕ) (front : List Attribute) → (kind ≡ 80 → ⊥) → so_far + 6 ≤ most → IsOwn so_far front
-        → IsOwn most (front ++ attribute_if_any kind (option_map four_octets number))
-    integer kind number most so_far front other fits before =
-        own-append so_far 6 most front (attribute_if_any kind (option_map four_octets number)) fits before (own-integer kind number other)
+    at : (b : Bool) → eqb a.kind kind ≡ b → count kind list ≡ 0 → count kind (a ∷ list) ≡ 0
+    at false e others = sum_by-cons (λ (x : Attribute). cond (eqb x.kind kind) 1 0) a list ∙ rw e (omega (arith, others))
+    at true e others = absurd (false≢true (sym kept_out ∙ ap may_be_granted (sym (eqb-true a.kind kind e)) ∙ (All-head IsGrantable a list all).kind))
 
-    integers : IsOwn 24 (attribute_if_any 6 (option_map four_octets user.service) ++ attribute_if_any 7 (option_map four_octets user.protocol)
-        ++ attribute_if_any 8 (option_map four_octets grant.address) ++ attribute_if_any 27 (option_map four_octets user.timeout))
-    integers =
-        integer 27 user.timeout 24 18 _ (λ e. omega (arith, e)) (omega arith) (
-        integer 8 grant.address 18 12 _ (λ e. omega (arith, e)) (omega arith) (
-        integer 7 user.protocol 12 6 _ (λ e. omega (arith, e)) (omega arith) (own-integer 6 user.service (λ e. omega (arith, e)))))
+size_integer : (kind : ℕ) (o : Option ℕ) → size (attribute_if_any kind (option_map four_octets o)) ≡ size_if_any 6 o
+size_integer kind None = refl
+size_integer kind (Some number) = refl
 
-    own : IsOwn 474 (accept_attributes user grant)
-    own =
-        own-append 279 14 474 _ (attribute 25 (class_value grant.number)) (omega arith)
-        (own-append 24 255 279 _ (attribute_if_any 18 user.message) (omega arith) integers (own-text 18 user.message (λ e. omega (arith, e)) message))
-        (own-one 25 12 (class_value grant.number) (λ e. omega (arith, e)) (omega arith))
+size_text : (o : Option (List ℕ)) → size (attribute_if_any 18 o) ≡ text_size o
+size_text None = refl
+size_text (Some text) = omega (arith, length-append text [])
+
+size_class : (number : ℕ) → size (attribute 25 (class_value number)) ≡ 14
+size_class number = refl
+
+-- an address is there only with one of the user's own, or a pool
+size_address : (address pool : Option ℕ) → (is_some address ≡ true → is_some pool ≡ true) → size_if_any 6 address ≤ size_if_any 6 pool
+size_address None pool has = omega arith
+size_address (Some address) None has = absurd (false≢true (has refl))
+size_address (Some address) (Some place) has = omega arith
+
+-- of an address of one's own and a pool, one takes no more room than both
+size_either : (own pool : Option ℕ) → size_if_any 6 (option_or own pool) ≤ size_if_any 6 pool + size_if_any 6 own
+size_either None pool = omega arith
+size_either (Some address) pool = omega arith
+
+pub can_be_accepted : (pools : ℕ) (user : User) (grant : Grant) → IsUser pools user → (is_some grant.address ≡ true → is_some (option_or user.address user.pool) ≡ true)
+    → CanBeAccepted user grant
+can_be_accepted pools user grant is has = record {
+  fits =
+      let service = attribute_if_any 6 (option_map four_octets user.service) in
+      let protocol = attribute_if_any 7 (option_map four_octets user.protocol) in
+      let address = attribute_if_any 8 (option_map four_octets grant.address) in
+      let timeout = attribute_if_any 27 (option_map four_octets user.timeout) in
+      let message = attribute_if_any 18 user.message in
+      let class = attribute 25 (class_value grant.number) in
+      let reply = user.reply.attributes in
+      omega (
+        arith,
+        is.fits,
+        size_address grant.address (option_or user.address user.pool) has,
+        size_either user.address user.pool,
+        size-append service protocol,
+        size-append (service ++ protocol) address,
+        size-append (service ++ protocol ++ address) timeout,
+        size-append (service ++ protocol ++ address ++ timeout) message,
+        size-append (service ++ protocol ++ address ++ timeout ++ message) class,
+        size-append (service ++ protocol ++ address ++ timeout ++ message ++ class) reply,
+        size_integer 6 user.service,
+        size_integer 7 user.protocol,
+        size_integer 8 grant.address,
+        size_integer 27 user.timeout,
+        size_text user.message,
+        size_class grant.number,
+      );
+  none = granted_count 80 user.reply.attributes refl is.reply;
+}
 
 pub challenge_is_reply : (user : User) (number : ℕ) (draw : List ℕ) (p : Packet) → IfSome user.challenge (λ text. length text ≤ value_max) → length draw ≡ 16 → proxy_states_size p ≤ proxy_states_max
     → IsReply (access_challenge user number draw p)

@@ -1,9 +1,10 @@
 -- What the code decides on an Access-Request. No other crate cites these.
-use Rattle.std.specs.Prelude.{◌≡◌, ℕ, ◌==◌, Bool, false, not, List, Option, None, Some, ok_or, Result, Ok, Err}
+use Rattle.std.specs.Prelude.{◌≡◌, ◌<◌, ℕ, ◌==◌, Bool, false, not, List, Option, None, Some, ok_or, Result, Ok, Err, length}
 use Rattle.rad_packet.specs.Bodies.{Body}
 use Rattle.rad_packet.specs.Ladders.{◌>>=◌, refuse_if}
 use Rattle.rad_auth.specs.declared.arrival.Request.{Request}
 use Rattle.rad_config.specs.Configurations.{Configuration}
+use Rattle.rad_pool.specs.Grants.{HasPoolFor}
 use Rattle.rad_recent.specs.Challenges.{next_number}
 use Rattle.rad_server.specs.Access.{Challenged, Decision, Granted, decided, session_for, user_challenged, without_challenge}
 use Rattle.rad_server.specs.States.{State}
@@ -48,10 +49,11 @@ access_by_answer configuration state request draw answer =
     decided configuration left request draw
     (decision_answering configuration left (user_challenged request (Some answer.state.now) state) answer)
 
--- the place of the user to whom a decision gives
-abbrev pub place_given : DecisionOfCode → ℕ
-place_given (decisions.Challenge user number) = user
-place_given (decisions.Session session) = session.user
+-- a decision gives to a user of the configuration, and an address only to one with a pool
+abbrev pub IsOfUser : Configuration → DecisionOfCode → Type 0
+IsOfUser configuration (decisions.Challenge user number) = user < length configuration.users
+IsOfUser configuration (decisions.Session session) =
+    (session.user < length configuration.users) × HasPoolFor configuration session.user session.grant
 
 -- what a decision gives can be given in a state: a challenge with the next number, or a session with the next number
 abbrev pub CanBeGiven : State → DecisionOfCode → Type 0

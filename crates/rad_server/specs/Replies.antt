@@ -51,7 +51,7 @@ access_reply code own p = record {
   attributes = attribute type_message_authenticator sixteen_zeros ++ own ++ of_kind type_proxy_state p.attributes;
 }
 
--- what an Access-Accept gives a user
+-- what an Access-Accept gives a user: the configured reply stands after the Class
 abbrev pub accept_attributes : User → Grant → List Attribute
 accept_attributes user grant =
     attribute_if_any type_service_type (option_map four_octets user.service)
@@ -60,6 +60,7 @@ accept_attributes user grant =
     ++ attribute_if_any type_session_timeout (option_map four_octets user.timeout)
     ++ attribute_if_any type_reply_message user.message
     ++ attribute type_class (class_value grant.number)
+    ++ user.reply.attributes
 
 abbrev pub access_accept : User → Grant → Packet → Body
 access_accept user grant p = access_reply code_access_accept (accept_attributes user grant) p

@@ -4,7 +4,7 @@ ghost use Rattle.rad_config.specs.Configurations.{Configuration};
 ghost use Rattle.rad_config.specs.Spans.{moment_max};
 ghost use Rattle.rad_recent.specs.Challenges.{answered, cut_challenges, next_number};
 ghost use Rattle.rad_server.specs.Access.{challenge_number, user_challenged, user_decision, without_challenge};
-ghost use Rattle.rad_server.specs.Decisions.{CanBeGiven, Gives, decision_answering, decision_of, is_named, place_given, user_answering};
+ghost use Rattle.rad_server.specs.Decisions.{CanBeGiven, Gives, IsOfUser, decision_answering, decision_of, is_named, user_answering};
 ghost use Rattle.rad_server.specs.TableStates.{AreUsable, live_state, state_for};
 
 use crate::denial::Denial;
@@ -55,7 +55,7 @@ pub(crate) fn decide_for_user(
         (user_decision config.now (state_for request.now now tables.now)
         request.now.client user) }
     ensures given { IfOk result (CanBeGiven (live_state now tables.now)) }
-    ensures within { IfOk result (λ given. place_given given < length config.now.users) }
+    ensures within { IfOk result (IsOfUser config.now) }
 {
     if config.user_at(user).challenge.is_some() {
         let number = next_challenge(config, &tables.challenges, now, request.client, user)?;
@@ -114,7 +114,7 @@ pub(crate) fn decide_on_answer(
     ensures given { IfOk result (CanBeGiven
         (without_challenge request.now.client (Some answer.now.state.now)
         (live_state now tables.now))) }
-    ensures within { IfOk result (λ given. place_given given < length config.now.users) }
+    ensures within { IfOk result (IsOfUser config.now) }
 {
     let user = user_answering(tables, now, request, answer)?;
     let grant = tables.sessions.peek(config, request.client, user, now)?;

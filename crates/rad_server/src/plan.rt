@@ -6,7 +6,7 @@ ghost use Rattle.rad_auth.specs.Admission.{proxy_states_max, proxy_states_size};
 ghost use Rattle.rad_auth.specs.Sealing.{IsReply};
 ghost use Rattle.rad_config.specs.Configurations.{Configuration};
 ghost use Rattle.rad_config.specs.Spans.{moment_max};
-ghost use Rattle.rad_server.specs.Decisions.{place_given};
+ghost use Rattle.rad_server.specs.Decisions.{IsOfUser};
 ghost use Rattle.rad_server.specs.FixedReplies.{fixed_body};
 ghost use Rattle.rad_server.specs.Plans.{IsDecidedReply, IsNewReply, IsPlanOf, is_new, planned_answer};
 ghost use Rattle.rad_server.specs.Prepared.{IsRuled};
@@ -226,8 +226,7 @@ fn plan_decided<'a>(
     decision: Result<Decision, Denial>,
     draw: &[u8; 16],
 ) -> Result<NewReply<'a>, AllocError>
-    requires within { IfOk decision
-        (λ given. place_given given < length prepared.now.configuration.users) }
+    requires within { IfOk decision (IsOfUser prepared.now.configuration) }
     ensures decided { IfOk result (IsDecidedReply prepared.now.configuration prepared.now.request
         draw.now decision) }
     ensures answered { IfOk result

@@ -1,11 +1,13 @@
 //! What replies say.
 ghost use Rattle.std.specs.Prelude.{◌≡◌, ◌+◌, ◌≤◌, [], IfOk, IfSome, OnOk, length, option_map};
-ghost use Rattle.rad_packet.specs.Attributes.{of_kind, value_max};
+ghost use Rattle.rad_packet.specs.Attributes.{of_kind, size, value_max};
+ghost use Rattle.rad_packet.specs.Bodies.{with_attributes};
+ghost use Rattle.rad_config.specs.Configurations.{accept_max};
 ghost use Rattle.rad_packet.specs.Codes.{code_access_accept};
 ghost use Rattle.rad_packet.specs.Types.{type_proxy_state};
 ghost use Rattle.rad_auth.specs.Admission.{proxy_states_max, proxy_states_size};
 ghost use Rattle.rad_auth.specs.Sealing.{IsReply};
-ghost use Rattle.rad_server.specs.ReplyBodies.{access_front, with_attributes};
+ghost use Rattle.rad_server.specs.ReplyBodies.{CanBeAccepted, access_front};
 ghost use Rattle.rad_server.specs.Replies.{accept_attributes, access_accept, access_challenge, access_reject, access_reply, accounting_response, attribute_if_any, class_value, four_octets, status_reply};
 
 use crate::denial::Denial;
@@ -39,11 +41,13 @@ pub(crate) fn access_accept(
     packet: &Packet,
 ) -> Result<Body, AllocError>
     requires message { IfSome user.now.message (λ message. length message ≤ value_max) }
+    requires small { size user.now.reply.attributes ≤ accept_max }
+    requires accepted { CanBeAccepted user.now grant }
     requires proxy_states { proxy_states_size packet.now ≤ proxy_states_max }
     ensures value { IfOk result (λ body. body ≡ access_accept user.now grant packet.now) }
     ensures reply { IfOk result IsReply }
 {
-    let own = 4 * INTEGER_SIZE + text_size(user.message.as_ref()) + CLASS_SIZE;
+    let own = 4 * INTEGER_SIZE + text_size(user.message.as_ref()) + CLASS_SIZE + user.reply.size();
     let size = FRONT_SIZE + own + proxy_states_size(packet);
     let mut body = grant_body(alloc, user, grant, size)?;
     copy_proxy_states(packet, &mut body)?;
@@ -156,6 +160,7 @@ fn grant_body(alloc: Global, user: &User, grant: Grant, size: usize) -> Result<B
         body.push(REPLY_MESSAGE, message.octets())?;
     }
     body.push(CLASS, &class_value(grant.number))?;
+    body.append(&user.reply)?;
     Ok(body)
 }
 

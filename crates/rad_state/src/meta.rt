@@ -16,7 +16,7 @@ use std::alloc::{AllocError, Global};
 pub const FORMAT: u32 = 1;
 
 /// The number of the program's rules, raised whenever it may answer an entry otherwise.
-pub const RULES: u32 = 1;
+pub const RULES: u32 = 2;
 
 // The columns of a row, after its rowid.
 const AT_FORMAT: usize = 1;

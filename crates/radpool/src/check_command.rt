@@ -5,9 +5,9 @@ use crate::options::{Absent, TEXT, Valued, text_of, with_options};
 use crate::state_copies::StateCopies;
 use crate::state_files::seed;
 use clap::{Arg, ArgMatches, Command};
-use rad_check::{detail_of, warn};
+use rad_check::warn;
 use rad_config::{Config, read_configuration};
-use rad_serve::{open_text, preview};
+use rad_serve::{open_source, preview};
 use std::alloc::{AllocError, AllocGlobal, Global};
 use std::fmt;
 use std::process::ExitCode;
@@ -83,13 +83,13 @@ fn try_check<R: Files + Print + Eprint + AllocGlobal>(
     checking: &Checking,
 ) -> Result<(), Fault> {
     let path = checking.path.as_str();
-    let text = open_text(rt, path)?;
-    let config = match read_configuration(rt.alloc(), &text) {
+    let source = open_source(rt, path)?;
+    let config = match read_configuration(rt.alloc(), &source.text) {
         Ok(config) => config,
-        Err(fault) => return Err(Fault::Config(fault, detail_of(rt.alloc(), &text, fault))),
+        Err(fault) => return Err(Fault::from(source.into_fault(rt.alloc(), fault))),
     };
     let mut warnings = String::new(rt.alloc());
-    warn(&mut warnings, rt, path, &text, &config);
+    warn(&mut warnings, rt, path, &source, &config);
     let _ = eprint!(rt; "{warnings}");
     print_good(rt, path, &config)?;
     match &checking.state {

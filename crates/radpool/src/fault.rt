@@ -2,11 +2,11 @@
 
 use clap::Command;
 use clap::error::ErrorKind;
-use rad_check::Detail;
+use rad_check::{Detail, SourceFault, UsersFault};
 use rad_config::ConfigFault;
 use rad_journal::{JournalFault, RestoreFault};
 use rad_replay::RunFault;
-use rad_serve::{HeldFault, ServeError};
+use rad_serve::{GivenFault, HeldFault, ServeError};
 use rad_shell::ServeFault;
 use rad_state::OpenFault;
 use sqlite_disk::is_no_room;
@@ -39,6 +39,11 @@ pub enum Fault {
     },
     /// The configuration to check has a fault.
     Config(ConfigFault, Detail),
+    /// The file of users at this path has a fault.
+    Users {
+        path: String,
+        fault: UsersFault,
+    },
 }
 
 /// Why a state isn't served from, or no longer.
@@ -191,6 +196,24 @@ impl From<ServeError> for Fault {
     }
 }
 
+impl From<GivenFault> for Fault {
+    fn from(fault: GivenFault) -> Fault {
+        match fault {
+            GivenFault::Serve(error) => Fault::Serve(error),
+            GivenFault::Users { path, fault } => Fault::Users { path, fault },
+        }
+    }
+}
+
+impl From<SourceFault> for Fault {
+    fn from(fault: SourceFault) -> Fault {
+        match fault {
+            SourceFault::Own(fault, detail) => Fault::Config(fault, detail),
+            SourceFault::Users { name, fault } => Fault::Users { path: name, fault },
+        }
+    }
+}
+
 impl From<clap::Error> for Fault {
     fn from(error: clap::Error) -> Fault {
         if error.kind() == ErrorKind::OutOfMemory {
@@ -249,6 +272,10 @@ pub fn report<R: Eprint>(rt: &R, fault: Fault) -> ExitCode {
         }
         Fault::Config(fault, detail) => {
             let _ = eprintln!(rt; "radpool: {fault}{detail}");
+            ExitCode::from(RUN_FAULT)
+        }
+        Fault::Users { path, fault } => {
+            let _ = eprintln!(rt; "radpool: {path}: {fault}");
             ExitCode::from(RUN_FAULT)
         }
     }

@@ -1,7 +1,12 @@
+mod addresses;
 mod faults;
+mod groups;
 mod keys;
 mod limits;
+mod networks;
 mod readers;
+mod replies;
+mod sums;
 
 use rad_config::{Config, ConfigFault};
 use std::alloc::AllocError;
@@ -46,5 +51,13 @@ fn reads_as<R: Abort + AllocGlobal>(rt: &R, text: &str, want: &str) {
 fn read_as<R: Abort + AllocGlobal>(rt: &R, cases: &[(&str, &str)]) {
     for (text, want) in cases {
         reads_as(rt, text, want);
+    }
+}
+
+// The attributes that the first user's Access-Accepts are given.
+fn reply_octets(config: &Config) -> &[u8] {
+    match config.users().first() {
+        Some(user) => user.reply.attributes_octets(),
+        None => b"no user",
     }
 }

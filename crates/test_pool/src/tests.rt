@@ -2,6 +2,7 @@ mod copies;
 mod found;
 mod granted;
 mod limits;
+mod own;
 mod pair;
 mod pairs;
 mod plain;

@@ -11,6 +11,8 @@ pub(crate) enum Call {
     Add,
     TextCopy,
     ConfigRead,
+    /// One with groups and replies is read.
+    GroupsRead,
     /// A configuration is read from octets.
     ConfigurationRead,
 }
@@ -19,10 +21,36 @@ pub(crate) fn judge_call(alloc: Global, call: Call) -> Verdict {
     match call {
         Call::Add => judge(alloc, Some(ClientsTrial::new(alloc))),
         Call::TextCopy => judge(alloc, Some(TextTrial { alloc, given: None })),
-        Call::ConfigRead => judge(alloc, Some(ConfigTrial::new(alloc, false))),
-        Call::ConfigurationRead => judge(alloc, Some(ConfigTrial::new(alloc, true))),
+        Call::ConfigRead | Call::GroupsRead | Call::ConfigurationRead => {
+            judge(alloc, Some(ConfigTrial::new(alloc, call)))
+        }
     }
 }
+
+/// Two groups and two users, each with a reply but for the second user.
+const GROUPS: &str = r#"
+[[group]]
+name = "staff"
+timeout = 3600
+reply = [{attribute = "Filter-Id", value = "staff"}, {vendor = 9, attribute = 1, value = "shell:priv-lvl=1"}]
+
+[[group]]
+name = "admin"
+group = "staff"
+reply = [{attribute = "Framed-IPv6-Prefix", value = "2001:db8::/32"}]
+
+[[user]]
+name = "nemo"
+password = "arctangent"
+group = "admin"
+message = "welcome"
+reply = [{attribute = "Tunnel-Type", tag = 1, value = "VLAN"}, {attribute = 200, hex = "00ff"}]
+
+[[user]]
+name = "dory"
+password = "reef"
+group = "staff"
+"#;
 
 /// The first client is added.
 #[derive(Drop)]
@@ -90,31 +118,31 @@ impl Trial for TextTrial {
 #[derive(Drop)]
 struct ConfigTrial {
     alloc: Global,
-    is_octets: bool,
+    call: Call,
     given: Option<Config>,
 }
 
 impl ConfigTrial {
-    fn new(alloc: Global, is_octets: bool) -> ConfigTrial {
+    fn new(alloc: Global, call: Call) -> ConfigTrial {
         ConfigTrial {
             alloc,
-            is_octets,
+            call,
             given: None,
         }
     }
 
     fn read(&self) -> Result<Config, ConfigFault> {
-        if self.is_octets {
-            read_configuration(self.alloc, CAMPUS.as_bytes())
-        } else {
-            Config::read(self.alloc, CAMPUS)
+        match self.call {
+            Call::ConfigurationRead => read_configuration(self.alloc, CAMPUS.as_bytes()),
+            Call::GroupsRead => Config::read(self.alloc, GROUPS),
+            _ => Config::read(self.alloc, CAMPUS),
         }
     }
 }
 
 impl Trial for ConfigTrial {
     fn copy(&self) -> Option<ConfigTrial> {
-        Some(ConfigTrial::new(self.alloc, self.is_octets))
+        Some(ConfigTrial::new(self.alloc, self.call))
     }
 
     fn is_like(&self, other: &ConfigTrial) -> bool {

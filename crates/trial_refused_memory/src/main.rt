@@ -79,6 +79,11 @@ const RUNS: &[(&str, Run)] = &[
         "Body::push into room, without memory",
         Run::Packet(packets::Call::PushIntoRoom),
     ),
+    ("Body::append", Run::Packet(packets::Call::Append)),
+    (
+        "Body::append on a shared body",
+        Run::Packet(packets::Call::AppendShared),
+    ),
     ("Body::share", Run::Packet(packets::Call::Share)),
     ("Body::copy", Run::Packet(packets::Call::Copy)),
     (
@@ -92,6 +97,10 @@ const RUNS: &[(&str, Run)] = &[
     ("Clients::add", Run::Client(clients::Call::Add)),
     ("Text::copy_of", Run::Client(clients::Call::TextCopy)),
     ("Config::read", Run::Client(clients::Call::ConfigRead)),
+    (
+        "Config::read of groups with replies",
+        Run::Client(clients::Call::GroupsRead),
+    ),
     (
         "read_configuration",
         Run::Client(clients::Call::ConfigurationRead),

@@ -12,6 +12,8 @@ pub(crate) enum Call {
     Push,
     PushShared,
     PushIntoRoom,
+    Append,
+    AppendShared,
     Share,
     Copy,
     CopyShared,
@@ -42,16 +44,19 @@ struct BodyTrial {
     alloc: Global,
     call: Call,
     body: Body,
+    other: Body,
     given: Option<Body>,
 }
 
 impl BodyTrial {
     fn ready(alloc: Global, call: Call) -> Option<BodyTrial> {
         let body = body(alloc, call).ok()?;
+        let other = body_with_message(alloc).ok()?;
         Some(BodyTrial {
             alloc,
             call,
             body,
+            other,
             given: None,
         })
     }
@@ -60,9 +65,15 @@ impl BodyTrial {
 fn body(alloc: Global, call: Call) -> Result<Body, AllocError> {
     let mut body = Body::with_room(alloc, ACCESS_ACCEPT, room(call))?;
     body.push(USER_NAME, NAME)?;
-    if let Call::PushShared | Call::CopyShared = call {
+    if let Call::PushShared | Call::AppendShared | Call::CopyShared = call {
         body.share()?;
     }
+    Ok(body)
+}
+
+fn body_with_message(alloc: Global) -> Result<Body, AllocError> {
+    let mut body = Body::new(alloc, ACCESS_ACCEPT);
+    body.push(REPLY_MESSAGE, MESSAGE)?;
     Ok(body)
 }
 
@@ -76,10 +87,12 @@ fn room(call: Call) -> usize {
 impl Trial for BodyTrial {
     fn copy(&self) -> Option<BodyTrial> {
         let body = self.body.copy().ok()?;
+        let other = self.other.copy().ok()?;
         Some(BodyTrial {
             alloc: self.alloc,
             call: self.call,
             body,
+            other,
             given: None,
         })
     }
@@ -94,6 +107,7 @@ impl Trial for BodyTrial {
                 let result = Body::with_room(self.alloc, ACCESS_ACCEPT, 64);
                 keep(&mut self.given, result)
             }
+            Call::Append | Call::AppendShared => Called::by(self.body.append(&self.other).is_ok()),
             Call::Share => Called::by(self.body.share().is_ok()),
             Call::Copy | Call::CopyShared => keep(&mut self.given, self.body.copy()),
             _ => Called::by(self.body.push(REPLY_MESSAGE, MESSAGE).is_ok()),

@@ -63,8 +63,32 @@ fn faults_say_more(rt: HostRuntime) {
             ": pools 1 and 3",
         ),
         (
+            "group = [{name = \"a\"}, {name = \"b\"}, {name = \"a\"}]\n",
+            ": the same as group 1",
+        ),
+        (
+            "user = [{name = \"a\", password = \"p\", reply = [{attribute = 11}]}]\n",
+            "",
+        ),
+        (
             "user = [{name = \"a\", password = \"p\"}, {name = \"b\", password = \"p\"}, {name = \"b\", password = \"p\"}]\n",
             ": the same as user 2",
+        ),
+        (
+            "pool = [{name = \"a\", first = \"10.0.0.1\", last = \"10.0.0.9\"}, {name = \"b\", first = \"10.0.1.1\", last = \"10.0.1.9\"}]\nuser = [{name = \"a\", password = \"p\", address = \"10.0.1.9\"}]\n",
+            ": in pool 2",
+        ),
+        (
+            "user = [{name = \"a\", password = \"p\"}, {name = \"b\", password = \"p\", address = \"10.0.0.1\"}, {name = \"c\", password = \"p\", address = \"10.0.0.1\"}]\n",
+            ": the same as user 2",
+        ),
+        (
+            "user = [{name = \"a\", password = \"p\", address = \"10.0.0.1\"}, {name = \"b\", password = \"p\", address = \"10.0.0.1/32\"}]\n",
+            "",
+        ),
+        (
+            "pool = [{name = \"a\", first = \"10.0.0.1\", last = \"10.0.0.9\"}]\nuser = [{name = \"a\", password = \"p\", sessions = 1, address = \"10.0.1.1\"}]\n",
+            "",
         ),
         (
             "user = [{name = \"a\", password = \"p\", message = \"m\"}, {name = \"b\", password = \"p\", message = 1}]\n",

@@ -105,6 +105,50 @@ fn the_first_fault_is_reported(rt: HostRuntime) {
             "config fault 3 BadValue at pool 0 list",
         ),
         (
+            "user = 3\ngroup = 3\npool = 3",
+            "config fault 3 BadValue at pool 0 list",
+        ),
+        (
+            "user = 3\ngroup = 3",
+            "config fault 3 BadValue at group 0 list",
+        ),
+        (
+            "user = [{}]\ngroup = [{name = \"g\", reply = [5]}]",
+            "config fault 9 BadReply at group 1 reply 1 entry",
+        ),
+        (
+            "group = 3\n[[pool]]\nname = \"a\"\nfirst = \"10.0.0.1\"\nlast = \"10.0.0.1\"\n[[pool]]\nname = \"b\"\nfirst = \"10.0.0.1\"\nlast = \"10.0.0.1\"",
+            "config fault 5 PoolsOverlap",
+        ),
+        (
+            "group = [{name = \"g\", reply = [{}]}, {name = \"g\"}]",
+            "config fault 9 BadReply at group 1 reply 1 attribute",
+        ),
+        (
+            "group = [{name = \"\", group = \"x\", pool = \"x\"}]",
+            "config fault 3 BadValue at group 1 name",
+        ),
+        (
+            "group = [{name = \"g\"}, {name = \"g\", group = \"x\", pool = \"x\"}]",
+            "config fault 3 BadValue at group 2 name",
+        ),
+        (
+            "group = [{name = \"g\", group = \"x\", pool = \"x\"}]",
+            "config fault 3 BadValue at group 1 group",
+        ),
+        (
+            "group = [{name = \"g\", pool = \"x\", sessions = 0, reply = 5}]",
+            "config fault 3 BadValue at group 1 pool",
+        ),
+        (
+            "group = [{name = \"g\", challenge = 5, answer = 5, reply = 5}]",
+            "config fault 3 BadValue at group 1 challenge",
+        ),
+        (
+            "group = [{name = \"g\", grants = 0, reply = 5}]",
+            "config fault 3 BadValue at group 1 grants",
+        ),
+        (
             "client = [{address = \"1.2.3.4\", secret = \"s\"}, 5, {address = \"1.2.3.4\"}]",
             "config fault 3 BadValue at client 2 entry",
         ),
@@ -147,6 +191,22 @@ fn the_first_fault_is_reported(rt: HostRuntime) {
         (
             "user = [{name = \"a\", password = \"b\", sessions = 0, pool = \"x\"}]",
             "config fault 3 BadValue at user 1 pool",
+        ),
+        (
+            "user = [{name = \"a\", group = \"x\", pool = \"x\"}]",
+            "config fault 2 Missing at user 1 password",
+        ),
+        (
+            "user = [{name = \"a\", password = \"b\", group = \"x\", pool = \"x\"}]",
+            "config fault 3 BadValue at user 1 group",
+        ),
+        (
+            "user = [{name = \"a\", password = \"b\", grants = 0, reply = [5]}]",
+            "config fault 3 BadValue at user 1 grants",
+        ),
+        (
+            "user = [{name = \"a\", password = \"b\", reply = [5]}, 5]",
+            "config fault 9 BadReply at user 1 reply 1 entry",
         ),
     ];
     read_as(&rt, ROWS);

@@ -64,6 +64,78 @@ const NUMBERS: &[(&str, [i64; 2], [i64; 2], &str)] = &[
         [0, 101],
         "config fault 3 BadValue at client 1 share",
     ),
+    (
+        "[[group]]\nname = \"a\"\nsessions",
+        [1, 4_096],
+        [0, 4_097],
+        "config fault 3 BadValue at group 1 sessions",
+    ),
+    (
+        "[[group]]\nname = \"a\"\nservice",
+        [0, 4_294_967_295],
+        [-1, 4_294_967_296],
+        "config fault 3 BadValue at group 1 service",
+    ),
+    (
+        "[[group]]\nname = \"a\"\nprotocol",
+        [0, 4_294_967_295],
+        [-1, 4_294_967_296],
+        "config fault 3 BadValue at group 1 protocol",
+    ),
+    (
+        "[[group]]\nname = \"a\"\ntimeout",
+        [1, 4_294_967_295],
+        [0, 4_294_967_296],
+        "config fault 3 BadValue at group 1 timeout",
+    ),
+    (
+        "[[group]]\nname = \"a\"\nchallenges",
+        [1, 1_024],
+        [0, 1_025],
+        "config fault 3 BadValue at group 1 challenges",
+    ),
+    (
+        "[[group]]\nname = \"a\"\ngrants",
+        [1, 65_536],
+        [0, 65_537],
+        "config fault 3 BadValue at group 1 grants",
+    ),
+    (
+        "[[user]]\nname = \"a\"\npassword = \"b\"\n[[user.reply]]\nattribute = 1\nvalue = 5\nvendor",
+        [1, 16_777_215],
+        [0, 16_777_216],
+        "config fault 9 BadReply at user 1 reply 1 vendor",
+    ),
+    (
+        "[[user]]\nname = \"a\"\npassword = \"b\"\n[[user.reply]]\nvendor = 9\nvalue = 5\nattribute",
+        [1, 255],
+        [0, 256],
+        "config fault 9 BadReply at user 1 reply 1 attribute",
+    ),
+    (
+        "[[user]]\nname = \"a\"\npassword = \"b\"\n[[user.reply]]\nhex = \"00000000\"\nattribute",
+        [9, 255],
+        [0, 256],
+        "config fault 9 BadReply at user 1 reply 1 attribute",
+    ),
+    (
+        "[[user]]\nname = \"a\"\npassword = \"b\"\n[[user.reply]]\nattribute = \"Tunnel-Preference\"\nvalue = 5\ntag",
+        [1, 31],
+        [0, 32],
+        "config fault 9 BadReply at user 1 reply 1 tag",
+    ),
+    (
+        "[[user]]\nname = \"a\"\npassword = \"b\"\n[[user.reply]]\nattribute = \"Port-Limit\"\nvalue",
+        [0, 4_294_967_295],
+        [-1, 4_294_967_296],
+        "config fault 9 BadReply at user 1 reply 1 value",
+    ),
+    (
+        "[[user]]\nname = \"a\"\npassword = \"b\"\n[[user.reply]]\nattribute = \"Tunnel-Preference\"\nvalue",
+        [0, 16_777_215],
+        [-1, 16_777_216],
+        "config fault 9 BadReply at user 1 reply 1 value",
+    ),
 ];
 
 // Asserts the outcome of a text with this value at a key.
@@ -173,6 +245,48 @@ const TEXTS: &[(&str, &str, [usize; 2], [usize; 2], &str)] = &[
         [0, 129],
         "config fault 3 BadValue at user 1 answer",
     ),
+    (
+        "[[group]]\nname",
+        "",
+        [1, 64],
+        [0, 65],
+        "config fault 3 BadValue at group 1 name",
+    ),
+    (
+        "[[group]]\nname = \"a\"\nmessage",
+        "",
+        [1, 253],
+        [0, 254],
+        "config fault 3 BadValue at group 1 message",
+    ),
+    (
+        "[[group]]\nname = \"a\"\nchallenge",
+        "",
+        [1, 253],
+        [0, 254],
+        "config fault 3 BadValue at group 1 challenge",
+    ),
+    (
+        "[[group]]\nname = \"a\"\nanswer",
+        "",
+        [1, 128],
+        [0, 129],
+        "config fault 3 BadValue at group 1 answer",
+    ),
+    (
+        "[[user]]\nname = \"a\"\npassword = \"b\"\n[[user.reply]]\nattribute = \"Filter-Id\"\nvalue",
+        "",
+        [1, 253],
+        [0, 254],
+        "config fault 9 BadReply at user 1 reply 1 value",
+    ),
+    (
+        "[[user]]\nname = \"a\"\npassword = \"b\"\n[[user.reply]]\nattribute = \"Tunnel-Client-Endpoint\"\ntag = 1\nvalue",
+        "",
+        [1, 252],
+        [0, 253],
+        "config fault 9 BadReply at user 1 reply 1 value",
+    ),
 ];
 
 // A text of so many letters, as TOML spells it.
@@ -269,133 +383,17 @@ fn only_passwords_and_answers_have_no_zero(rt: HostRuntime) {
             "[[user]]\nname = \"a\"\npassword = \"b\"\nchallenge = \"c\"\nanswer = \"\\u0000c\"",
             "config fault 3 BadValue at user 1 answer",
         ),
+        ("[[group]]\nname = \"\\u0000\"", "read"),
+        (
+            "[[group]]\nname = \"a\"\nanswer = \"c\\u0000\"",
+            "config fault 3 BadValue at group 1 answer",
+        ),
+        (
+            "[[user]]\nname = \"a\"\npassword = \"b\"\nreply = [{attribute = 11, value = \"\\u0000\"}]",
+            "read",
+        ),
     ];
     read_as(&rt, ROWS);
-}
-
-// Asserts the outcome of a text with this client.
-fn client_reads_as<R: Abort + AllocGlobal>(rt: &R, address: &str, want: &str) {
-    let text = format!(in rt.alloc(); "[[client]]\naddress = \"{address}\"\nsecret = \"s\"");
-    reads_as(rt, text.expect(rt, address).as_str(), want);
-}
-
-#[test]
-fn addresses_have_ranges(rt: HostRuntime) {
-    // Addresses of clients, and the outcome of each.
-    const ROWS: &[(&str, &str)] = &[
-        ("0.0.0.0", "read"),
-        ("255.255.255.255", "read"),
-        ("256.0.0.1", "config fault 3 BadValue at client 1 address"),
-        (
-            "192.168.1.016",
-            "config fault 3 BadValue at client 1 address",
-        ),
-        ("1.2.3", "config fault 3 BadValue at client 1 address"),
-        ("1.2.3.4.5", "config fault 3 BadValue at client 1 address"),
-        ("1..2.3", "config fault 3 BadValue at client 1 address"),
-        ("+1.2.3.4", "config fault 3 BadValue at client 1 address"),
-        (" 1.2.3.4", "config fault 3 BadValue at client 1 address"),
-        ("1.2.3.4 ", "config fault 3 BadValue at client 1 address"),
-        ("", "config fault 3 BadValue at client 1 address"),
-    ];
-    for (address, want) in ROWS.iter() {
-        client_reads_as(&rt, address, want);
-    }
-}
-
-#[test]
-fn a_client_may_be_a_network(rt: HostRuntime) {
-    const BAD: &str = "config fault 3 BadValue at client 1 address";
-    // Networks of clients, and the outcome of each.
-    const ROWS: &[(&str, &str)] = &[
-        ("1.2.3.4/32", "read"),
-        ("10.0.0.0/8", "read"),
-        ("0.0.0.0/0", "read"),
-        ("128.0.0.0/1", "read"),
-        ("255.255.255.254/31", "read"),
-        ("10.0.0.1/8", BAD),
-        ("255.255.255.255/31", BAD),
-        ("0.0.0.1/0", BAD),
-        ("10.0.0.0/08", BAD),
-        ("10.0.0.0/00", BAD),
-        ("10.0.0.0/33", BAD),
-        ("10.0.0.0/100", BAD),
-        ("10.0.0.0/", BAD),
-        ("10.0.0.0/+8", BAD),
-        ("10.0.0.0/ 8", BAD),
-        ("10.0.0.0 /8", BAD),
-        ("10.0.0.0/8/8", BAD),
-        ("10.0.0/8", BAD),
-        ("/8", BAD),
-    ];
-    for (network, want) in ROWS.iter() {
-        client_reads_as(&rt, network, want);
-    }
-}
-
-#[test]
-fn no_two_clients_are_one_network(rt: HostRuntime) {
-    const SECOND: &str = "config fault 3 BadValue at client 2 address";
-    // Networks of two clients, and the outcome of each pair.
-    const ROWS: &[(&str, &str, &str)] = &[
-        ("10.1.2.3", "10.1.2.3/32", SECOND),
-        ("10.0.0.0/8", "10.0.0.0/8", SECOND),
-        ("0.0.0.0/0", "0.0.0.0/0", SECOND),
-        ("10.0.0.0/8", "10.0.0.0/16", "read"),
-        ("0.0.0.0/0", "0.0.0.0", "read"),
-    ];
-    for (first, second, want) in ROWS.iter() {
-        let text = format!(in rt.alloc();
-            "[[client]]\naddress = \"{first}\"\nsecret = \"s\"\n[[client]]\naddress = \"{second}\"\nsecret = \"s\""
-        );
-        reads_as(&rt, text.expect(&rt, first).as_str(), want);
-    }
-}
-
-// Asserts the outcome of a text with this pool.
-fn pool_reads_as<R: Abort + AllocGlobal>(rt: &R, first: &str, last: &str, want: &str) {
-    let text = format!(in rt.alloc();
-        "[[pool]]\nname = \"a\"\nfirst = \"{first}\"\nlast = \"{last}\""
-    );
-    reads_as(rt, text.expect(rt, first).as_str(), want);
-}
-
-#[test]
-fn pools_have_bounds(rt: HostRuntime) {
-    // First and last addresses of pools, and the outcome of each pair.
-    const ROWS: &[(&str, &str, &str)] = &[
-        ("0.0.0.1", "0.0.0.1", "read"),
-        (
-            "0.0.0.0",
-            "0.0.0.1",
-            "config fault 3 BadValue at pool 1 first",
-        ),
-        ("255.255.255.253", "255.255.255.253", "read"),
-        (
-            "255.255.255.253",
-            "255.255.255.254",
-            "config fault 3 BadValue at pool 1 last",
-        ),
-        (
-            "255.255.255.254",
-            "255.255.255.254",
-            "config fault 3 BadValue at pool 1 first",
-        ),
-        (
-            "10.0.0.2",
-            "10.0.0.1",
-            "config fault 3 BadValue at pool 1 last",
-        ),
-        ("10.0.0.0", "10.0.255.255", "read"),
-        (
-            "10.0.0.0",
-            "10.1.0.0",
-            "config fault 3 BadValue at pool 1 last",
-        ),
-    ];
-    for (first, last, want) in ROWS.iter() {
-        pool_reads_as(&rt, first, last, want);
-    }
 }
 
 #[test]

@@ -139,6 +139,7 @@ fn is_nemo(rt: &impl Abort, nemo: &User) {
     holds(rt, nemo.answer.is_none(), "no answer");
     holds(rt, nemo.challenges.is_none(), "no limit of challenges");
     holds(rt, nemo.grants.is_none(), "no limit of grants");
+    holds(rt, nemo.reply.size() == 0, "no further attributes");
 }
 
 // Asserts what the campus says of kay.
@@ -168,7 +169,7 @@ fn a_user_has_what_the_text_says(rt: HostRuntime) -> Result<(), Fail> {
     Ok(())
 }
 
-const LINE_COUNT: usize = 22;
+const LINE_COUNT: usize = 26;
 
 // The lines of a configuration, each with another that says something else.
 const LINES: &[(&str, &str); LINE_COUNT] = &[
@@ -192,6 +193,14 @@ const LINES: &[(&str, &str); LINE_COUNT] = &[
         "[[pool]]\nname = \"b\"\nfirst = \"2.0.0.1\"\nlast = \"2.0.0.1\"",
         "",
     ),
+    (
+        "[[group]]\nname = \"g\"\nreply = [{attribute = 11, value = \"f\"}]",
+        "[[group]]\nname = \"g\"\nreply = [{attribute = 11, value = \"F\"}]",
+    ),
+    (
+        "[[group]]\nname = \"h\"\ngroup = \"g\"",
+        "[[group]]\nname = \"h\"",
+    ),
     ("[[user]]\nname = \"n\"", "[[user]]\nname = \"nn\""),
     ("password = \"p\"", "password = \"q\""),
     ("sessions = 2", "sessions = 3"),
@@ -203,6 +212,11 @@ const LINES: &[(&str, &str); LINE_COUNT] = &[
     ("answer = \"4711\"", "answer = \"4712\""),
     ("challenges = 2", ""),
     ("grants = 9", "grants = 10"),
+    ("group = \"h\"", ""),
+    (
+        "reply = [{attribute = 62, value = 1}]",
+        "reply = [{attribute = 62, value = 2}]",
+    ),
 ];
 
 // The text in which this one line says something else.
@@ -321,6 +335,18 @@ fn equal_texts_give_equal_configurations(rt: HostRuntime) -> Result<(), Fail> {
         (
             "\n[[user]]\nname = \"n\"\npassword = \"p\"\nsessions = 1",
             true,
+        ),
+        (
+            "\n[[user]]\nname = \"n\"\npassword = \"p\"\nreply = []",
+            true,
+        ),
+        (
+            "\n[[user]]\nname = \"n\"\npassword = \"p\"\n[[group]]\nname = \"g\"\ntimeout = 1",
+            true,
+        ),
+        (
+            "\n[[user]]\nname = \"n\"\npassword = \"p\"\nreply = [{attribute = 11, value = \"f\"}]",
+            false,
         ),
         (
             "\n[[user]]\nname = \"n\"\npassword = \"p\"\ntimeout = 1",

@@ -5,7 +5,7 @@ use crate::tests::holds;
 use rad_config::ConfigFault;
 use rad_journal::RestoreFault;
 use rad_serve::{
-    Given, HeldFault, Options, Reports, ServeError, Sockets, UdpPorts, Workers, serve,
+    Given, GivenFault, HeldFault, Options, Reports, ServeError, Sockets, UdpPorts, Workers, serve,
     serve_with_state,
 };
 use rad_shell::{JournalFault, ServeFault};
@@ -79,10 +79,11 @@ fn served<R: Files + Net + Clock + Print + Eprint + Threads + Wait + Sync + Allo
     auth: u16,
 ) -> Option<Result<(), ServeError>> {
     let options = options(rt.alloc(), config, seed, auth)?;
-    Some(match Given::read(rt, &options) {
-        Ok(given) => serve(rt, &options, given),
-        Err(error) => Err(error),
-    })
+    match Given::read(rt, &options) {
+        Ok(given) => Some(serve(rt, &options, given)),
+        Err(GivenFault::Serve(error)) => Some(Err(error)),
+        Err(GivenFault::Users { .. }) => None,
+    }
 }
 
 /// Files, ports, and how serving ends: the configuration's fault comes first, then the seed's, and then that of the ports.

@@ -1,6 +1,7 @@
 /// Two clients. `nemo` and `dory` share a pool of one address; `bruce` may have two sessions; `kay` is challenged; `many` and
-/// fifteen more may together have as many sessions as there are, and no address; `coral` has all that an Access-Accept may tell; the
-/// rest have long passwords.
+/// fifteen more may together have as many sessions as there are, and no address; `coral` has all that keys of their own tell in an
+/// Access-Accept, and `marlin` an address of its own in place of its group's pool, and replies of both; the rest have long
+/// passwords.
 pub(crate) const CAMPUS: &str = r#"
 window = 30
 hold = 60
@@ -152,6 +153,20 @@ password = "0123456789abcdefg"
 [[user]]
 name = "longest"
 password = "0123456789abcdef0123456789abcdef0123456789abcdef0123456789abcdef0123456789abcdef0123456789abcdef0123456789abcdef0123456789abcdef"
+
+[[group]]
+name = "gold"
+pool = "eight"
+timeout = 600
+reply = [{ attribute = "Filter-Id", value = "gold" }]
+
+[[user]]
+name = "marlin"
+password = "p"
+group = "gold"
+address = "10.0.3.7"
+message = "hi"
+reply = [{ vendor = 9, attribute = 1, value = "x" }]
 "#;
 
 /// Another configuration: the first client alone.

@@ -10,6 +10,8 @@ use std::test::Fail;
 
 const CORAL: Sent = Plain(USER_NAME, b"coral");
 
+const MARLIN: Sent = Plain(USER_NAME, b"marlin");
+
 const PROXY: Sent = Plain(PROXY_STATE, b"zz");
 
 const NEXT_PROXY: Sent = Plain(PROXY_STATE, b"a");
@@ -25,6 +27,16 @@ const ALL: &[u8; 54] = b"\
     \x1b\x06\x00\x00\x0e\x10\
     \x12\x09welcome\
     \x19\x0eRAP1\x00\x00\x00\x00\x00\x00\x00\x01\
+    \x21\x04zz\x21\x03a";
+
+/// What the configuration grants to marlin, in the second session: the replies stand after the Class, the group's first.
+const REPLIES: &[u8; 52] = b"\
+    \x08\x06\x0a\x00\x03\x07\
+    \x1b\x06\x00\x00\x02\x58\
+    \x12\x04hi\
+    \x19\x0eRAP1\x00\x00\x00\x00\x00\x00\x00\x02\
+    \x0b\x06gold\
+    \x1a\x09\x00\x00\x00\x09\x01\x03x\
     \x21\x04zz\x21\x03a";
 
 #[test]
@@ -66,6 +78,14 @@ fn a_reply_ends_with_the_proxy_states(rt: HostRuntime) -> Result<(), Fail> {
                 Response(PROXIES),
             ),
             "its Accounting-Response",
+        ),
+        (
+            0,
+            Ask(
+                Access(2, &[PROXY, MARLIN, Hidden(b"p"), NEXT_PROXY]),
+                Accept(REPLIES),
+            ),
+            "an Access-Accept with the replies of a group and a user",
         ),
     ];
     play(&rt, rt.alloc(), ROWS)

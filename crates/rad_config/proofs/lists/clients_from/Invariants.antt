@@ -1,6 +1,7 @@
 use Rattle.std.proofs.Common.{◌≡◌, ◌+◌, length, drop}
 use Rattle.toml.specs.View.{items_view}
-use Rattle.rad_config.specs.Configurations.{entries_from, client_in}
+use Rattle.rad_config.specs.Configurations.{client_in}
+use Rattle.rad_config.specs.Entries.{entries_from}
 use Rattle.rad_config.specs.Readers.{clients_from}
 use Rattle.rad_config_fault.specs.declared.config_fault.Part.TheVariants as part
 use Rattle.rad_config.proofs.lists.clients_from.Given as goal

@@ -1,7 +1,8 @@
 use Rattle.std.proofs.Common.{◌≡◌, ◌+◌, length, drop}
 use Rattle.std.specs.Prelude.{All}
 use Rattle.toml.specs.View.{items_view}
-use Rattle.rad_config.specs.Configurations.{entries_from, share_in}
+use Rattle.rad_config.specs.Configurations.{share_in}
+use Rattle.rad_config.specs.Entries.{entries_from}
 use Rattle.rad_config.specs.Ranges.{HasShare}
 use Rattle.rad_config.specs.Readers.{shares_from}
 use Rattle.rad_config_fault.specs.declared.config_fault.Part.TheVariants as part
