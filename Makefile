@@ -1,6 +1,8 @@
 .PHONY: commands deb demo install install-trial refused-memory state test try udp uninstall
 
 PREFIX ?= /usr/local
+# How many checks the gate makes side by side: one a processor, where each has 4 GB. The toolchain guesses that each needs far more.
+LANES ?= $(shell awk -v cores="$$(nproc)" '/^MemTotal/ { most = int($$2 / 4000000); print most < 1 ? 1 : most < cores ? most : cores }' /proc/meminfo)
 PROGRAM = crates/radpool/out/radpool
 
 # Runs radpool on the shipped transcript without a proof, and prints what it answered.
@@ -45,7 +47,7 @@ test:
 	@cmp examples/requests.txt crates/radpool/stdin
 	@cmp examples/requests.expected crates/radpool/stdout
 	@docs/definitions --check
-	@rt ci
+	@RT_JOBS=$(LANES) rt ci
 	@trials/command/run > /dev/null
 	@trials/refused_memory/run > /dev/null
 	@trials/udp/run

@@ -76,6 +76,40 @@ def judge_change(text, given):
     judge(told == wanted, f"it is told what is left out: {told}, not {wanted}")
 
 
+OWN = bytes([10, 0, 0, 1])
+
+
+def text_of_own(owner):
+    """Two users, of whom this one has an address of their own."""
+    own = {owner: 'address = "10.0.0.1"\n'}
+    users = "".join(entry(User(name, has_address=False)).replace("sessions = 1\n", own.get(name, "")) for name in ("ann", "bo"))
+    return f"window = 600\nhold = 600\n{client_of(HERE)}{users}"
+
+
+def own_addresses():
+    """An address of a user's own is held by its session when the server was killed; if another user gets it, that is left out and told."""
+    state, text = folder("own"), text_of_own("bo")
+    with one_client() as ask:
+        with living(state, configuration=text_of_own("ann")) as server:
+            accept = ask(server.auth, access_request(1, b"ann"))
+            judge(attribute(accept, 8) == OWN, "ann gets the address of her own")
+            ended(server)
+        with living(state, configuration=text_of_own("ann")) as server:
+            judge(ask(server.auth, access_request(1, b"ann")) == accept, "a repeat gets the reply with the address")
+            judge(attribute(ask(server.auth, access_request(2, b"ann")), 18) == b"session limit", "her session goes on")
+            ended(server)
+        told = previewed(state, text)
+        with living(state, configuration=text) as server:
+            judge(attribute(ask(server.auth, access_request(3, b"bo")), 8) == OWN, "bo gets the address that is his now")
+            reply = ask(server.auth, access_request(4, b"ann"))
+            judge(reply[0] == ACCEPT and attribute(reply, 8) == b"", f"ann gets no address any more: {reply}")
+            errors = ended(server)
+    judge(errors == "".join(f"radpool: {line}\n" for line in told), f"a start tells what a check told: {errors}, not {told}")
+    wanted = ['left out session 1 user "ann" address 10.0.0.1', "restored sessions 0 replies 1 challenges 0 left out 1"]
+    judge(told == wanted, f"it is told what is left out: {told}, not {wanted}")
+    print("changes: an address of a user's own is held over a restart; given to another, the session is left out")
+
+
 def previewed(state, text, warned=""):
     """The lines of a check on what a start under this configuration would leave out, and warns of this. It changes nothing."""
     with open(path("changed.toml"), "w") as file:
@@ -200,11 +234,11 @@ def closed():
             judge((ran.returncode, ran.stderr) == (1, said), f"a state that is in use can't be closed: {ran}")
             ended(server)
         shutil.copytree(state, open_one)
-        edit(newest(open_one), "UPDATE meta SET rules = 2")
+        edit(newest(open_one), "UPDATE meta SET rules = rules + 1")
         refuses(open_one, OTHER_RULES, of=database_of, advice=closing(open_one), configuration=LONG)
         ran = radpool("state", "close", state)
         judge((ran.returncode, ran.stdout, ran.stderr) == (0, "closed generation 2\n", ""), f"a state can be closed: {ran}")
-        edit(newest(state), "UPDATE meta SET rules = 2")
+        edit(newest(state), "UPDATE meta SET rules = rules + 1")
         with living(state, configuration=LONG) as server:
             replies = [ask(server.auth, access_request(1, b"ann")), ask(server.auth, access_request(2))]
             judge(replies == [accept, challenge], f"repeats get the replies from before it was closed: {replies}")
