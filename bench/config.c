@@ -1,10 +1,10 @@
-// Microseconds to read a configuration of 256 clients, 16 pools and more and more users, and nanoseconds to find a user.
+// Microseconds to read a configuration of 256 clients, 16 pools, 256 groups and more and more users, and nanoseconds to find a user.
 #include "bench.h"
 #include <stdarg.h>
 #include <stdint.h>
 #include <stdio.h>
 
-enum { CLIENTS = 256, POOLS = 16, USERS = 4096, TRIES = 15, ROUNDS = 20, ROOM = 1 << 20 };
+enum { CLIENTS = 256, POOLS = 16, GROUPS = 256, USERS = 65536, TRIES = 15, ROUNDS = 20, ROOM = 1 << 24 };
 
 // Of crates/bench_c.
 size_t radpool_read(const uint8_t *text, size_t len);
@@ -26,9 +26,14 @@ static void lay_out(int users) {
     len = 0;
     for (int n = 0; n < CLIENTS; n++) add("[[client]]\naddress = \"192.168.0.%d\"\nsecret = \"secret of %d\"\n", n, n);
     for (int n = 0; n < POOLS; n++) add("[[pool]]\nname = \"hall %d\"\nfirst = \"10.0.%d.1\"\nlast = \"10.0.%d.254\"\n", n, n, n);
+    for (int n = 0; n < GROUPS; n++)
+        add("[[group]]\nname = \"plan %d\"\npool = \"hall %d\"\nsessions = 2\nservice = 2\nprotocol = 1\n"
+            "reply = [{ attribute = \"Filter-Id\", value = \"plan %d\" }, { attribute = \"Acct-Interim-Interval\", value = 300 }]\n",
+            n, n % POOLS, n);
     for (int n = 0; n < users; n++)
-        add("[[user]]\nname = \"student%d@campus.example\"\npassword = \"word %d\"\npool = \"hall %d\"\nsessions = 2\nservice = 2\nprotocol = 1\n",
-            n, n, n % POOLS);
+        add("[[user]]\nname = \"student%d@campus.example\"\npassword = \"word %d\"\ngroup = \"plan %d\"\n"
+            "reply = [{ vendor = 14988, attribute = 8, value = \"10M/%dM\" }]\n",
+            n, n, n % GROUPS, 1 + n % 100);
 }
 
 static double read_time(int users) {
@@ -60,9 +65,9 @@ int main(void) {
     for (int users = 256; users <= USERS; users *= 2) {
         lay_out(users);
         reading = read_time(users);
-        if (users == 1024) small = reading;
+        if (users == USERS / 4) small = reading;
         printf("%8d %10zu %12.0f %12.0f %12.1f\n", users, len, reading / 1e3, reading / users, find_time(users, reading));
     }
-    printf("4,096 users take %.2f times as long to read as 1,024\n", reading / small);
+    printf("65,536 users take %.2f times as long to read as 16,384\n", reading / small);
     return 0;
 }
