@@ -18,7 +18,7 @@ mod turns;
 mod watch;
 
 pub use memory_ports::{Datagram, MemoryPorts, Passed};
-pub use ports::{Got, PortFault, Ports, RECEIVED_MAX};
+pub use ports::{FailedCall, Got, PortCall, PortFault, Ports, RECEIVED_MAX};
 pub use rad_desk::{
     Closed, Desk, Mismatch, Opened, PASSES_MAX, Pass, Receipt, misplaced_disagree, settle,
 };

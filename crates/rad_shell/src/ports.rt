@@ -31,6 +31,24 @@ pub struct Got {
 #[error("a port failed")]
 pub struct PortFault;
 
+/// A call of a port that failed, for whoever looks after the server.
+#[derive(Clone, Copy, Debug, PartialEq, Eq)]
+pub struct FailedCall {
+    pub call: PortCall,
+    /// Where a datagram was to go: an IPv4 address, most significant octet first, and a port.
+    pub destination: Option<(u32, u16)>,
+    /// The system's error number.
+    pub number: Option<i32>,
+}
+
+/// What a port was called for.
+#[derive(Clone, Copy, Debug, PartialEq, Eq)]
+pub enum PortCall {
+    Wait,
+    Receive(Door),
+    Send(Door),
+}
+
 /// The authentication port and the accounting port of a server.
 ///
 /// Who implements it counts the failures. A failure that concerns one datagram alone, such as a destination that can't be reached,
@@ -87,6 +105,11 @@ pub trait Ports {
     /// The failures so far.
     fn faults(&self) -> u64
         ensures { result ≡ failures self.now };
+
+    /// The failure that was counted last. Ports needn't tell.
+    fn last_failure(&self) -> Option<FailedCall> {
+        None
+    }
 
     /// The wall time now, in milliseconds since 1970; 0 where the ports have none.
     fn wall(&self) -> u64 {

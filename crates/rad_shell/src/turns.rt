@@ -256,7 +256,9 @@ impl<'a, D: Rng, G: Gate + Sync, W: Watch + Drop> Turns<'a, D, G, W> {
             service,
             arrivals: &arrivals,
             done: &done,
+            marks: &marks,
             faults: ports.faults(),
+            last_failure: ports.last_failure(),
         });
         if sent.is_err() {
             return Err(ServeFault::Send);

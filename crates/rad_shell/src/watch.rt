@@ -1,5 +1,6 @@
 //! Watchers of turns.
 
+use crate::ports::FailedCall;
 use rad_round::{Done, Service, Timed};
 
 /// What a turn was whose round was made.
@@ -11,8 +12,12 @@ pub struct Turn<'t, 'c> {
     pub arrivals: &'t [Timed<'t>],
     /// What its round made of them.
     pub done: &'t Done,
+    /// Which requests of its history were fresh: one for each entry.
+    pub marks: &'t [bool],
     /// The failures of the ports so far.
     pub faults: u64,
+    /// The last of them, if the ports can tell.
+    pub last_failure: Option<FailedCall>,
 }
 
 /// What sees each turn.

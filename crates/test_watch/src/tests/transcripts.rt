@@ -44,7 +44,9 @@ fn is_recorded_of(alloc: Global, service: &Service, done: &Done) -> bool {
         service,
         arrivals: &arrivals,
         done,
+        marks: &[],
         faults: 0,
+        last_failure: None,
     };
     let mut text = Vec::new(alloc);
     record(&mut text, &turn) && text.as_slice() == LINES.as_bytes()

@@ -108,7 +108,9 @@ fn see(alloc: Global, service: &Service, watcher: &mut Watcher, row: &Row) {
             service,
             arrivals: &arrivals,
             done: &done,
+            marks: &[],
             faults: 0,
+            last_failure: None,
         };
         watcher.made(&turn, 150, NOW);
     }
@@ -123,7 +125,9 @@ fn see_nothing(alloc: Global, service: &Service, watcher: &mut Watcher) {
         service,
         arrivals: &[],
         done: &done,
+        marks: &[],
         faults: 0,
+        last_failure: None,
     };
     watcher.made(&turn, 0, LATER);
 }
