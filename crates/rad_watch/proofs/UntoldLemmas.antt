@@ -10,7 +10,7 @@ use Rattle.rad_server.specs.Accounting.{class_number, class_size, is_class}
 use Rattle.rad_server.specs.Replies.{class_prefix}
 use Rattle.rad_round.specs.declared.outcome.Outcome.{Outcome}
 use Rattle.rad_round.specs.declared.outcome.Outcome.TheVariants.{Dropped, Busy, NoMemory, Reply}
-use Rattle.rad_watch.specs.Events.{from_datagram, of_answered, of_outcome, of_unanswered, parts_in, parts_of}
+use Rattle.rad_watch.specs.Events.{exchanged, from_datagram, of_answered, of_outcome, of_unanswered, parts_in, parts_of}
 use Rattle.rad_watch.specs.Untold.{AlikeAreToldAlike, AreAlike, may_be_told, told_attributes, told_part}
 use Rattle.rad_watch.specs.declared.kind.Kind.TheVariants as kinds
 
@@ -72,5 +72,5 @@ outcome_alike octets others alike NoMemory = ap (λ parts. Some (of_unanswered k
 outcome_alike octets others alike (Reply reply) = ap (λ parts. of_answered parts (packet_of reply)) (parts_alike octets others alike)
 
 pub alike_are_told_alike : AlikeAreToldAlike
-alike_are_told_alike clients datagram others outcome alike =
-    ap (option_map (from_datagram clients datagram)) (outcome_alike datagram.octets others alike outcome)
+alike_are_told_alike clients datagram others outcome exchange alike =
+    ap (option_map (λ event. from_datagram clients datagram (exchanged exchange event))) (outcome_alike datagram.octets others alike outcome)

@@ -2,7 +2,8 @@
 --
 -- A request is read by `parts_of` alone. So nothing else that stands in it can be told: no password, no answer to a challenge, no
 -- State and no authenticator.
-use Rattle.std.specs.Prelude.{ℕ, ◌==◌, if◌then◌else◌, List, Option, Some, None, option_copied, option_map, slice_get, Result, Ok, Err}
+use Rattle.std.specs.Prelude.{ℕ, ◌==◌, ◌&&◌, not, if◌then◌else◌, Bool, true, false, List, Option, Some, None, codes, find, is_none, is_some, option_and_then, option_copied, option_map, slice_get, Result, Ok, Err}
+use Rattle.std.specs.Str.{bytes_eq}
 use Rattle.rad_packet.specs.Attributes.{first_value, first_integer}
 use Rattle.rad_packet.specs.Codes.{code_access_accept, code_access_challenge, code_access_reject, code_status_server}
 use Rattle.rad_packet.specs.Packets.{Packet, packet_of}
@@ -16,9 +17,13 @@ use Rattle.rad_config.specs.declared.user.User.{User}
 use Rattle.rad_pool.specs.declared.session.Session.{Session}
 use Rattle.rad_round.specs.declared.outcome.Outcome.{Outcome}
 use Rattle.rad_round.specs.declared.outcome.Outcome.TheVariants.{Dropped, Busy, NoMemory, Reply}
+use Rattle.rad_server.specs.declared.answer.Answer.{Answer}
+use Rattle.rad_server.specs.declared.answer.Answer.TheVariants as answers
+use Rattle.rad_server.specs.declared.entry.Entry.{Entry}
 use Rattle.rad_server.specs.Accounting.{class_number, status_start, status_stop, status_interim_update, status_accounting_on, status_accounting_off}
 use Rattle.rad_watch.specs.Kinds.{kind_name}
 use Rattle.rad_watch.specs.declared.event.Event.{Event as EventOfCode}
+use Rattle.rad_watch.specs.declared.exchange.Exchange.{Exchange as ExchangeOfCode}
 use Rattle.rad_watch.specs.declared.event.Origin.{Origin}
 use Rattle.rad_watch.specs.declared.kind.Kind.{Kind}
 use Rattle.rad_watch.specs.declared.kind.Kind.TheVariants as kinds
@@ -31,7 +36,9 @@ pub record Event : Type 0 where
   pub user : Option (List ℕ)
   pub address : Option ℕ
   pub session : Option ℕ
+  pub owner : Option (List ℕ)
   pub reason : Option (List ℕ)
+  pub is_repeat : Bool
   pub count : Option ℕ
 
 -- an event of the code, without where its octets are in memory
@@ -43,7 +50,9 @@ seen event = record {
   user = option_copied event.user;
   address = event.address;
   session = event.session;
+  owner = option_copied event.owner;
   reason = option_copied event.reason;
+  is_repeat = event.is_repeat;
   count = event.count;
 }
 
@@ -56,7 +65,9 @@ bare kind = record {
   user = None;
   address = None;
   session = None;
+  owner = None;
   reason = None;
+  is_repeat = false;
   count = None;
 }
 
@@ -135,6 +146,83 @@ abbrev pub of_unanswered : Kind → Option Parts → Event
 of_unanswered kind (Some request) = record (bare kind) { user = request.user }
 of_unanswered kind None = bare kind
 
+-- ---- exchanges
+
+-- What is known of the exchange of a request: whether its reply was kept, the number of the session that it means, and the name of
+-- that session's user.
+pub record Exchange : Type 0 where
+  pub is_repeat : Bool
+  pub session : Option ℕ
+  pub owner : Option (List ℕ)
+
+-- an exchange of the code, without where its octets are in memory
+abbrev pub known : ExchangeOfCode → Exchange
+known exchange =
+    record { is_repeat = exchange.is_repeat; session = exchange.session; owner = option_copied exchange.owner }
+
+-- whether a reply is sent
+abbrev pub is_sent : Answer → Bool
+is_sent (answers.Send body) = true
+is_sent answers.Busy = false
+
+-- whether the first octet of a request is the Code of a Status-Server
+abbrev pub is_status_server : Option ℕ → Bool
+is_status_server None = false
+is_status_server (Some code) = code == code_status_server
+
+-- The reply of an entry was kept: it isn't fresh, it is sent, and its request is no Status-Server, whose replies aren't kept.
+abbrev pub is_kept_reply : Entry → Bool → Bool
+is_kept_reply entry is_fresh = not is_fresh && is_sent entry.answer && not (is_status_server (slice_get entry.octets 0))
+
+-- the name of the user at a place
+abbrev pub user_name : List User → ℕ → Option (List ℕ)
+user_name users place = option_map (λ user. user.name) (slice_get users place)
+
+-- the name of the user of a session, by its number
+abbrev pub owner_of : List User → List Session → ℕ → Option (List ℕ)
+owner_of users sessions number =
+    option_and_then (λ session. user_name users session.user) (find (λ session. session.number == number) sessions)
+
+-- the exchange of an entry, among the sessions after it
+abbrev pub exchange_of : List User → List Session → Entry → Bool → Exchange
+exchange_of users sessions entry is_fresh = record {
+  is_repeat = is_kept_reply entry is_fresh;
+  session = entry.session;
+  owner = option_and_then (owner_of users sessions) entry.session;
+}
+
+-- whether an event reports of one session
+abbrev pub is_report : Kind → Bool
+is_report kinds.Start = true
+is_report kinds.Interim = true
+is_report kinds.Stop = true
+is_report kind = false
+
+-- why a report is of note: it means no session. A repeat says nothing new.
+abbrev pub reason_of_report : Kind → Exchange → Option (List ℕ)
+reason_of_report kind exchange =
+    if is_report kind && not exchange.is_repeat && is_none exchange.session then Some (codes "no session") else None
+
+-- the first of these that there is
+abbrev pub either : Option (List ℕ) → Option (List ℕ) → Option (List ℕ)
+either None other = other
+either (Some value) other = Some value
+
+-- the name of a session's user, where a report has another one
+abbrev pub other_owner : Option (List ℕ) → Option (List ℕ) → Option (List ℕ)
+other_owner None owner = None
+other_owner (Some name) None = None
+other_owner (Some name) (Some owner) = if bytes_eq name owner then None else Some owner
+
+-- an event, with what is known of its exchange
+abbrev pub exchanged : Option Exchange → Event → Event
+exchanged None event = event
+exchanged (Some exchange) event = record event {
+  owner = other_owner event.user exchange.owner;
+  reason = either event.reason (reason_of_report event.kind exchange);
+  is_repeat = exchange.is_repeat;
+}
+
 -- ---- outcomes
 
 -- a datagram that isn't admitted
@@ -157,9 +245,10 @@ abbrev pub from_datagram : List Client → Datagram → Event → Event
 from_datagram clients datagram event =
     record event { client = client_place clients datagram.source; origin = Some (origin_of datagram) }
 
--- what became of a datagram
-abbrev pub told : List Client → Datagram → Outcome → Option Event
-told clients datagram outcome = option_map (from_datagram clients datagram) (of_outcome datagram.octets outcome)
+-- what became of a datagram, whose exchange is known if it was made
+abbrev pub told : List Client → Datagram → Outcome → Option Exchange → Option Event
+told clients datagram outcome exchange =
+    option_map (λ event. from_datagram clients datagram (exchanged exchange event)) (of_outcome datagram.octets outcome)
 
 -- ---- other events
 
@@ -170,10 +259,6 @@ counted kind client count = record (bare kind) { client = client; count = Some c
 -- so many lines of a kind and client were left out
 abbrev pub left_out : Kind → Option ℕ → ℕ → Event
 left_out kind client count = record (counted kinds.LeftOut client count) { reason = Some (kind_name kind) }
-
--- the name of the user at a place
-abbrev pub user_name : List User → ℕ → Option (List ℕ)
-user_name users place = option_map (λ user. user.name) (slice_get users place)
 
 -- a session that expired
 abbrev pub expired : List User → Session → Event

@@ -1,9 +1,10 @@
 -- LogLines: the lines of a log.
 --
--- time=TIME event=EVENT reason="TEXT" client=N source=ADDRESS:PORT port=DOOR user="NAME" address=ADDRESS session=N count=N
+-- time=TIME event=EVENT reason="TEXT" client=N source=ADDRESS:PORT port=DOOR user="NAME" address=ADDRESS session=N session_user="NAME"
+-- repeat=1 count=N
 --
 -- A field of which nothing is known is left out.
-use Rattle.std.specs.Prelude.{ℕ, ◌+◌, List, [], ◌++◌, codes, decimal, Option, Some, None}
+use Rattle.std.specs.Prelude.{ℕ, ◌+◌, Bool, if◌then◌else◌, List, [], ◌++◌, codes, decimal, Option, Some, None}
 use Rattle.rad_replay.specs.DatagramTexts.{address_text, door_name}
 use Rattle.rad_watch.specs.Events.{Event}
 use Rattle.rad_watch.specs.Kinds.{kind_name}
@@ -50,6 +51,12 @@ session_fields event =
     field (codes " user=") quoted event.user
     ++ field (codes " address=") address_text event.address
     ++ field (codes " session=") decimal event.session
+    ++ field (codes " session_user=") quoted event.owner
+
+-- whether its reply was kept, and how many there are
+abbrev pub repeat_fields : Event → List ℕ
+repeat_fields event =
+    (if event.is_repeat then codes " repeat=1" else []) ++ field (codes " count=") decimal event.count
 
 -- the line of an event, after the text of the time
 abbrev pub log_line : List ℕ → Event → List ℕ
@@ -57,5 +64,5 @@ log_line time event =
     line_head time event
     ++ origin_fields event
     ++ session_fields event
-    ++ field (codes " count=") decimal event.count
+    ++ repeat_fields event
     ++ codes "\n"

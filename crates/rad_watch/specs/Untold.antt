@@ -1,12 +1,12 @@
 -- Untold: what no line of a log tells of a request.
-use Rattle.std.specs.Prelude.{◌≡◌, ℕ, ◌==◌, ◌||◌, Bool, List, [], filter, Ok}
+use Rattle.std.specs.Prelude.{◌≡◌, ℕ, ◌==◌, ◌||◌, Bool, List, [], filter, Option, Ok}
 use Rattle.rad_packet.specs.Attributes.{Attribute}
 use Rattle.rad_packet.specs.Packets.{Packet, packet_of}
 use Rattle.rad_packet.specs.Types.{type_acct_status_type, type_class, type_framed_ip_address, type_user_name}
 use Rattle.rad_auth.specs.Clients.{Client}
 use Rattle.rad_auth.specs.Datagrams.{Datagram}
 use Rattle.rad_round.specs.declared.outcome.Outcome.{Outcome}
-use Rattle.rad_watch.specs.Events.{told}
+use Rattle.rad_watch.specs.Events.{Exchange, told}
 
 -- whether a line may tell something of a request's attributes of a Type
 abbrev pub may_be_told : ℕ → Bool
@@ -36,5 +36,6 @@ pub record AreAlike (octets others : List ℕ) : Type 0 where
 
 -- The same is told of requests that are alike. So no password, no answer and no authenticator has a say in an event.
 abbrev pub AlikeAreToldAlike : Type 0
-AlikeAreToldAlike = (clients : List Client) (datagram : Datagram) (others : List ℕ) (outcome : Outcome) → AreAlike datagram.octets others
-    → told clients datagram outcome ≡ told clients (record datagram { octets = others }) outcome
+AlikeAreToldAlike = (clients : List Client) (datagram : Datagram) (others : List ℕ) (outcome : Outcome) (exchange : Option Exchange)
+    → AreAlike datagram.octets others
+    → told clients datagram outcome exchange ≡ told clients (record datagram { octets = others }) outcome exchange

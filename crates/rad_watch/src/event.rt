@@ -5,9 +5,10 @@ ghost use Rattle.rad_auth.specs.Datagrams.{datagram_of};
 ghost use Rattle.rad_packet.specs.Codes.{code_access_reject};
 ghost use Rattle.rad_packet.specs.Packets.{packet_of};
 ghost use Rattle.rad_server.specs.Accounting.{class_number};
-ghost use Rattle.rad_watch.specs.Events.{bare, counted, expired, left_out, of_answer, of_answered, of_discard, of_outcome, of_reply, of_session, of_unanswered, origin_of, parts_in, parts_of, reported, seen, told, user_name};
+ghost use Rattle.rad_watch.specs.Events.{bare, counted, exchanged, expired, known, left_out, of_answer, of_answered, of_discard, of_outcome, of_reply, of_session, of_unanswered, origin_of, other_owner, parts_in, parts_of, reason_of_report, reported, seen, told};
 
-use crate::kind::Kind;
+use crate::exchange::{Exchange, user_name};
+use crate::kind::{Kind, Level};
 use rad_auth::{Arrival, Discard, Door};
 use rad_config::{Config, User};
 use rad_packet::Packet;
@@ -18,6 +19,9 @@ use rad_packet::code::{ACCESS_ACCEPT, ACCESS_CHALLENGE, ACCESS_REJECT, STATUS_SE
 use rad_pool::Session;
 use rad_server::{ACCOUNTING_OFF, ACCOUNTING_ON, INTERIM_UPDATE, START, STOP, class_number_of};
 use rad_shell::Outcome;
+
+/// What a report is told with that means no session.
+const NO_SESSION: &[u8] = b"no session";
 
 /// An event of a turn: what it is, and what is known of it.
 #[derive(Clone, Copy)]
@@ -32,8 +36,12 @@ pub(crate) struct Event<'t> {
     pub address: Option<u32>,
     /// The number of the session.
     pub session: Option<u64>,
-    /// Why a datagram was discarded, or the Reply-Message of a rejection.
+    /// The name of the session's user, where it is another.
+    pub owner: Option<&'t [u8]>,
+    /// Why a datagram was discarded, the Reply-Message of a rejection, or why a report is of note.
     pub reason: Option<&'t [u8]>,
+    /// Whether the reply was kept from an earlier exchange.
+    pub is_repeat: bool,
     /// How many of what the kind says.
     pub count: Option<u64>,
 }
@@ -74,7 +82,9 @@ impl<'t> Event<'t> {
             user: None,
             address: None,
             session: None,
+            owner: None,
             reason: None,
+            is_repeat: false,
             count: None,
         }
     }
@@ -107,35 +117,74 @@ impl<'t> Event<'t> {
     {
         Event {
             client: Some(session.client),
-            user: name_of(users, session.user),
+            user: user_name(users, session.user),
             address: session.address,
             session: Some(session.number),
             ..Event::of(Kind::Expire)
         }
     }
 
-    /// What became of a datagram.
+    /// What became of a datagram, whose exchange is known if it was made.
     ///
     /// None if what was admitted or sent is no packet, which can't be.
-    pub fn told(config: &Config, arrival: &Arrival<'t>, outcome: &'t Outcome) -> Option<Event<'t>>
-        ensures { option_map seen result
-            ≡ told config.now.clients (datagram_of arrival.now) outcome.now }
+    pub fn told(
+        config: &Config,
+        arrival: &Arrival<'t>,
+        outcome: &'t Outcome,
+        exchange: Option<Exchange<'t>>,
+    ) -> Option<Event<'t>>
+        ensures { option_map seen result ≡ told config.now.clients
+            (datagram_of arrival.now) outcome.now (option_map known exchange.entry) }
     {
-        let event = of_outcome(arrival.octets, outcome)?;
+        let event = of_outcome(arrival.octets, outcome)?.exchanged(exchange);
         Some(Event {
             client: config.clients().find(arrival.source),
             origin: Some(Origin::of(arrival)),
             ..event
         })
     }
+
+    /// Whether a log of this level tells it. One of what is refused tells reports that mean no session, too.
+    pub fn is_told_at(&self, level: Level) -> bool {
+        self.kind.is_told_at(level) || (self.kind.is_report() && self.reason.is_some())
+    }
+
+    // The event, with what is known of its exchange.
+    fn exchanged(self, exchange: Option<Exchange<'t>>) -> Event<'t>
+        ensures { seen result ≡ exchanged (option_map known exchange.entry) (seen self.entry) }
+    {
+        let Some(exchange) = exchange else {
+            return self;
+        };
+        Event {
+            owner: other_owner(self.user, exchange.owner),
+            reason: self.reason.or(reason_of_report(self.kind, &exchange)),
+            is_repeat: exchange.is_repeat,
+            ..self
+        }
+    }
 }
 
-// The name of the user at a place.
-fn name_of(users: &[User], place: u32) -> Option<&[u8]>
-    ensures { option_copied result ≡ user_name users.now place }
+// Why a report is of note: it means no session, and isn't a repeat.
+fn reason_of_report<'t>(kind: Kind, exchange: &Exchange) -> Option<&'t [u8]>
+    ensures { option_copied result ≡ reason_of_report kind (known exchange.now) }
 {
-    let user = users.get(place as usize)?;
-    Some(user.name.octets())
+    if kind.is_report() && !exchange.is_repeat && exchange.session.is_none() {
+        Some(NO_SESSION)
+    } else {
+        None
+    }
+}
+
+// The name of a session's user, where a report has another one.
+fn other_owner<'t>(name: Option<&[u8]>, owner: Option<&'t [u8]>) -> Option<&'t [u8]>
+    ensures { option_copied result
+        ≡ other_owner (option_copied name.entry) (option_copied owner.entry) }
+{
+    let (Some(name), Some(owner)) = (name, owner) else {
+        return None;
+    };
+    if name == owner { None } else { Some(owner) }
 }
 
 /// Whether a reply is an Access-Reject.

@@ -1,5 +1,6 @@
 //! Kinds of events, and which of them a log tells.
 ghost use Rattle.std.specs.Prelude.{◌≡◌};
+ghost use Rattle.rad_watch.specs.Events.{is_report};
 ghost use Rattle.rad_watch.specs.Kinds.{kind_name};
 
 /// What a log tells.
@@ -87,6 +88,13 @@ impl Kind {
             Kind::Expire => "expire",
             Kind::LeftOut => "left_out",
         }
+    }
+
+    /// Whether it reports of one session.
+    pub fn is_report(self) -> bool
+        ensures { result ≡ is_report self }
+    {
+        matches!(self, Kind::Start | Kind::Interim | Kind::Stop)
     }
 
     /// Whether a log of this level tells it.

@@ -8,12 +8,15 @@
 //! (`specs/Events.antt`); octets that others chose stand between quotes as `specs/Shown.antt` says, so none of them can end a name or a
 //! line; and of each count of lines the first `LINES_MAX` of a second are told (`specs/Limits.antt`).
 //!
-//! By a law, `alike_are_told_alike`, an event has of a request nothing but its name, address, session and status: no password has a say
-//! in it (`specs/Untold.antt`).
+//! By a law, `alike_are_told_alike`, an event has of a request nothing but its name, address, session and status, whatever is known of
+//! its exchange: no password has a say in it (`specs/Untold.antt`).
 #![tactic(auto)]
 
+mod client_sums;
 mod event;
+mod exchange;
 mod expiry;
+mod failing;
 mod histogram;
 mod kind;
 mod limiter;

@@ -3,7 +3,7 @@ ghost use Rattle.std.specs.Prelude.{◌≡◌, ◌++◌, OnOk, codes, decimal, o
 ghost use Rattle.std.specs.Option.{option_map_or};
 ghost use Rattle.rad_replay.specs.DatagramTexts.{address_text};
 ghost use Rattle.rad_watch.specs.Events.{seen};
-ghost use Rattle.rad_watch.specs.LogLines.{field, line_head, log_line, origin_fields, origin_text, place_text, session_fields, source_text};
+ghost use Rattle.rad_watch.specs.LogLines.{field, line_head, log_line, origin_fields, origin_text, place_text, repeat_fields, session_fields, source_text};
 ghost use Rattle.rad_watch.specs.Shown.{quoted};
 
 use crate::event::{Event, Origin};
@@ -19,7 +19,7 @@ pub(crate) fn write_line(text: &mut Vec<u8>, time: &[u8], event: &Event) -> io::
     write_head(text, time, event)?;
     write_origin(text, event)?;
     write_session(text, event)?;
-    push_number(text, b" count=", event.count)?;
+    write_repeat(text, event)?;
     push_octets(text, b"\n")
 }
 
@@ -48,7 +48,18 @@ fn write_session(text: &mut Vec<u8>, event: &Event) -> io::Result<()>
 {
     push_text(text, b" user=", event.user)?;
     push_session_address(text, event.address)?;
-    push_number(text, b" session=", event.session)
+    push_number(text, b" session=", event.session)?;
+    push_text(text, b" session_user=", event.owner)
+}
+
+fn write_repeat(text: &mut Vec<u8>, event: &Event) -> io::Result<()>
+    ensures { OnOk result
+        (text.new.items ≡ text.old.items ++ repeat_fields (seen event.now)) }
+{
+    if event.is_repeat {
+        push_octets(text, b" repeat=1")?;
+    }
+    push_number(text, b" count=", event.count)
 }
 
 // The client, by its place counted from 1.

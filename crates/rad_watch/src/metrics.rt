@@ -1,9 +1,10 @@
 //! The sums and the state in Prometheus' text format.
 
+use crate::client_sums::write_clients;
 use crate::line::push_octets;
 use crate::now::Seconds;
 use crate::shown::push_label;
-use crate::sums::{DENIALS, DISCARDS, REPLIES, Sums};
+use crate::sums::{DENIALS, DISCARDS, REPLIES, REPORTS, Sums};
 use crate::tally::Tally;
 use rad_config::{Config, Pool};
 use rad_pool::SESSIONS_MAX;
@@ -26,7 +27,9 @@ pub(crate) fn write_metrics(
     write_rows(text, "counter", &sum_rows(sums, unwritten))?;
     write_replies(text, sums)?;
     write_rejects(text, sums)?;
+    write_reports(text, sums)?;
     write_discards(text, sums)?;
+    write_clients(text, &sums.clients, config.clients())?;
     write_sessions(text, tally)?;
     write_rows(text, "gauge", &state_rows(tally))?;
     write_sizes(text, config)?;
@@ -38,12 +41,27 @@ pub(crate) fn write_metrics(
     writeln!(text, "{name} {uptime}")
 }
 
-fn sum_rows(sums: &Sums, unwritten: u64) -> [Row; 7] {
+fn sum_rows(sums: &Sums, unwritten: u64) -> [Row; 10] {
     [
         (
             "radpool_datagrams_total",
             "Datagrams received.",
             sums.datagrams,
+        ),
+        (
+            "radpool_repeats_total",
+            "Kept replies sent again.",
+            sums.repeats,
+        ),
+        (
+            "radpool_status_replies_total",
+            "Replies made to a Status-Server.",
+            sums.statuses,
+        ),
+        (
+            "radpool_reports_of_another_user_total",
+            "Reports whose User-Name isn't that of the session's user, repeats excluded.",
+            sums.strange_reports,
         ),
         (
             "radpool_busy_total",
@@ -115,7 +133,12 @@ fn write_rows(text: &mut Vec<u8>, kind: &str, rows: &[Row]) -> io::Result<()> {
 
 fn write_replies(text: &mut Vec<u8>, sums: &Sums) -> io::Result<()> {
     let name = "radpool_replies_total";
-    write_head(text, name, "counter", "Replies made.")?;
+    write_head(
+        text,
+        name,
+        "counter",
+        "Replies made, without repeats and those to a Status-Server.",
+    )?;
     for (reply, sum) in REPLIES.iter().zip(&sums.replies) {
         write_sample(text, name, "code", reply.1, *sum)?;
     }
@@ -128,10 +151,33 @@ fn write_rejects(text: &mut Vec<u8>, sums: &Sums) -> io::Result<()> {
         text,
         name,
         "counter",
-        "Access-Rejects made, by Reply-Message.",
+        "Access-Rejects made, by Reply-Message, without repeats.",
     )?;
     for (denial, sum) in DENIALS.iter().zip(&sums.rejects) {
         write_sample(text, name, "text", denial.text(), *sum)?;
+    }
+    Ok(())
+}
+
+fn write_reports(text: &mut Vec<u8>, sums: &Sums) -> io::Result<()> {
+    let name = "radpool_reports_total";
+    write_head(
+        text,
+        name,
+        "counter",
+        "Reports of a session, by whether they mean one, without repeats.",
+    )?;
+    let sums = sums.known_reports.iter().zip(&sums.lost_reports);
+    for (report, (known, lost)) in REPORTS.iter().zip(sums) {
+        let status = report.1;
+        writeln!(
+            text,
+            "{name}{{status=\"{status}\",session=\"known\"}} {known}"
+        )?;
+        writeln!(
+            text,
+            "{name}{{status=\"{status}\",session=\"none\"}} {lost}"
+        )?;
     }
     Ok(())
 }
@@ -197,7 +243,8 @@ fn write_turns(text: &mut Vec<u8>, sums: &Sums) -> io::Result<()> {
         .write(text, name, Seconds::of_millionths(sums.times.sum()))
 }
 
-fn write_head(text: &mut Vec<u8>, name: &str, kind: &str, help: &str) -> io::Result<()> {
+/// Appends what a metric is.
+pub(crate) fn write_head(text: &mut Vec<u8>, name: &str, kind: &str, help: &str) -> io::Result<()> {
     writeln!(text, "# HELP {name} {help}")?;
     writeln!(text, "# TYPE {name} {kind}")
 }

@@ -1,13 +1,28 @@
 //! Sums of what became of datagrams.
 ghost use Rattle.std.specs.Prelude.{◌≡◌, ◌+◌, ◌-◌, ◌^◌, min};
 
+use crate::client_sums::ClientSums;
+use crate::event::Event;
 use crate::histogram::{Bound, Histogram};
+use crate::kind::Kind;
 use rad_auth::Discard;
 use rad_packet::Packet;
 use rad_packet::attribute::REPLY_MESSAGE;
 use rad_packet::code::{ACCESS_ACCEPT, ACCESS_CHALLENGE, ACCESS_REJECT, ACCOUNTING_RESPONSE};
 use rad_server::Denial;
 use rad_shell::Outcome;
+use std::alloc::{AllocError, Global};
+
+/// What became of a reply's request.
+#[derive(Clone, Copy, Debug, PartialEq, Eq)]
+pub(crate) enum Exchanged {
+    /// It was answered for the first time.
+    Fresh,
+    /// Its reply was kept from an earlier exchange.
+    Repeat,
+    /// It is a Status-Server.
+    Status,
+}
 
 /// The replies, by their Code.
 pub(crate) const REPLIES: &[(u8, &str)] = &[
@@ -44,6 +59,13 @@ pub(crate) const DISCARDS: &[Discard] = &[
     Discard::ProxyStateTooLong,
 ];
 
+/// The reports of a session, and the names of their labels.
+pub(crate) const REPORTS: &[(Kind, &str)] = &[
+    (Kind::Start, "start"),
+    (Kind::Interim, "interim"),
+    (Kind::Stop, "stop"),
+];
+
 const TURN_SIZES: &[Bound] = &[
     (1, "1"),
     (4, "4"),
@@ -68,10 +90,22 @@ const TURN_TIMES: &[Bound] = &[
 pub(crate) struct Sums {
     /// The datagrams that were received.
     pub datagrams: u64,
-    /// The replies, in the order of `REPLIES`.
+    /// Those of each client.
+    pub clients: Vec<ClientSums>,
+    /// The replies to fresh requests, in the order of `REPLIES`.
     pub replies: [u64; 4],
+    /// The kept replies that were sent again.
+    pub repeats: u64,
+    /// The replies to a Status-Server.
+    pub statuses: u64,
     /// The rejections, in the order of `DENIALS`.
     pub rejects: [u64; 8],
+    /// The fresh reports of a session, in the order of `REPORTS`.
+    pub known_reports: [u64; 3],
+    /// Those that mean no session.
+    pub lost_reports: [u64; 3],
+    /// Those whose User-Name isn't that of the session's user.
+    pub strange_reports: u64,
     /// The discards, in the order of `DISCARDS`.
     pub discards: [u64; 11],
     pub busy: u64,
@@ -90,12 +124,18 @@ pub(crate) struct Sums {
 }
 
 impl Sums {
-    /// The sums of nothing.
-    pub fn nothing() -> Sums {
-        Sums {
+    /// The sums of nothing, for so many clients.
+    pub fn open(alloc: Global, clients: usize) -> Result<Sums, AllocError> {
+        Ok(Sums {
             datagrams: 0,
+            clients: vec![in alloc; ClientSums::nothing(); clients]?,
             replies: [0; 4],
+            repeats: 0,
+            statuses: 0,
             rejects: [0; 8],
+            known_reports: [0; 3],
+            lost_reports: [0; 3],
+            strange_reports: 0,
             discards: [0; 11],
             busy: 0,
             nomemory: 0,
@@ -104,26 +144,54 @@ impl Sums {
             left_out: 0,
             sizes: Histogram::new(TURN_SIZES),
             times: Histogram::new(TURN_TIMES),
-        }
+        })
     }
 
-    /// Counts what became of a datagram.
-    pub fn add_outcome(&mut self, outcome: &Outcome) {
+    /// Counts what became of a datagram of a client, at a wall time in milliseconds.
+    pub fn add_outcome(
+        &mut self,
+        client: Option<u32>,
+        outcome: &Outcome,
+        exchanged: Exchanged,
+        wall: u64,
+    ) {
         add_one(&mut self.datagrams);
         match outcome {
-            Outcome::Dropped(discard) => self.add_discard(*discard),
+            Outcome::Dropped(discard) => add_one_at(&mut self.discards, place_of_discard(*discard)),
             Outcome::Busy => add_one(&mut self.busy),
             Outcome::NoMemory => add_one(&mut self.nomemory),
-            Outcome::Reply(frame) => self.add_reply(frame.octets()),
+            Outcome::Reply(frame) => self.add_reply(frame.octets(), exchanged),
+        }
+        if let Some(client) = client.and_then(|place| self.clients.get_mut(place as usize)) {
+            client.add_outcome(outcome, wall);
         }
     }
 
-    fn add_discard(&mut self, discard: Discard) {
-        let place = DISCARDS.iter().position(|one| *one == discard);
-        add_one_at(&mut self.discards, place);
+    /// Counts a report of a session. A repeat was counted before.
+    pub fn add_report(&mut self, report: &Event) {
+        if report.is_repeat {
+            return;
+        }
+        let place = REPORTS.iter().position(|row| row.0 == report.kind);
+        if report.reason.is_some() {
+            add_one_at(&mut self.lost_reports, place);
+        } else {
+            add_one_at(&mut self.known_reports, place);
+        }
+        if report.owner.is_some() {
+            add_one(&mut self.strange_reports);
+        }
     }
 
-    fn add_reply(&mut self, octets: &[u8]) {
+    fn add_reply(&mut self, octets: &[u8], exchanged: Exchanged) {
+        match exchanged {
+            Exchanged::Fresh => self.add_fresh(octets),
+            Exchanged::Repeat => add_one(&mut self.repeats),
+            Exchanged::Status => add_one(&mut self.statuses),
+        }
+    }
+
+    fn add_fresh(&mut self, octets: &[u8]) {
         let code = octets.first().copied();
         let place = REPLIES.iter().position(|row| Some(row.0) == code);
         add_one_at(&mut self.replies, place);
@@ -131,6 +199,11 @@ impl Sums {
             add_one_at(&mut self.rejects, place_of_reject(octets));
         }
     }
+}
+
+/// The place of a discard in `DISCARDS`.
+pub(crate) fn place_of_discard(discard: Discard) -> Option<usize> {
+    DISCARDS.iter().position(|one| *one == discard)
 }
 
 /// Counts one more.

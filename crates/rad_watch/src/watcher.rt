@@ -1,15 +1,19 @@
 //! The watcher: sums, and the lines of a log.
 
 use crate::event::{Event, is_reject};
+use crate::exchange::Exchange;
 use crate::expiry::LastLook;
+use crate::failing::write_failure;
 use crate::kind::{KINDS, Kind, Level};
 use crate::limiter::Limiter;
 use crate::line::write_line;
 use crate::metrics::write_metrics;
 use crate::now::Now;
-use crate::sums::{Sums, add_one};
+use crate::sums::{Exchanged, Sums, add_one};
 use crate::tally::Tally;
+use rad_auth::Arrival;
 use rad_config::Config;
+use rad_packet::code::{ACCOUNTING_RESPONSE, STATUS_SERVER};
 use rad_pool::Session;
 use rad_server::Server;
 use rad_shell::{Outcome, Timed, Turn};
@@ -51,7 +55,7 @@ impl Watcher {
             alloc,
             level,
             clients: clients as u32,
-            sums: Sums::nothing(),
+            sums: Sums::open(alloc, clients)?,
             limiter: Limiter::open(alloc, clients)?,
             last_look: LastLook::new(alloc),
             lines: Vec::new(alloc),
@@ -63,18 +67,62 @@ impl Watcher {
     /// Sees a turn that was made, which took so many microseconds.
     pub fn made(&mut self, turn: &Turn, micros: u64, now: Now) {
         self.begin_second(now);
-        let config = turn.service.server().config();
-        for (timed, outcome) in turn.arrivals.iter().zip(&turn.done.outcomes) {
-            self.sums.add_outcome(outcome);
-            if may_be_told(self.level, outcome) {
-                self.tell_outcome(config, timed, outcome, now);
-            }
-        }
+        self.see_exchanges(turn, now);
+        self.see_others(turn, now);
         if !turn.arrivals.is_empty() {
             self.sums.sizes.add(turn.arrivals.len() as u64);
             self.sums.times.add(micros);
         }
-        self.count_failures(turn.faults, now);
+        self.count_failures(turn, now);
+    }
+
+    // Sees the exchanges of a turn, in the order of its history.
+    fn see_exchanges(&mut self, turn: &Turn, now: Now) {
+        let server = turn.service.server();
+        let config = server.config();
+        for (entry, is_fresh) in turn.done.history.iter().zip(turn.marks) {
+            let place = entry.tag as usize;
+            let seen = turn.arrivals.get(place).zip(turn.done.outcomes.get(place));
+            if let Some((timed, outcome)) = seen {
+                let exchange = Exchange::of(config.users(), server.sessions(), entry, *is_fresh);
+                self.see(config, timed, outcome, Some(exchange), now);
+            }
+        }
+    }
+
+    // Sees the datagrams of a turn for which no exchange was made.
+    fn see_others(&mut self, turn: &Turn, now: Now) {
+        let config = turn.service.server().config();
+        for (timed, outcome) in turn.arrivals.iter().zip(&turn.done.outcomes) {
+            if matches!(outcome, Outcome::Dropped(_) | Outcome::NoMemory) {
+                self.see(config, timed, outcome, None, now);
+            }
+        }
+    }
+
+    // Counts what became of a datagram, and tells it.
+    fn see(
+        &mut self,
+        config: &Config,
+        timed: &Timed,
+        outcome: &Outcome,
+        exchange: Option<Exchange>,
+        now: Now,
+    ) {
+        let arrival = &timed.arrival;
+        let client = config.clients().find(arrival.source);
+        let exchanged = exchanged(arrival, exchange);
+        self.sums
+            .add_outcome(client, outcome, exchanged, now.since_1970);
+        if !is_read(self.level, outcome) {
+            return;
+        }
+        if let Some(event) = Event::told(config, arrival, outcome, exchange) {
+            if event.kind.is_report() {
+                self.sums.add_report(&event);
+            }
+            self.tell(&event, now);
+        }
     }
 
     /// Sees a turn that was lost, with so many datagrams.
@@ -125,18 +173,12 @@ impl Watcher {
         Some(text)
     }
 
-    fn tell_outcome(&mut self, config: &Config, timed: &Timed, outcome: &Outcome, now: Now) {
-        if let Some(event) = Event::told(config, &timed.arrival, outcome) {
-            self.tell(&event, now);
-        }
-    }
-
     // Tells an event, if the level has it and not too many of its kind and client were told.
     fn tell(&mut self, event: &Event, now: Now) {
         let Some(level) = self.level else {
             return;
         };
-        if event.kind.is_told_at(level) && self.limiter.tells(event.kind, event.client) {
+        if event.is_told_at(level) && self.limiter.tells(event.kind, event.client) {
             self.push_line(event, now);
         }
     }
@@ -163,13 +205,22 @@ impl Watcher {
         self.tell(&Event::expired(config.users(), session), now);
     }
 
-    // Counts the failures of the ports since the last turn.
-    fn count_failures(&mut self, faults: u64, now: Now) {
-        let more = faults.saturating_sub(self.sums.failures);
-        self.sums.failures = faults;
-        if more > 0 {
-            self.tell_count(Kind::Failure, None, more, now);
+    // Counts the failures of the ports since the last turn, and tells the last one.
+    fn count_failures(&mut self, turn: &Turn, now: Now) {
+        let more = turn.faults.saturating_sub(self.sums.failures);
+        self.sums.failures = turn.faults;
+        if more == 0 {
+            return;
         }
+        let mut reason = Vec::new(self.alloc);
+        if let Some(failure) = &turn.last_failure {
+            if write_failure(&mut reason, failure).is_err() {
+                reason.clear();
+            }
+        }
+        let event = Event::counted(Kind::Failure, None, more);
+        let reason = (!reason.is_empty()).then_some(reason.as_slice());
+        self.tell(&Event { reason, ..event }, now);
     }
 
     // In a new second lines are counted anew, and how many were left out is told.
@@ -200,11 +251,28 @@ impl Watcher {
     }
 }
 
-// Whether a log of this level may have a line of an outcome. A request that was granted is read for its line alone.
-fn may_be_told(level: Option<Level>, outcome: &Outcome) -> bool {
+// What became of a request by its exchange; one without an exchange gets no reply.
+fn exchanged(arrival: &Arrival, exchange: Option<Exchange>) -> Exchanged {
+    if exchange.is_some_and(|exchange| exchange.is_repeat) {
+        return Exchanged::Repeat;
+    }
+    match arrival.octets.first() {
+        Some(&STATUS_SERVER) => Exchanged::Status,
+        _ => Exchanged::Fresh,
+    }
+}
+
+// Whether a request is read for its line or for sums. One that was granted is read for its line alone.
+fn is_read(level: Option<Level>, outcome: &Outcome) -> bool {
     match (level, outcome) {
+        (_, Outcome::Reply(frame)) if is_of_accounting(frame.octets()) => true,
         (None, _) => false,
         (Some(Level::Refused), Outcome::Reply(frame)) => is_reject(frame.octets()),
         _ => true,
     }
+}
+
+// Whether a reply answers an Accounting-Request, or a Status-Server at its port.
+fn is_of_accounting(reply: &[u8]) -> bool {
+    reply.first() == Some(&ACCOUNTING_RESPONSE)
 }

@@ -77,19 +77,34 @@ const TOLD: &[Told] = &[
         false,
     ),
     (
-        (Door::Acct, START, Fate::Reply(5, &[])),
+        (Door::Acct, START, Fate::Report(258)),
         "event=start client=1 source=192.0.2.7:1700 port=acct user=\"ann\" address=10.0.0.5 session=258",
         false,
     ),
     (
-        (Door::Acct, STOP, Fate::Reply(5, &[])),
-        "event=stop client=1 source=192.0.2.7:1700 port=acct",
+        (Door::Acct, START, Fate::Repeat(5, &[])),
+        "event=start client=1 source=192.0.2.7:1700 port=acct user=\"ann\" address=10.0.0.5 session=258 repeat=1",
         false,
     ),
     (
-        (Door::Acct, INTERIM, Fate::Reply(5, &[])),
+        (Door::Acct, START, Fate::Reply(5, &[])),
+        "event=start reason=\"no session\" client=1 source=192.0.2.7:1700 port=acct user=\"ann\" address=10.0.0.5 session=258",
+        true,
+    ),
+    (
+        (Door::Acct, STOP, Fate::Reply(5, &[])),
+        "event=stop reason=\"no session\" client=1 source=192.0.2.7:1700 port=acct",
+        true,
+    ),
+    (
+        (Door::Acct, INTERIM, Fate::Report(1)),
         "event=interim client=1 source=192.0.2.7:1700 port=acct",
         false,
+    ),
+    (
+        (Door::Auth, ANN, Fate::Repeat(3, &[(18, b"access denied")])),
+        "event=reject reason=\"access denied\" client=1 source=192.0.2.7:1700 port=auth user=\"ann\" repeat=1",
+        true,
     ),
     (
         (Door::Acct, ON, Fate::Reply(5, &[])),

@@ -2,7 +2,9 @@
 use rad_auth::{Arrival, Discard, Door};
 use rad_config::Config;
 use rad_packet::attribute::VALUE_MAX;
-use rad_packet::{Body, Frame, write};
+use rad_packet::code::ACCOUNTING_RESPONSE;
+use rad_packet::{Body, Frame, Octets, write};
+use rad_server::{Answer, Entry};
 use rad_shell::{Done, Outcome, Service, Timed, Turn};
 use rad_watch::{Level, Now, Watcher};
 use std::alloc::{AllocError, Global};
@@ -13,9 +15,16 @@ pub enum Fate {
     Dropped(Discard),
     Busy,
     NoMemory,
-    /// A reply with this Code and these attributes: Type and Value of each.
-    Reply(u8, &'static [(u8, &'static [u8])]),
+    /// A new reply with this Code and these attributes: Type and Value of each.
+    Reply(u8, Attributes),
+    /// The same reply, which was kept.
+    Repeat(u8, Attributes),
+    /// A new Accounting-Response, to a report that means the session of this number.
+    Report(u64),
 }
+
+/// Type and Value of each attribute.
+pub type Attributes = &'static [(u8, &'static [u8])];
 
 /// A datagram and its fate.
 pub type Row = (Door, &'static [u8], Fate);
@@ -103,12 +112,12 @@ fn see(alloc: Global, service: &Service, watcher: &mut Watcher, row: &Row) {
         moment: 0,
         draw: [0; 16],
     }];
-    if let Ok(done) = done_by(alloc, fate) {
+    if let Ok(done) = done_by(alloc, door, octets, fate) {
         let turn = Turn {
             service,
             arrivals: &arrivals,
             done: &done,
-            marks: &[],
+            marks: &[!matches!(fate, Fate::Repeat(..) | Fate::Busy)],
             faults: 0,
             last_failure: None,
         };
@@ -132,14 +141,49 @@ fn see_nothing(alloc: Global, service: &Service, watcher: &mut Watcher) {
     watcher.made(&turn, 0, LATER);
 }
 
-fn done_by(alloc: Global, fate: Fate) -> Result<Done, AllocError> {
-    let outcome = outcome_of(alloc, fate)?;
-    let mut outcomes = Vec::new(alloc);
-    outcomes.push(outcome)?;
-    Ok(Done {
-        outcomes,
+fn done_by(alloc: Global, door: Door, octets: &[u8], fate: Fate) -> Result<Done, AllocError> {
+    let mut done = Done {
+        outcomes: Vec::new(alloc),
         history: Vec::new(alloc),
-    })
+    };
+    done.outcomes.push(outcome_of(alloc, fate)?)?;
+    match fate {
+        Fate::Dropped(_) | Fate::NoMemory => {}
+        Fate::Busy => push_entry(alloc, &mut done, door, octets, (Answer::Busy, None))?,
+        Fate::Reply(code, _) | Fate::Repeat(code, _) => {
+            let answer = Answer::Send(Body::new(alloc, code));
+            push_entry(alloc, &mut done, door, octets, (answer, None))?;
+        }
+        Fate::Report(session) => {
+            let answer = Answer::Send(Body::new(alloc, ACCOUNTING_RESPONSE));
+            push_entry(alloc, &mut done, door, octets, (answer, Some(session)))?;
+        }
+    }
+    Ok(done)
+}
+
+// Appends the entry of the first datagram, with its answer and session.
+fn push_entry(
+    alloc: Global,
+    done: &mut Done,
+    door: Door,
+    octets: &[u8],
+    (answer, session): (Answer, Option<u64>),
+) -> Result<(), AllocError> {
+    let octets = Octets::of(alloc, octets)?;
+    done.history.push(Entry {
+        tag: 0,
+        client: 0,
+        source: 0xC000_0207,
+        port: 1700,
+        door,
+        octets,
+        moment: 0,
+        draw: [0; 16],
+        answer,
+        session,
+    })?;
+    Ok(())
 }
 
 fn outcome_of(alloc: Global, fate: Fate) -> Result<Outcome, AllocError> {
@@ -147,7 +191,10 @@ fn outcome_of(alloc: Global, fate: Fate) -> Result<Outcome, AllocError> {
         Fate::Dropped(discard) => Ok(Outcome::Dropped(discard)),
         Fate::Busy => Ok(Outcome::Busy),
         Fate::NoMemory => Ok(Outcome::NoMemory),
-        Fate::Reply(code, attributes) => reply_with(alloc, code, attributes),
+        Fate::Reply(code, attributes) | Fate::Repeat(code, attributes) => {
+            reply_with(alloc, code, attributes)
+        }
+        Fate::Report(_) => reply_with(alloc, ACCOUNTING_RESPONSE, &[]),
     }
 }
 
