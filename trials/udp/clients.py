@@ -299,6 +299,7 @@ def pyrad(server):
 
 OWN = b"\xc0\0\x02\x07"
 OF_A_POOL = b"\xc0\0\x02\x08"
+CLASS_OF_ONE = b"RAP1" + (1).to_bytes(8, "big")
 OWN_ADDRESS = f"""
 window = 1
 hold = 30
@@ -361,6 +362,33 @@ def own_address():
     print("clients: an address of a user's own is given to one session at a time, and to nobody else")
 
 
+# ---- a stuck session
+
+
+def text_for_jon(server, number):
+    """The Reply-Message of a log-in of jon, if any: with the address of the pool none."""
+    reply = server.ask(server.auth, access_request(number, b"jon"))
+    judge(attribute(reply, 8) in (b"", OF_A_POOL), f"jon gets no other address: {reply.hex()}")
+    return attribute(reply, 18).decode() if reply[:1] == b"\x03" else ""
+
+
+def stuck_session():
+    """A session whose gateway has forgotten it ends by a Stop of radclient with its Class."""
+    if not shutil.which("radclient"):
+        print("clients: a Stop of radclient is left out, for want of freeradius-utils")
+        return
+    with serving(configuration=OWN_ADDRESS) as server:
+        judge(text_for_jon(server, 1) == "", "jon gets the address of the pool")
+        judge(server.ask(server.acct, accounting_request(2, 1, CLASS_OF_ONE))[:2] == b"\x05\x02", "his Start is answered")
+        time.sleep(1.1)
+        judge(text_for_jon(server, 3) == "no address left", "his session has it")
+        words = ["radclient", f"127.0.0.1:{server.acct}", "acct", SECRET.decode()]
+        ran = subprocess.run(words, input=f"Acct-Status-Type = Stop, Class = 0x{CLASS_OF_ONE.hex()}\n", capture_output=True, text=True, timeout=60)
+        judge(ran.returncode == 0, f"the Stop is answered: {ran.stdout}{ran.stderr}")
+        judge(text_for_jon(server, 4) == "", "once his session has ended, jon gets the address again")
+    print("clients: a Stop of radclient with the Class of a session frees its address")
+
+
 # ---- the trial
 
 
@@ -373,4 +401,4 @@ def clients_of_debian():
     print(f"clients: {len(USERS)} users get the attributes that they are given; {'; '.join(said)}")
 
 
-TRIALS = (clients_of_debian, own_address)
+TRIALS = (clients_of_debian, own_address, stuck_session)

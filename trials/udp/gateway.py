@@ -1,4 +1,4 @@
-"""A gateway of Debian, l2tpns, which does what Access-Accepts give its users.
+"""A gateway of Debian, l2tpns, which does what Access-Accepts give its users, and disconnects them.
 
 It serves in namespaces of its own, in which this script is what a user dials in with: an L2TP access concentrator (RFC 2661) that speaks PPP
 (RFC 1661). Where it isn't installed, or namespaces can't be made, the trial is left out.
@@ -14,7 +14,7 @@ import subprocess
 import sys
 import time
 
-from serving import SECRET, can_be_read, judge, path, serving
+from serving import SECRET, access_request, attribute, can_be_read, judge, path, serving
 
 L2TPNS = "/usr/sbin/l2tpns"
 PLACE = "/etc/l2tpns"  # which it reads, whatever its configuration is
@@ -68,6 +68,7 @@ set primary_radius 127.0.0.1
 set primary_radius_port {port}
 set radius_secret "{secret}"
 set radius_authtypes "pap"
+set radius_accounting yes
 set bind_address {gateway}
 set iftun_address 10.99.0.1
 set peer_address 10.99.0.1
@@ -270,14 +271,30 @@ def judge_tunnel(concentrator):
         judge(avps_in(other.recv(4096)[12:])[0] == short(SCCRQ), "its first message is right")
 
 
+def judge_disconnect(server):
+    """Judges that a Disconnect-Request (RFC 5176) of radclient ends mira's session at the gateway, and the gateway's Stop the one here."""
+    words = ["radclient", "-x", f"{GATEWAY}:3799", "disconnect", SECRET.decode()]
+    ran = subprocess.run(words, input='User-Name = "mira"\n', capture_output=True, text=True, timeout=60)
+    judge("Received Disconnect-ACK " in ran.stdout, f"the gateway disconnects mira: {ran.stdout}{ran.stderr}")
+    text, asked = b"session limit", 0
+    while text == b"session limit" and asked < 20:
+        text, asked = attribute(server.ask(server.auth, access_request(asked, b"mira")), 18), asked + 1
+        time.sleep(0.5)
+    judge(text == b"no address left", f"her session has ended, and keeps its address for its window: {text}")
+    print("gateway: l2tpns disconnects a user for radclient, and its Stop ends the session")
+
+
 def judge_all():
     ip("link", "set", "lo", "up")
-    with serving(configuration=CONFIGURATION) as server, gateway_of(server.auth):
+    # The gateway takes the port after that of authentication for accounting.
+    with serving(configuration=CONFIGURATION, auth="1812", acct="1813") as server, gateway_of(server.auth):
         concentrator = Concentrator()
         concentrator.open()
         judge_session(concentrator)
         judge_tunnel(concentrator)
-    print("gateway: l2tpns has a user's address, timeouts, filter, rates and routes, and tunnels another to the server of its attributes")
+        print("gateway: l2tpns has a user's address, timeouts, filter, rates and routes, and tunnels another to the server of its attributes")
+        if shutil.which("radclient"):
+            judge_disconnect(server)
 
 
 # ---- the trial

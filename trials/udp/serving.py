@@ -145,13 +145,13 @@ class Server:
         judge(self.process.poll() is None, f"it goes on {what}")
 
 
-def start(seed, words=(), auth="0", configuration=CONFIGURATION, errors=subprocess.PIPE, **options):
+def start(seed, words=(), auth="0", acct="0", configuration=CONFIGURATION, errors=subprocess.PIPE, **options):
     # Another server, which has just started, may be about to read them.
     for name, octets in (("toml", configuration.encode()), ("seed", seed)):
         with open(path(f"{name}.new"), "wb") as file:
             file.write(octets)
         os.replace(path(f"{name}.new"), path(name))
-    files = ["--config", path("toml"), "--seed", path("seed"), "--auth", auth, "--acct", "0"]
+    files = ["--config", path("toml"), "--seed", path("seed"), "--auth", auth, "--acct", acct]
     return subprocess.Popen(
         [RADPOOL, "serve", *files, *words], stdout=subprocess.PIPE, stderr=errors, text=True, **options
     )
