@@ -54,7 +54,7 @@ test:
 	@trials/state/run
 	@trials/install/run > /dev/null
 
-# Installs the executable of `make demo`, its man pages, two units for systemd, room for receive buffers, the example configuration and
+# Installs the executable of `make demo`, its man pages, two units for systemd, room for receive buffers, examples of configurations and
 # four documents, below PREFIX, which the installed texts name. Nothing in /etc is touched.
 to = $(DESTDIR)$(PREFIX)
 text = sed 's,/usr/local,$(PREFIX),g' $(1) | install -D -m 644 /dev/stdin "$(to)/$(2)"
@@ -67,6 +67,8 @@ install:
 	$(call text,examples/radpool.socket,lib/systemd/system/radpool.socket)
 	$(call text,packaging/sysctl.conf,lib/sysctl.d/10-radpool.conf)
 	$(call text,examples/radpool.toml,share/doc/radpool/examples/radpool.toml)
+	$(call text,examples/radpool.logrotate,share/doc/radpool/examples/radpool.logrotate)
+	$(call text,examples/radsecproxy.conf,share/doc/radpool/examples/radsecproxy.conf)
 	$(call text,docs/OPERATING.md,share/doc/radpool/OPERATING.md)
 	$(call text,docs/FORMATS.md,share/doc/radpool/FORMATS.md)
 	$(call text,docs/TRYING.md,share/doc/radpool/TRYING.md)
@@ -75,7 +77,8 @@ install:
 # Removes what `install` installed, and the folder that only radpool uses.
 installed = bin/radpool share/man/man8/radpool.8 share/man/man5/radpool.toml.5 lib/systemd/system/radpool.service \
 	lib/systemd/system/radpool.socket lib/sysctl.d/10-radpool.conf \
-	$(addprefix share/doc/radpool/,examples/radpool.toml OPERATING.md FORMATS.md TRYING.md SECURITY.md)
+	$(addprefix share/doc/radpool/examples/,radpool.toml radpool.logrotate radsecproxy.conf) \
+	$(addprefix share/doc/radpool/,OPERATING.md FORMATS.md TRYING.md SECURITY.md)
 uninstall:
 	rm -f $(foreach file,$(installed),"$(to)/$(file)")
 	@test ! -d "$(to)/share/doc/radpool" || find "$(to)/share/doc/radpool" -type d -empty -delete
