@@ -1,9 +1,10 @@
 -- A datagram's text is read as that datagram.
-use Rattle.std.proofs.Common.{◌≡◌, ℕ, ◌+◌, ◌-◌, ◌*◌, ◌/◌, ◌%◌, ◌<◌, ◌≤◌, ◌^◌, ◌⊎◌, inl, inr, false, eqb, List, [], ◌∷◌, ◌++◌, length, drop, get_or, Some, Ok, refl, sym, ap, subst, ◌∙◌, arith, add-one, append_assoc, drop-cons}
-use Rattle.std.specs.Prelude.{◌==◌, codes, decimal, slice_index}
+use Rattle.std.proofs.Common.{◌≡◌, ℕ, suc, ◌+◌, ◌-◌, ◌*◌, ◌/◌, ◌%◌, ◌<◌, ◌≤◌, ◌^◌, ◌⊎◌, inl, inr, false, eqb, List, [], ◌∷◌, ◌++◌, length, drop, get_or, Option, Some, None, Ok, refl, sym, ap, subst, ◌∙◌, arith, add-one, append_assoc, drop-cons}
+use Rattle.std.specs.Prelude.{◌==◌, codes, decimal, slice_index, IfSome}
 use Rattle.std.specs.Char.{digit_value}
 use Rattle.std.specs.Int.{IsInRange}
 use Rattle.std.specs.List.{AllByRecursion}
+use Rattle.std.specs.Result.{result_ok}
 use Rattle.std.specs.Net.Text.{dotted_text}
 use Rattle.std.specs.Str.Parse.{AllDigits, digits_value_after}
 use Rattle.std.proofs.lemmas.Bool.{eq-eqb, false_from_ne_true, le-leb, le-ltb, ne_eqb, cases_lt}
@@ -12,16 +13,16 @@ use Rattle.std.proofs.lemmas.List.{append-nil, drop_all}
 use Rattle.std.proofs.lemmas.Str.{digit_value_digit}
 use Rattle.std.proofs.lemmas.Str.Parse.{digit_from_value}
 use lib.Pointwise.{pointwise, pointwise_long}
-use Rattle.hex.specs.Hex.{IsBytes, decode_of, encode_lower, encode_with, lower_digits}
-use Rattle.hex.proofs.HexLemmas.{decode_of-encode_lower, length-encode_with}
+use Rattle.hex.specs.Hex.{IsBytes, decode_of, encode_lower, encode_with, hex_digit_value, lower_digits}
+use Rattle.hex.proofs.HexLemmas.{IsDigits-lower_digits, decode_of-encode_lower, decode_sized-encode_lower, length-encode_with}
 use Rattle.rad_packet.specs.Packets.{length_max}
 use Rattle.rad_auth.specs.declared.arrival.Door.{Door}
 use Rattle.rad_auth.specs.declared.arrival.Door.TheVariants.{Auth, Acct}
 use Rattle.rad_text.specs.Decimals.{digit_of, digits_from, number_of, has_leading_zero, address_part_of, address_of}
 use Rattle.rad_text.specs.Splits.{split_once}
 use Rattle.rad_config.specs.Spans.{moment_max}
-use Rattle.rad_replay.specs.DatagramLines.{TimedDatagram, moment_of, port_of, door_of, octets_of, datagram_of_line}
-use Rattle.rad_replay.specs.DatagramTexts.{door_name, address_text, octets_text, datagram_text, DatagramTextsAreRead}
+use Rattle.rad_replay.specs.DatagramLines.{TimedDatagram, moment_of, port_of, door_of, octets_of, draw_in, content_of, datagram_of_line}
+use Rattle.rad_replay.specs.DatagramTexts.{door_name, address_text, octets_text, content_text, datagram_text, IsDraw, DatagramTextsAreRead}
 
 -- ---- a text with no separator in it is the part before the first one
 
@@ -32,6 +33,10 @@ Lacks separator text = AllByRecursion (λ octet. (octet == separator) ≡ false)
 split_once-first : (separator : ℕ) (front rest : List ℕ) → Lacks separator front → split_once separator (front ++ separator ∷ rest) ≡ Some (front, rest)
 split_once-first separator [] rest lacks = rw (eq-eqb separator separator refl) refl
 split_once-first separator (octet ∷ front) rest lacks = rw (lacks.0, split_once-first separator front rest lacks.1) refl
+
+split_once-none : (separator : ℕ) (text : List ℕ) → Lacks separator text → split_once separator text ≡ None
+split_once-none separator [] lacks = refl
+split_once-none separator (octet ∷ text) lacks = rw (lacks.0, split_once-none separator text lacks.1) refl
 
 Lacks-append : (separator : ℕ) (front rest : List ℕ) → Lacks separator front → Lacks separator rest → Lacks separator (front ++ rest)
 Lacks-append separator [] rest lacks others = others
@@ -148,14 +153,54 @@ octets_of-digits text octets some short twice is =
     false_from_ne_true (pointwise ◌==◌ text (codes "-")) (λ same. let one : length text ≡ 1 = pointwise_long ◌==◌ text (codes "-") same in omega arith) in
     rw (other, le-ltb (length text) 2 (omega arith), le-ltb (2 * length_max) (length text) (omega arith), is) refl
 
+octets_text-digits : (octet : ℕ) (octets : List ℕ) → octets_text (octet ∷ octets) ≡ encode_lower (octet ∷ octets)
+octets_text-digits octet octets =
+    let some : eqb (length (octet ∷ octets)) 0 ≡ false = ne_eqb (length (octet ∷ octets)) 0 (λ none. omega arith) in
+    rw some refl
+
 octets_of-text : (octets : List ℕ) → IsBytes octets → length octets ≤ length_max → octets_of (octets_text octets) ≡ Some octets
 unfolding octets_of
 octets_of-text [] bytes short = refl
 octets_of-text (octet ∷ octets) bytes short =
-    let some : eqb (length (octet ∷ octets)) 0 ≡ false = ne_eqb (length (octet ∷ octets)) 0 (λ none. omega arith) in
-    let digits : octets_text (octet ∷ octets) ≡ encode_lower (octet ∷ octets) = rw some refl in
-    ap octets_of digits
+    ap octets_of (octets_text-digits octet octets)
     ∙ octets_of-digits (encode_lower (octet ∷ octets)) (octet ∷ octets) (omega arith) short (length-encode_with lower_digits (octet ∷ octets)) (decode_of-encode_lower (octet ∷ octets) bytes)
+
+-- a hexadecimal digit is no space
+digit-no_space : (digit : ℕ) → digit < 16 → (slice_index lower_digits digit == 32) ≡ false
+digit-no_space digit small =
+    ne_eqb (slice_index lower_digits digit) 32 (λ is. let none : None ≡ Some digit = ap hex_digit_value (sym is) ∙ IsDigits-lower_digits digit small in cc)
+
+Lacks-hexadecimal : (octets : List ℕ) → IsBytes octets → Lacks 32 (encode_lower octets)
+unfolding encode_with
+Lacks-hexadecimal [] bytes = tt
+Lacks-hexadecimal (octet ∷ octets) bytes =
+    let small : octet < 256 = bytes 0 in
+    (digit-no_space (octet / 16) (omega arith), (digit-no_space (octet % 16) (omega arith), Lacks-hexadecimal octets (λ i. bytes (suc i))))
+
+Lacks-octets : (octets : List ℕ) → IsBytes octets → Lacks 32 (octets_text octets)
+Lacks-octets [] bytes = (refl, tt)
+Lacks-octets (octet ∷ octets) bytes = subst (Lacks 32) (sym (octets_text-digits octet octets)) (Lacks-hexadecimal (octet ∷ octets) bytes)
+
+draw_in-digits : (draw : List ℕ) → IsDraw draw → draw_in (encode_lower draw) ≡ Some draw
+unfolding draw_in
+draw_in-digits draw (bytes, long) = ap result_ok (decode_sized-encode_lower draw 16 long bytes)
+
+content_of-octets : (text octets : List ℕ) → Lacks 32 text → octets_of text ≡ Some octets → content_of text ≡ Some (octets, None)
+unfolding content_of
+content_of-octets text octets lacks octets_is = rw (split_once-none 32 text lacks, octets_is) refl
+
+content_of-both : (text digits octets draw : List ℕ) → Lacks 32 text → octets_of text ≡ Some octets → draw_in digits ≡ Some draw
+    → content_of (text ++ 32 ∷ digits) ≡ Some (octets, Some draw)
+unfolding content_of
+content_of-both text digits octets draw lacks octets_is draw_is = rw (split_once-first 32 text digits lacks, octets_is, draw_is) refl
+
+content_of-text : (octets : List ℕ) (draw : Option (List ℕ)) → IsBytes octets → length octets ≤ length_max → IfSome draw IsDraw
+    → content_of (content_text octets draw) ≡ Some (octets, draw)
+content_of-text octets None bytes short fits =
+    ap content_of (append-nil (octets_text octets))
+    ∙ content_of-octets (octets_text octets) octets (Lacks-octets octets bytes) (octets_of-text octets bytes short)
+content_of-text octets (Some draw) bytes short fits =
+    content_of-both (octets_text octets) (encode_lower draw) octets draw (Lacks-octets octets bytes) (octets_of-text octets bytes short) (draw_in-digits draw fits)
 
 door_of-name : (door : Door) → door_of (door_name door) ≡ Some door
 unfolding door_of
@@ -168,22 +213,22 @@ Lacks-door Acct = (refl, (refl, (refl, (refl, tt))))
 
 -- ---- a whole line
 
-line_of_parts : (moment_text door_text address port_text digits : List ℕ) (moment : ℕ) (door : Door) (source port : ℕ) (octets : List ℕ) → Lacks 32 moment_text → Lacks 32 door_text → Lacks 58 address → Lacks 32 (address ++ 58 ∷ port_text)
-    → moment_of moment_text ≡ Some moment → door_of door_text ≡ Some door → address_of address ≡ Some source → port_of port_text ≡ Some port → octets_of digits ≡ Some octets
-    → datagram_of_line (moment_text ++ 32 ∷ (door_text ++ 32 ∷ ((address ++ 58 ∷ port_text) ++ 32 ∷ digits)))
-    ≡ Some (record { moment = moment; datagram = record { source = source; port = port; door = door; octets = octets } })
+line_of_parts : (moment_text door_text address port_text content : List ℕ) (moment : ℕ) (door : Door) (source port : ℕ) (octets : List ℕ) (draw : Option (List ℕ)) → Lacks 32 moment_text → Lacks 32 door_text → Lacks 58 address → Lacks 32 (address ++ 58 ∷ port_text)
+    → moment_of moment_text ≡ Some moment → door_of door_text ≡ Some door → address_of address ≡ Some source → port_of port_text ≡ Some port → content_of content ≡ Some (octets, draw)
+    → datagram_of_line (moment_text ++ 32 ∷ (door_text ++ 32 ∷ ((address ++ 58 ∷ port_text) ++ 32 ∷ content)))
+    ≡ Some (record { moment = moment; datagram = record { source = source; port = port; door = door; octets = octets }; draw = draw })
 unfolding datagram_of_line
-line_of_parts moment_text door_text address port_text digits moment door source port octets moment_lacks door_lacks address_lacks source_lacks moment_is door_is source_is port_is octets_is =
+line_of_parts moment_text door_text address port_text content moment door source port octets draw moment_lacks door_lacks address_lacks source_lacks moment_is door_is source_is port_is content_is =
     rw (
-      split_once-first 32 moment_text (door_text ++ 32 ∷ ((address ++ 58 ∷ port_text) ++ 32 ∷ digits)) moment_lacks,
-      split_once-first 32 door_text ((address ++ 58 ∷ port_text) ++ 32 ∷ digits) door_lacks,
-      split_once-first 32 (address ++ 58 ∷ port_text) digits source_lacks,
+      split_once-first 32 moment_text (door_text ++ 32 ∷ ((address ++ 58 ∷ port_text) ++ 32 ∷ content)) moment_lacks,
+      split_once-first 32 door_text ((address ++ 58 ∷ port_text) ++ 32 ∷ content) door_lacks,
+      split_once-first 32 (address ++ 58 ∷ port_text) content source_lacks,
       split_once-first 58 address port_text address_lacks,
       moment_is,
       door_is,
       source_is,
       port_is,
-      octets_is,
+      content_is,
     )
     refl
 
@@ -197,8 +242,8 @@ port_of-decimal port small = number_of-decimal 5 65535 port (omega arith) (omega
 
 datagram_text-parts : (timed : TimedDatagram)
     → datagram_text timed
-    ≡ decimal timed.moment ++ 32 ∷ (door_name timed.datagram.door ++ 32 ∷ ((address_text timed.datagram.source ++ 58 ∷ decimal timed.datagram.port) ++ 32 ∷ octets_text timed.datagram.octets))
-datagram_text-parts timed = parts (decimal timed.moment) (door_name timed.datagram.door) (address_text timed.datagram.source) (decimal timed.datagram.port) (octets_text timed.datagram.octets)
+    ≡ decimal timed.moment ++ 32 ∷ (door_name timed.datagram.door ++ 32 ∷ ((address_text timed.datagram.source ++ 58 ∷ decimal timed.datagram.port) ++ 32 ∷ content_text timed.datagram.octets timed.draw))
+datagram_text-parts timed = parts (decimal timed.moment) (door_name timed.datagram.door) (address_text timed.datagram.source) (decimal timed.datagram.port) (content_text timed.datagram.octets timed.draw)
   where
     parts : (a b c d e : List ℕ) → a ++ 32 ∷ [] ++ b ++ 32 ∷ [] ++ (c ++ 58 ∷ [] ++ d) ++ 32 ∷ [] ++ e ≡ a ++ 32 ∷ (b ++ 32 ∷ ((c ++ 58 ∷ d) ++ 32 ∷ e))
     parts a b c d e = simp append_assoc
@@ -210,7 +255,7 @@ datagram_texts_are_read timed fits =
     let source = Lacks-address 32 datagram.source (inl (omega arith)) fits.source in
     let port = Lacks-decimal 32 datagram.port (inl (omega arith)) (omega (arith, fits.port)) in
     ap datagram_of_line (datagram_text-parts timed)
-    ∙ line_of_parts (decimal timed.moment) (door_name datagram.door) (address_text datagram.source) (decimal datagram.port) (octets_text datagram.octets) timed.moment datagram.door datagram.source datagram.port datagram.octets
+    ∙ line_of_parts (decimal timed.moment) (door_name datagram.door) (address_text datagram.source) (decimal datagram.port) (content_text datagram.octets timed.draw) timed.moment datagram.door datagram.source datagram.port datagram.octets timed.draw
     (Lacks-decimal 32 timed.moment (inl (omega arith)) (omega (arith, fits.moment)))
     (Lacks-door datagram.door)
     (Lacks-address 58 datagram.source (inr (omega arith)) fits.source)
@@ -219,4 +264,4 @@ datagram_texts_are_read timed fits =
     (door_of-name datagram.door)
     (address_of-text datagram.source fits.source)
     (port_of-decimal datagram.port fits.port)
-    (octets_of-text datagram.octets fits.octets fits.short)
+    (content_of-text datagram.octets timed.draw fits.octets fits.short fits.draw)

@@ -1,5 +1,5 @@
 -- What the parts of a replay say: one line, and the answering of all datagram lines.
-use Rattle.std.specs.Prelude.{◌≡◌, ℕ, Bool, List, [], ◌∷◌, Some, None, Result, Ok, Err}
+use Rattle.std.specs.Prelude.{◌≡◌, ℕ, Bool, List, [], ◌∷◌, Option, Some, None, Result, Ok, Err}
 use Rattle.rad_config.specs.Configurations.{Configuration}
 use Rattle.rad_auth.specs.Datagrams.{datagram_of}
 use Rattle.rad_auth.specs.declared.arrival.Arrival.{Arrival}
@@ -27,17 +27,17 @@ line_of_result configuration number request (Ok answer) = answer_line configurat
 line_of_result configuration number request (Err refused) = nomemory_line number
 
 -- the new line is that of the request with this number, and the new state the one after it; with memory or without
-abbrev pub IsLineOfRequest : ℕ → ℕ → Request → Replay → Replay → Type 0
-IsLineOfRequest number moment request old new =
-    (has_memory : Bool) × (line_of_verdict old.configuration has_memory number old.state moment (Ok request) ≡ (new.line, new.state))
+abbrev pub IsLineOfRequest : ℕ → ℕ → Option (List ℕ) → Request → Replay → Replay → Type 0
+IsLineOfRequest number moment draw request old new =
+    (has_memory : Bool) × (line_of_verdict old.configuration has_memory number old.state moment draw (Ok request) ≡ (new.line, new.state))
 
 -- the same of the datagram with this number
 abbrev pub IsLineOf : ℕ → TimedDatagram → Replay → Replay → Type 0
 IsLineOf number timed old new = (has_memory : Bool) × (line_of old.configuration has_memory number old.state timed ≡ (new.line, new.state))
 
--- an arrival and its moment
-abbrev pub datagram_arrived : ℕ → Arrival → TimedDatagram
-datagram_arrived moment arrival = record { moment = moment; datagram = datagram_of arrival }
+-- an arrival, its moment, and the draw of its line if it has one
+abbrev pub datagram_arrived : ℕ → Option (List ℕ) → Arrival → TimedDatagram
+datagram_arrived moment draw arrival = record { moment = moment; datagram = datagram_of arrival; draw = draw }
 
 -- what the answering of datagram lines may end with
 abbrev pub EndsLines : Configuration → List (List ℕ) → (List ℕ → Type 0) → Result Unit RunFault → Type 0

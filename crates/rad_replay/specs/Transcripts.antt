@@ -1,6 +1,6 @@
 -- What a replay writes for the transcript that it reads: a line for each datagram, in order. A text is a list of octets,
 -- which are numbers below 256, and datagrams are numbered from 1.
-use Rattle.std.specs.Prelude.{◌≡◌, ◌⊎◌, ℕ, ◌+◌, ◌<◌, ◌≤◌, ◌==◌, Bool, true, false, not, List, [], ◌∷◌, ◌++◌, length, take, replicate, codes, decimal, Option, Some, None, IfSome, Result, Ok, Err}
+use Rattle.std.specs.Prelude.{◌≡◌, ◌⊎◌, ℕ, ◌+◌, ◌<◌, ◌≤◌, ◌==◌, Bool, true, false, not, List, [], ◌∷◌, ◌++◌, length, take, replicate, codes, decimal, Option, Some, None, IfSome, unwrap_or, Result, Ok, Err}
 use Rattle.std.specs.List.{list_any}
 use Rattle.std.specs.Int.{w64, to_be_bytes}
 use Rattle.hex.specs.Hex.{encode_lower}
@@ -41,9 +41,9 @@ busy_line number = line number (codes "busy")
 abbrev pub nomemory_line : ℕ → List ℕ
 nomemory_line number = line number (codes "nomemory")
 
--- the draw of a datagram: its number in 16 octets, most significant octet first
-abbrev pub draw_of : ℕ → List ℕ
-draw_of number = replicate 8 0 ++ to_be_bytes w64 number
+-- the draw of a datagram: that of its line if it has one, or else its number in 16 octets, most significant octet first
+abbrev pub draw_of : ℕ → Option (List ℕ) → List ℕ
+draw_of number draw = unwrap_or draw (replicate 8 0 ++ to_be_bytes w64 number)
 
 -- the octets of a reply to a request, sealed under its client's secret
 abbrev pub sealed_reply : List Client → Request → Body → List ℕ
@@ -60,14 +60,15 @@ abbrev pub answered : Configuration → ℕ → Request → Answer × State → 
 answered configuration number request (answer, state) = (answer_line configuration number request answer, state)
 
 -- the line of a request that was admitted, or of a discard, and the state after it; if memory is refused no step is made
-abbrev pub line_of_verdict : Configuration → Bool → ℕ → State → ℕ → Result Request Discard → List ℕ × State
-line_of_verdict configuration has_memory number state moment (Err discard) = (drop_line number discard, state)
-line_of_verdict configuration true number state moment (Ok request) = answered configuration number request (step configuration state request moment (draw_of number))
-line_of_verdict configuration false number state moment (Ok request) = (nomemory_line number, state)
+abbrev pub line_of_verdict : Configuration → Bool → ℕ → State → ℕ → Option (List ℕ) → Result Request Discard → List ℕ × State
+line_of_verdict configuration has_memory number state moment draw (Err discard) = (drop_line number discard, state)
+line_of_verdict configuration true number state moment draw (Ok request) = answered configuration number request (step configuration state request moment (draw_of number draw))
+line_of_verdict configuration false number state moment draw (Ok request) = (nomemory_line number, state)
 
 -- the line for a datagram, and the state after it
 abbrev pub line_of : Configuration → Bool → ℕ → State → TimedDatagram → List ℕ × State
-line_of configuration has_memory number state timed = line_of_verdict configuration has_memory number state timed.moment (admission configuration.clients timed.datagram)
+line_of configuration has_memory number state timed =
+    line_of_verdict configuration has_memory number state timed.moment timed.draw (admission configuration.clients timed.datagram)
 
 -- ---- the lines for a list of datagrams
 

@@ -66,24 +66,31 @@ impl<'a> Replay<'a> {
     }
 
     /// Makes the line for a datagram, and goes on to the next state.
-    pub fn answer(&mut self, number: u64, moment: u64, arrival: Arrival)
+    pub fn answer(&mut self, number: u64, moment: u64, draw: Option<[u8; 16]>, arrival: Arrival)
         requires { moment ≤ moment_max }
-        ensures line { IsLineOf number (datagram_arrived moment arrival.entry) self.old self.new }
+        ensures line { IsLineOf number (datagram_arrived moment draw arrival.entry)
+            self.old self.new }
         ensures configuration { self.new.configuration ≡ self.old.configuration }
     {
         match admit(self.server.config().clients(), arrival) {
             Err(discard) => self.line.write_drop(number, discard),
-            Ok(request) => self.answer_request(number, moment, &request),
+            Ok(request) => self.answer_request(number, moment, draw, &request),
         }
     }
 
-    fn answer_request(&mut self, number: u64, moment: u64, request: &Request)
+    fn answer_request(
+        &mut self,
+        number: u64,
+        moment: u64,
+        draw: Option<[u8; 16]>,
+        request: &Request,
+    )
         requires moment { moment ≤ moment_max }
         requires admitted { IsAdmitted self.old.configuration.clients request.now }
-        ensures line { IsLineOfRequest number moment request.now self.old self.new }
+        ensures line { IsLineOfRequest number moment draw request.now self.old self.new }
         ensures configuration { self.new.configuration ≡ self.old.configuration }
     {
-        let answer = self.server.step(request, moment, &draw_of(number));
+        let answer = self.server.step(request, moment, &draw_of(number, draw));
         self.write_answer(number, request, answer);
     }
 
@@ -143,10 +150,10 @@ fn admit<'a>(clients: &Clients, arrival: Arrival<'a>) -> Result<Request<'a>, Dis
     }
 }
 
-// The draw of a datagram: its number in 16 octets, most significant octet first.
-fn draw_of(number: u64) -> [u8; 16]
-    ensures { result ≡ draw_of number }
+// The draw of a datagram: that of its line if it has one, or else its number in 16 octets, most significant octet first.
+fn draw_of(number: u64, draw: Option<[u8; 16]>) -> [u8; 16]
+    ensures { result ≡ draw_of number draw }
 {
     let [a, b, c, d, e, f, g, h] = number.to_be_bytes();
-    [0, 0, 0, 0, 0, 0, 0, 0, a, b, c, d, e, f, g, h]
+    draw.unwrap_or([0, 0, 0, 0, 0, 0, 0, 0, a, b, c, d, e, f, g, h])
 }

@@ -1,8 +1,8 @@
-//! A datagram line of a transcript: `MOMENT DOOR ADDRESS:PORT OCTETS`.
+//! A datagram line of a transcript: `MOMENT DOOR ADDRESS:PORT OCTETS [DRAW]`, where the draw may be missing.
 ghost use Rattle.std.specs.Prelude.{◌≡◌, ◌≤◌, length, take, IfSome, option_map};
 ghost use Rattle.rad_packet.specs.Packets.{length_max};
 ghost use Rattle.rad_config.specs.Spans.{moment_max};
-ghost use Rattle.rad_replay.specs.DatagramLines.{moment_of, port_of, door_of, octets_of, datagram_of_line};
+ghost use Rattle.rad_replay.specs.DatagramLines.{moment_of, port_of, door_of, octets_of, draw_in, content_of, datagram_of_line};
 ghost use Rattle.rad_replay.specs.ReadLines.{datagram_found};
 
 use rad_auth::Door;
@@ -11,7 +11,7 @@ use rad_packet::LENGTH_MAX;
 use rad_text::decimal::{address, number};
 use rad_text::split::split_once;
 
-/// A datagram and when it came.
+/// A datagram, when it came, and its draw.
 #[derive(Clone, Copy, Debug, PartialEq, Eq)]
 pub struct DatagramLine {
     /// In milliseconds.
@@ -22,6 +22,8 @@ pub struct DatagramLine {
     pub door: Door,
     /// How many octets the datagram has.
     pub len: usize,
+    /// None if the line has none.
+    pub draw: Option<[u8; 16]>,
 }
 
 // The moment that up to 19 decimal digits spell, in milliseconds.
@@ -73,6 +75,33 @@ fn decode_octets(text: &[u8], octets: &mut [u8]) -> Option<usize>
     Some(len)
 }
 
+// The draw that 32 hexadecimal digits spell.
+#[tactic(auto, unfolding(crate::specs::DatagramLines::draw_in))]
+fn draw(text: &[u8]) -> Option<[u8; 16]>
+    ensures { result ≡ draw_in text.now }
+{
+    let mut draw = [0; 16];
+    hex::decode_to_slice(text, &mut draw).ok()?;
+    Some(draw)
+}
+
+// Decodes a datagram into the front of `octets`, and says how many they are and which draw follows, if one does.
+#[tactic(auto, unfolding(crate::specs::DatagramLines::content_of))]
+fn decode_content(text: &[u8], octets: &mut [u8]) -> Option<(usize, Option<[u8; 16]>)>
+    requires { length octets.old ≡ length_max }
+    ensures content { content_of text.now
+        ≡ option_map (λ found. (take found.0 octets.new, found.1)) result }
+    ensures len { IfSome result (λ found. found.0 ≤ length_max) }
+{
+    match split_once(text, b' ') {
+        None => Some((decode_octets(text, octets)?, None)),
+        Some((octets_text, draw_text)) => {
+            let len = decode_octets(octets_text, octets)?;
+            Some((len, Some(draw(draw_text)?)))
+        }
+    }
+}
+
 /// Reads a datagram line, and decodes the datagram into the front of `octets`.
 #[tactic(auto, unfolding(crate::specs::DatagramLines::datagram_of_line))]
 pub fn read_datagram_line(line: &[u8], octets: &mut [u8]) -> Option<DatagramLine>
@@ -83,18 +112,19 @@ pub fn read_datagram_line(line: &[u8], octets: &mut [u8]) -> Option<DatagramLine
 {
     let (moment_text, rest) = split_once(line, b' ')?;
     let (door_text, rest) = split_once(rest, b' ')?;
-    let (source_text, octets_text) = split_once(rest, b' ')?;
+    let (source_text, content_text) = split_once(rest, b' ')?;
     let (address_text, port_text) = split_once(source_text, b':')?;
     let moment = moment(moment_text)?;
     let door = door(door_text)?;
     let source = address(address_text)?;
     let port = port(port_text)?;
-    let len = decode_octets(octets_text, octets)?;
+    let (len, draw) = decode_content(content_text, octets)?;
     Some(DatagramLine {
         moment,
         source,
         port,
         door,
         len,
+        draw,
     })
 }

@@ -2,9 +2,11 @@
 ghost use Rattle.std.specs.Prelude.{◌≡◌, ◌++◌, ◌<◌, decimal, slice_index, OnOk};
 ghost use Rattle.hex.specs.Hex.{encode_lower, lower_digits};
 ghost use Rattle.rad_auth.specs.Datagrams.{datagram_of};
-ghost use Rattle.rad_replay.specs.DatagramTexts.{door_name, source_text, address_text, octets_text, datagram_text, DatagramTextsAreRead};
+ghost use Rattle.rad_replay.specs.DatagramTexts.{door_name, source_text, address_text, octets_text, draw_text, content_text, draw_needed, datagram_text, DatagramTextsAreRead};
+ghost use Rattle.rad_replay.specs.Replays.{datagram_arrived};
 
 use rad_auth::{Arrival, Door};
+use rad_packet::code::ACCESS_CHALLENGE;
 use std::alloc::AllocError;
 
 /// Appends the text of a datagram line, without its line feed.
@@ -13,10 +15,11 @@ use std::alloc::AllocError;
 pub fn push_datagram_text(
     text: &mut Vec<u8>,
     moment: u64,
+    draw: Option<[u8; 16]>,
     arrival: &Arrival,
 ) -> Result<(), AllocError>
     ensures { OnOk result (text.new.items ≡ text.old.items
-        ++ datagram_text (record { moment = moment; datagram = datagram_of arrival.now })) }
+        ++ datagram_text (datagram_arrived moment draw arrival.now)) }
 {
     push_decimal(text, moment)?;
     text.push(b' ')?;
@@ -24,10 +27,23 @@ pub fn push_datagram_text(
     text.push(b' ')?;
     push_source(text, arrival)?;
     text.push(b' ')?;
-    push_octets(text, arrival.octets)
+    push_content(text, arrival.octets, draw)
 }
 
-/// The text of each datagram that fits a line is read as that datagram.
+/// The draw that the line of a request needs, by the Code of its reply.
+///
+/// Only an Access-Challenge has it in its State.
+pub fn draw_needed(code: u8, draw: [u8; 16]) -> Option<[u8; 16]>
+    ensures { result ≡ draw_needed code draw }
+{
+    if code == ACCESS_CHALLENGE {
+        Some(draw)
+    } else {
+        None
+    }
+}
+
+/// The text of each datagram that fits a line is read as that datagram, with its moment and its draw.
 ///
 /// The call costs nothing: it does nothing at run time.
 pub fn datagram_texts_are_read()
@@ -74,6 +90,14 @@ pub fn push_address(text: &mut Vec<u8>, address: u32) -> Result<(), AllocError>
     push_decimal(text, u64::from(address % 256))
 }
 
+// The octets of a datagram, and its draw if it has one.
+fn push_content(text: &mut Vec<u8>, octets: &[u8], draw: Option<[u8; 16]>) -> Result<(), AllocError>
+    ensures { OnOk result (text.new.items ≡ text.old.items ++ content_text octets.now draw) }
+{
+    push_octets(text, octets)?;
+    push_draw(text, draw)
+}
+
 // Hexadecimal digits, or `-` for no octets.
 fn push_octets(text: &mut Vec<u8>, octets: &[u8]) -> Result<(), AllocError>
     ensures { OnOk result (text.new.items ≡ text.old.items ++ octets_text octets.now) }
@@ -82,6 +106,17 @@ fn push_octets(text: &mut Vec<u8>, octets: &[u8]) -> Result<(), AllocError>
         return text.extend_from_slice(b"-");
     }
     push_hex(text, octets)
+}
+
+// A space and hexadecimal digits, or nothing for no draw.
+fn push_draw(text: &mut Vec<u8>, draw: Option<[u8; 16]>) -> Result<(), AllocError>
+    ensures { OnOk result (text.new.items ≡ text.old.items ++ draw_text draw) }
+{
+    let Some(draw) = draw else {
+        return Ok(());
+    };
+    text.push(b' ')?;
+    push_hex(text, &draw)
 }
 
 // Two hexadecimal digits an octet.

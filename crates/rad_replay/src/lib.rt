@@ -17,7 +17,7 @@ mod run_fault;
 
 pub use datagram_line::{DatagramLine, read_datagram_line};
 pub use datagram_text::{
-    datagram_texts_are_read, door_name, push_address, push_datagram_text, push_decimal,
+    datagram_texts_are_read, door_name, draw_needed, push_address, push_datagram_text, push_decimal,
 };
 pub use make::{KINDS, Kind, Make, MakeFault};
 pub use replay::run_replay;

@@ -95,7 +95,7 @@ fn answer_lines<W: Write>(
             door: found.door,
             octets: &octets[..found.len],
         };
-        replay.answer(number, found.moment, arrival);
+        replay.answer(number, found.moment, found.draw, arrival);
         write_line(writer, replay.line())?;
     }
     Ok(())

@@ -11,7 +11,7 @@ use Rattle.rad_text.specs.Lines.{line_feed}
 
 -- the line of a datagram, with its moment
 abbrev pub recorded_line : Timed → List ℕ
-recorded_line timed = datagram_text (datagram_arrived timed.moment timed.arrival) ++ line_feed ∷ []
+recorded_line timed = datagram_text (datagram_arrived timed.moment None timed.arrival) ++ line_feed ∷ []
 
 -- the datagram of an entry: the one whose number is its tag
 abbrev pub if_found : Option Timed → List Timed

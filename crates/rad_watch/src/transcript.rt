@@ -94,7 +94,7 @@ fn record_discard(text: &mut Vec<u8>, timed: &Timed, outcome: &Outcome) -> Resul
 fn push_line(text: &mut Vec<u8>, timed: &Timed) -> Result<(), AllocError>
     ensures { OnOk result (text.new.items ≡ text.old.items ++ recorded_line timed.now) }
 {
-    push_datagram_text(text, timed.moment, &timed.arrival)?;
+    push_datagram_text(text, timed.moment, None, &timed.arrival)?;
     text.push(b'\n')?;
     Ok(())
 }

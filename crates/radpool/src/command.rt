@@ -30,7 +30,7 @@ Examples:
 
 const REPLAY_EXAMPLE: &str = "\
 A transcript is a configuration, the line '---', and one line per datagram:
-MOMENT DOOR ADDRESS:PORT OCTETS
+MOMENT DOOR ADDRESS:PORT OCTETS [DRAW]
 
 Examples:
   radpool replay < examples/requests.txt

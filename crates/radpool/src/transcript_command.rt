@@ -7,7 +7,7 @@ use crate::state_files::open_store;
 use rad_auth::Arrival;
 use rad_config::read_configuration;
 use rad_journal::{Journal, Kept, restore};
-use rad_replay::push_datagram_text;
+use rad_replay::{draw_needed, push_datagram_text};
 use rad_serve::ServeError;
 use rad_server::{HashKey, Server};
 use rad_state::{OpenFault, State};
@@ -106,9 +106,15 @@ fn line_of(alloc: Global, kept: &Kept) -> Result<Vec<u8>, AllocError> {
         octets: kept.octets.octets(),
     };
     let mut line = Vec::new(alloc);
-    push_datagram_text(&mut line, kept.moment, &arrival)?;
+    push_datagram_text(&mut line, kept.moment, draw_of(kept), &arrival)?;
     line.push(b'\n')?;
     Ok(line)
+}
+
+// The draw that its line needs. The Code of the reply is its first octet.
+fn draw_of(kept: &Kept) -> Option<[u8; 16]> {
+    let code = kept.answer.octets().first()?;
+    draw_needed(*code, kept.draw)
 }
 
 /// Writes octets.

@@ -124,7 +124,7 @@ fn pushes(text: &mut Vec<u8>, call: Call) -> bool {
                 door: NEMO.door,
                 octets: NEMO.octets,
             };
-            push_datagram_text(text, MOMENT_MAX, &arrival).is_ok()
+            push_datagram_text(text, MOMENT_MAX, Some([0xff; 16]), &arrival).is_ok()
         }
     }
 }

@@ -115,6 +115,31 @@ const PROXIED_STATUS_ACCEPT: &str =
 const PROXIED_STATUS_RESPONSE: &str =
     "reply 0509001d0b44bdbbb3a9de12bdfc431255a7f05821047a7a2105616263\n";
 
+/// The same client and a user with a challenge.
+const CHALLENGING: &str =
+    "[[client]]\naddress = \"192.168.1.16\"\nsecret = \"xyzzy5461\"\n[[user]]\nname = \"kay\"\npassword = \"pw\"\nchallenge = \"code?\"\nanswer = \"4711\"\n---\n";
+
+/// The log-in of that user.
+const LOGIN: &str =
+    "0 auth 192.168.1.16:1024 0101002b0f403f9473978057bd83d5cb98f4227a01056b617902121cbb13f9f2ba74ab5fe2e43f782a0aee";
+
+/// Its challenge, under a draw of the line and under that of the first datagram.
+const OWN_CHALLENGE: &str =
+    "reply 0b0100477782e8cc6bdd666a84e28688a4dd42885012001c0c8687e260c881d221752d5bad6a1207636f64653f181a000000000000000100112233445566778899aabbccddeeff\n";
+
+const FIRST_CHALLENGE: &str =
+    "reply 0b01004750ba028fa850bf5dc85631d17f42561e5012e38f4a703d7ce51b2753a3b87d983a8e1207636f64653f181a000000000000000100000000000000000000000000000001\n";
+
+/// The answer to the former, and its replies after either.
+const ANSWER: &str =
+    "1 auth 192.168.1.16:1024 010200450f403f9473978057bd83d5cb98f4227a01056b6179021258fb22c8f2ba74ab5fe2e43f782a0aee181a000000000000000100112233445566778899aabbccddeeff";
+
+const RIGHT_ANSWER: &str =
+    "reply 0202003427b3a71ac3cf7b73185a01d8f1551d575012777fcaf10757230e8e40690829578459190e524150310000000000000001\n";
+
+const UNKNOWN_STATE: &str =
+    "reply 03020035b01da9461ef3e4795f6489cac2b3656f5012232139856b95d986f39f36f0c7542dd6120f737461746520756e6b6e6f776e\n";
+
 /// A transcript in parts, the parts that a replay of it writes, and the printed fault that ends it, or nothing.
 #[derive(Clone, Copy)]
 struct Scenario {
@@ -286,6 +311,36 @@ fn scenarios(rt: HostRuntime) {
                 START_REPLY,
             ],
             fault: "",
+        },
+        Scenario {
+            name: "an answer to a challenge whose line has its draw",
+            input: &[
+                CHALLENGING,
+                LOGIN,
+                " 00112233445566778899aAbBcCdDeEfF\n",
+                ANSWER,
+                "\n",
+            ],
+            output: &["1 ", OWN_CHALLENGE, "2 ", RIGHT_ANSWER],
+            fault: "",
+        },
+        Scenario {
+            name: "the same where the line has none",
+            input: &[CHALLENGING, LOGIN, "\n", ANSWER, "\n"],
+            output: &["1 ", FIRST_CHALLENGE, "2 ", UNKNOWN_STATE],
+            fault: "",
+        },
+        Scenario {
+            name: "a draw of 15 octets",
+            input: &[
+                GATEWAY,
+                START,
+                "\n",
+                SECOND,
+                " 00112233445566778899aabbccddee\n",
+            ],
+            output: &["1 ", START_REPLY],
+            fault: "datagram 2 is malformed",
         },
         Scenario {
             name: "a malformed line after a good one",

@@ -15,6 +15,10 @@ fn is_read(rt: &impl Abort, line: &[u8], want: Option<DatagramLine>) {
     assert!(rt; found == want, "{line:?}");
 }
 
+const DRAW: [u8; 16] = [
+    0x00, 0x11, 0x22, 0x33, 0x44, 0x55, 0x66, 0x77, 0x88, 0x99, 0xaa, 0xbb, 0xcc, 0xdd, 0xee, 0xff,
+];
+
 #[test]
 fn reads_datagram_lines(rt: HostRuntime) {
     const ROWS: &[(&[u8], DatagramLine)] = &[
@@ -26,6 +30,7 @@ fn reads_datagram_lines(rt: HostRuntime) {
                 port: 1813,
                 door: Door::Acct,
                 len: 0,
+                draw: None,
             },
         ),
         (
@@ -36,6 +41,7 @@ fn reads_datagram_lines(rt: HostRuntime) {
                 port: 80,
                 door: Door::Auth,
                 len: 3,
+                draw: None,
             },
         ),
         (
@@ -46,6 +52,29 @@ fn reads_datagram_lines(rt: HostRuntime) {
                 port: 65535,
                 door: Door::Auth,
                 len: 1,
+                draw: None,
+            },
+        ),
+        (
+            b"1 auth 1.2.3.4:5 00 00112233445566778899aAbBcCdDeEfF",
+            DatagramLine {
+                moment: 1,
+                source: 0x0102_0304,
+                port: 5,
+                door: Door::Auth,
+                len: 1,
+                draw: Some(DRAW),
+            },
+        ),
+        (
+            b"1 acct 1.2.3.4:5 - 00112233445566778899aabbccddeeff",
+            DatagramLine {
+                moment: 1,
+                source: 0x0102_0304,
+                port: 5,
+                door: Door::Acct,
+                len: 0,
+                draw: Some(DRAW),
             },
         ),
     ];
@@ -90,6 +119,15 @@ fn refuses_other_lines(rt: HostRuntime) {
         b"1  auth 1.2.3.4:5 00",
         b"1 auth 1.2.3.4:5  00",
         b"1 auth 1.2.3.4:5 00 ",
+        b"1 auth 1.2.3.4:5 00 -",
+        b"1 auth 1.2.3.4:5 00 00112233445566778899aabbccddee",
+        b"1 auth 1.2.3.4:5 00 00112233445566778899aabbccddeef",
+        b"1 auth 1.2.3.4:5 00 00112233445566778899aabbccddeeff0",
+        b"1 auth 1.2.3.4:5 00 00112233445566778899aabbccddeeff00",
+        b"1 auth 1.2.3.4:5 00 00112233445566778899aabbccddeefg",
+        b"1 auth 1.2.3.4:5 00  00112233445566778899aabbccddeeff",
+        b"1 auth 1.2.3.4:5 00 00112233445566778899aabbccddeeff ",
+        b"1 auth 1.2.3.4:5 0 00112233445566778899aabbccddeeff",
     ];
     for line in ROWS.iter() {
         is_read(&rt, line, None);
