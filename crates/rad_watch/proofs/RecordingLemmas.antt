@@ -1,5 +1,5 @@
 -- Recordings: the lines of datagrams one after another.
-use Rattle.std.proofs.Common.{◌≡◌, ◌<◌, ◌≤◌, ℕ, ◌+◌, List, [], ◌∷◌, ◌++◌, length, take, drop, get_or, refl, sym, ap, ◌∙◌, add-one}
+use Rattle.std.proofs.Common.{◌≡◌, ◌<◌, ◌≤◌, ℕ, ◌+◌, Option, List, [], ◌∷◌, ◌++◌, length, take, drop, get_or, refl, sym, ap, ◌∙◌, add-one}
 use Rattle.std.proofs.lemmas.Grind.{flat_map-append}
 use Rattle.std.proofs.lemmas.Option.{slice_get-get_or, slice_get_past}
 use Rattle.std.proofs.lemmas.List.{append-nil, append_assoc, take_more}
@@ -8,10 +8,11 @@ use Rattle.std.specs.List.{flat_map}
 use Rattle.rad_round.specs.declared.outcome.Outcome.{Outcome}
 use Rattle.rad_round.specs.declared.timed.Timed.{Timed}
 use Rattle.rad_server.specs.declared.entry.Entry.{Entry}
-use Rattle.rad_watch.specs.Recordings.{datagrams_of_entry, discarded, if_discarded, if_found, recorded, recorded_line}
+use Rattle.rad_replay.specs.DatagramLines.{TimedDatagram}
+use Rattle.rad_watch.specs.Recordings.{datagram_with, datagrams_of_entry, discarded, draw_recorded, if_discarded, if_found, recorded, recorded_line}
 
 -- lines, and those of more datagrams after them
-lines_more : (text old more : List ℕ) (some others : List Timed) → text ≡ old ++ flat_map recorded_line some
+lines_more : (text old more : List ℕ) (some others : List TimedDatagram) → text ≡ old ++ flat_map recorded_line some
     → more ≡ text ++ flat_map recorded_line others → more ≡ old ++ flat_map recorded_line (some ++ others)
 lines_more text old more some others is after =
     after ∙ ap (λ t. t ++ flat_map recorded_line others) is
@@ -36,19 +37,21 @@ entries_more arrivals history i d lt =
     ∙ ap (λ list. flat_map (datagrams_of_entry arrivals) (take i history) ++ list) (append-nil (datagrams_of_entry arrivals entry))
 
 -- an entry whose datagram is found
-pub found_entry : (text more : List ℕ) (arrivals : List Timed) (entry : Entry) (d : Timed) → entry.tag < length arrivals
-    → more ≡ text ++ recorded_line (get_or arrivals entry.tag d) → more ≡ text ++ flat_map recorded_line (datagrams_of_entry arrivals entry)
-found_entry text more arrivals entry d lt pushed =
+pub found_entry : (text more : List ℕ) (arrivals : List Timed) (entry : Entry) (draw : Option (List ℕ)) (d : Timed) → entry.tag < length arrivals → draw ≡ draw_recorded entry
+    → more ≡ text ++ recorded_line (datagram_with draw (get_or arrivals entry.tag d)) → more ≡ text ++ flat_map recorded_line (datagrams_of_entry arrivals entry)
+found_entry text more arrivals entry draw d lt drawn pushed =
+    let timed = get_or arrivals entry.tag d in
     let found = slice_get-get_or arrivals entry.tag d lt in
-    pushed ∙ ap (λ t. text ++ t) (sym (append-nil (recorded_line (get_or arrivals entry.tag d))))
-    ∙ ap (λ found. text ++ flat_map recorded_line (if_found found)) (sym found)
+    pushed ∙ ap (λ own. text ++ recorded_line (datagram_with own timed)) drawn
+    ∙ ap (λ t. text ++ t) (sym (append-nil (recorded_line (datagram_with (draw_recorded entry) timed))))
+    ∙ ap (λ found. text ++ flat_map recorded_line (if_found entry found)) (sym found)
 
 -- one whose datagram isn't found
 pub absent_entry : (text : List ℕ) (arrivals : List Timed) (entry : Entry) → length arrivals ≤ entry.tag
     → text ≡ text ++ flat_map recorded_line (datagrams_of_entry arrivals entry)
 absent_entry text arrivals entry le =
     let absent = slice_get_past arrivals entry.tag le in
-    sym (append-nil text) ∙ ap (λ found. text ++ flat_map recorded_line (if_found found)) (sym absent)
+    sym (append-nil text) ∙ ap (λ found. text ++ flat_map recorded_line (if_found entry found)) (sym absent)
 
 -- one more entry
 pub one_more_entry : (old text more : List ℕ) (arrivals : List Timed) (history : List Entry) (i : ℕ) (d : Entry) → i < length history

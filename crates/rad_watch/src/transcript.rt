@@ -2,10 +2,10 @@
 ghost use Rattle.std.specs.Prelude.{◌≡◌, ◌++◌, IsTrue, OnOk};
 ghost use Rattle.std.specs.List.{flat_map};
 ghost use Rattle.rad_replay.specs.DatagramTexts.{DatagramTextsAreRead};
-ghost use Rattle.rad_watch.specs.Recordings.{datagrams_of_entry, discarded, if_discarded, recorded, recorded_line};
+ghost use Rattle.rad_watch.specs.Recordings.{datagram_with, datagrams_of_entry, discarded, draw_recorded, if_discarded, recorded, recorded_line};
 
-use rad_replay::{datagram_texts_are_read, push_datagram_text};
-use rad_server::Entry;
+use rad_replay::{datagram_texts_are_read, draw_needed, push_datagram_text};
+use rad_server::{Answer, Entry};
 use rad_shell::{Outcome, Timed, Turn};
 use std::alloc::AllocError;
 
@@ -16,7 +16,7 @@ use std::alloc::AllocError;
 pub fn record(text: &mut Vec<u8>, turn: &Turn) -> bool
     ensures recorded { IsTrue result → text.new.items ≡ text.old.items ++ recorded
         turn.now.arrivals.now turn.now.done.now.outcomes.items turn.now.done.now.history.items }
-    // A replay reads each line as that datagram with that moment.
+    // A replay reads each line as that datagram with that moment, and with that draw.
     ensures read { DatagramTextsAreRead }
 {
     datagram_texts_are_read();
@@ -59,9 +59,19 @@ fn record_entry(text: &mut Vec<u8>, arrivals: &[Timed], entry: &Entry) -> Result
 {
     let number = entry.tag as usize;
     if number < arrivals.len() {
-        push_line(text, &arrivals[number])?;
+        push_line(text, draw_recorded(entry), &arrivals[number])?;
     }
     Ok(())
+}
+
+// The draw that the line of an entry needs.
+fn draw_recorded(entry: &Entry) -> Option<[u8; 16]>
+    ensures { result ≡ draw_recorded entry.now }
+{
+    match &entry.answer {
+        Answer::Send(body) => draw_needed(body.code(), entry.draw),
+        Answer::Busy => None,
+    }
 }
 
 #[tactic(auto, using(crate::proofs::RecordingLemmas::one_less_discarded))]
@@ -86,15 +96,16 @@ fn record_discard(text: &mut Vec<u8>, timed: &Timed, outcome: &Outcome) -> Resul
         ++ flat_map recorded_line (if_discarded timed.now outcome.now)) }
 {
     match outcome {
-        Outcome::Dropped(_) => push_line(text, timed),
+        Outcome::Dropped(_) => push_line(text, None, timed),
         _ => Ok(()),
     }
 }
 
-fn push_line(text: &mut Vec<u8>, timed: &Timed) -> Result<(), AllocError>
-    ensures { OnOk result (text.new.items ≡ text.old.items ++ recorded_line timed.now) }
+fn push_line(text: &mut Vec<u8>, draw: Option<[u8; 16]>, timed: &Timed) -> Result<(), AllocError>
+    ensures { OnOk result (text.new.items ≡ text.old.items
+        ++ recorded_line (datagram_with draw timed.now)) }
 {
-    push_datagram_text(text, timed.moment, None, &timed.arrival)?;
+    push_datagram_text(text, timed.moment, draw, &timed.arrival)?;
     text.push(b'\n')?;
     Ok(())
 }

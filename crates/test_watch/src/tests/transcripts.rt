@@ -3,24 +3,26 @@ use super::turns::{TEXT, arrival};
 use crate::tests::holds;
 use rad_auth::{Discard, Door};
 use rad_config::Config;
-use rad_packet::Octets;
+use rad_packet::code::{ACCESS_ACCEPT, ACCESS_CHALLENGE};
+use rad_packet::{Body, Octets};
 use rad_server::{Answer, Entry};
 use rad_shell::{Done, Outcome, Service, Timed, Turn};
 use rad_watch::record;
 use std::alloc::{AllocError, Global};
 
-/// The octets of three datagrams, of which the history has the second before the first, and the third was discarded.
+/// The octets of three datagrams. The history has the second, which was challenged, before the first, which was accepted; the third
+/// was discarded.
 const OCTETS: [&[u8]; 3] = [b"\x01\x02", b"\xa0", b""];
 
 const LINES: &str =
-    "9 auth 192.0.2.7:1700 a0\n9 auth 192.0.2.7:1700 0102\n9 auth 192.0.2.7:1700 -\n";
+    "9 auth 192.0.2.7:1700 a0 5d5d5d5d5d5d5d5d5d5d5d5d5d5d5d5d\n9 auth 192.0.2.7:1700 0102\n9 auth 192.0.2.7:1700 -\n";
 
 #[test]
 fn a_recording_has_the_order_of_the_history(rt: HostRuntime) {
     holds(
         &rt,
         is_recorded(rt.alloc()),
-        "the second, the first, the third",
+        "the second with its draw, the first, the third",
     );
 }
 
@@ -68,12 +70,12 @@ fn done(alloc: Global) -> Result<Done, AllocError> {
     done.outcomes.push(Outcome::Busy)?;
     done.outcomes.push(Outcome::Busy)?;
     done.outcomes.push(Outcome::Dropped(Discard::Short))?;
-    done.history.push(entry(alloc, 1)?)?;
-    done.history.push(entry(alloc, 0)?)?;
+    done.history.push(entry(alloc, 1, ACCESS_CHALLENGE)?)?;
+    done.history.push(entry(alloc, 0, ACCESS_ACCEPT)?)?;
     Ok(done)
 }
 
-fn entry(alloc: Global, tag: u64) -> Result<Entry, AllocError> {
+fn entry(alloc: Global, tag: u64, code: u8) -> Result<Entry, AllocError> {
     Ok(Entry {
         tag,
         client: 0,
@@ -82,8 +84,8 @@ fn entry(alloc: Global, tag: u64) -> Result<Entry, AllocError> {
         door: Door::Auth,
         octets: Octets::of(alloc, b"")?,
         moment: 9,
-        draw: [0; 16],
-        answer: Answer::Busy,
+        draw: [0x5d; 16],
+        answer: Answer::Send(Body::new(alloc, code)),
         session: None,
     })
 }
