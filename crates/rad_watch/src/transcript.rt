@@ -2,7 +2,7 @@
 ghost use Rattle.std.specs.Prelude.{◌≡◌, ◌++◌, IsTrue, OnOk};
 ghost use Rattle.std.specs.List.{flat_map};
 ghost use Rattle.rad_replay.specs.DatagramTexts.{DatagramTextsAreRead};
-ghost use Rattle.rad_watch.specs.Recordings.{datagram_with, datagrams_of_entry, discarded, draw_recorded, if_discarded, recorded, recorded_line};
+ghost use Rattle.rad_watch.specs.Recordings.{datagram_with, datagrams_of_entry, discarded, draw_recorded, if_discarded, recorded, recorded_line, RecordingsAreReplayed};
 
 use rad_replay::{datagram_texts_are_read, draw_needed, push_datagram_text};
 use rad_server::{Answer, Entry};
@@ -18,8 +18,11 @@ pub fn record(text: &mut Vec<u8>, turn: &Turn) -> bool
         turn.now.arrivals.now turn.now.done.now.outcomes.items turn.now.done.now.history.items }
     // A replay reads each line as that datagram with that moment, and with that draw.
     ensures read { DatagramTextsAreRead }
+    // It then answers as the turn did.
+    ensures replayed { RecordingsAreReplayed }
 {
     datagram_texts_are_read();
+    recordings_are_replayed();
     let len = text.len();
     let is_recorded = record_turn(text, turn).is_ok();
     if !is_recorded {
@@ -27,6 +30,11 @@ pub fn record(text: &mut Vec<u8>, turn: &Turn) -> bool
     }
     is_recorded
 }
+
+// A replay of what is recorded of a round goes from the server before it to the one after it, and writes its replies.
+fn recordings_are_replayed()
+    ensures { RecordingsAreReplayed }
+{}
 
 #[tactic(auto, using(crate::proofs::RecordingLemmas::recorded_both))]
 fn record_turn(text: &mut Vec<u8>, turn: &Turn) -> Result<(), AllocError>
