@@ -1,5 +1,6 @@
 //! The authentication port and the accounting port as UDP sockets.
-ghost use Rattle.std.specs.Prelude.{◌≡◌, ◌≤◌, ◌<◌, ◌+◌, IfErr, IfOk, IfSome, IsTrue, None, cond, false};
+ghost use Rattle.std.specs.Prelude.{◌≡◌, ◌≤◌, ◌<◌, ◌+◌, IfErr, IfOk, IfSome, IsTrue, None, Some, cond, false};
+ghost use Rattle.std.specs.IoError.{raw_os_error};
 ghost use Rattle.rad_config.specs.Spans.{moment_max};
 ghost use Rattle.rad_serve.specs.declared.failure.Failure.TheVariants.{Socket};
 ghost use Rattle.rad_serve.specs.Asking.{with_one};
@@ -15,7 +16,7 @@ use crate::receive_buffer::{ask_for_room, has_room};
 use mio::net::UdpSocket;
 use mio::{Events, Interest, Poll, Token};
 use rad_auth::Door;
-use rad_shell::{Got, PortFault, Ports, RECEIVED_MAX};
+use rad_shell::{FailedCall, Got, PortCall, PortFault, Ports, RECEIVED_MAX};
 use std::alloc::{AllocError, AllocGlobal};
 use std::io;
 use std::net::{Ipv4Addr, Net, SocketAddr, SocketAddrV4};
@@ -83,6 +84,8 @@ pub struct UdpPorts<'r, C> {
     failures: u64,
     // How many of them meant that a socket can't be used.
     reported: u64,
+    // The last that was counted.
+    last_failure: Option<FailedCall>,
     ghost counted: { reported ≤ failures },
 }
 
@@ -137,6 +140,7 @@ impl<'r, C: Clock> UdpPorts<'r, C> {
             asking: Asking::new(),
             failures: 0,
             reported: 0,
+            last_failure: None,
         }
     }
 
@@ -160,29 +164,32 @@ impl<'r, C: Clock> UdpPorts<'r, C> {
         }
     }
 
-    // Counts a failure, up to the last count. Whether it was counted.
-    fn count(&mut self) -> bool
+    // Counts a failure, up to the last count, and remembers it. Whether it was counted.
+    fn count(&mut self, failed: FailedCall) -> bool
         ensures counted { self.new.failures ≡ self.old.failures + cond result 1 0 }
         ensures room { IsTrue result → self.old.failures < failures_max }
         ensures last { (result ≡ false) → self.old.failures ≡ failures_max }
         ensures reported { self.new.reported ≡ self.old.reported }
+        ensures remembered { IsTrue result → self.new.last_failure ≡ Some failed }
     {
         if self.failures == u64::MAX {
             return false;
         }
         self.failures += 1;
+        self.last_failure = Some(failed);
         true
     }
 
     // Counts a failed call, and reports it if the socket can't be used.
-    fn judge(&mut self, failure: Failure) -> Result<(), PortFault>
+    fn judge(&mut self, failure: Failure, failed: FailedCall) -> Result<(), PortFault>
         ensures cause { IfErr result (λ _. failure ≡ Socket) }
+        ensures remembered { IfErr result (λ _. self.new.last_failure ≡ Some failed) }
         ensures told { IfOk result (λ _. failure ≡ Socket → self.old.failures ≡ failures_max) }
         ensures reported { self.new.reported ≡ self.old.reported + reported_by result }
         ensures counted { self.old.failures ≤ self.new.failures }
         ensures fault { IfErr result (λ _. self.old.failures < self.new.failures) }
     {
-        if failure == Failure::WouldBlock || !self.count() || failure == Failure::Datagram {
+        if failure == Failure::WouldBlock || !self.count(failed) || failure == Failure::Datagram {
             return Ok(());
         }
         self.reported += 1;
@@ -236,7 +243,7 @@ impl<'r, C: Clock> UdpPorts<'r, C> {
                 if failure == Failure::WouldBlock {
                     self.asking.mark(door, false);
                 }
-                self.judge(failure)?;
+                self.judge(failure, failed_call(PortCall::Receive(door), None, error))?;
                 Ok(None)
             }
         }
@@ -248,8 +255,8 @@ impl<'r, C: Clock> UdpPorts<'r, C> {
         ensures reported { self.new.reported ≡ self.old.reported }
         ensures counted { self.old.failures ≤ self.new.failures }
     {
-        if self.poll.poll(&mut self.events, Some(longest)).is_err() {
-            self.count();
+        if let Err(error) = self.poll.poll(&mut self.events, Some(longest)) {
+            self.count(failed_call(PortCall::Wait, None, error));
             self.asking.mark(Door::Auth, true);
             self.asking.mark(Door::Acct, true);
             self.clock.sleep(longest);
@@ -306,12 +313,21 @@ impl<'r, C: Clock> Ports for UdpPorts<'r, C> {
         let to = SocketAddrV4::new(Ipv4Addr::from_bits(address), port);
         match self.socket(door).send_to(octets, SocketAddr::V4(to)) {
             Ok(_) => Ok(()),
-            Err(error) => self.judge(send_failure(&error)),
+            Err(error) => self.judge(
+                send_failure(&error),
+                failed_call(PortCall::Send(door), Some((address, port)), error),
+            ),
         }
     }
 
     fn faults(&self) -> u64 {
         self.failures
+    }
+
+    fn last_failure(&self) -> Option<FailedCall>
+        ensures { result ≡ self.now.last_failure }
+    {
+        self.last_failure
     }
 
     fn wall(&self) -> u64 {
@@ -320,6 +336,19 @@ impl<'r, C: Clock> Ports for UdpPorts<'r, C> {
 
     fn moment(&mut self) -> Option<u64> {
         Some(self.now())
+    }
+}
+
+// A call that failed with this error.
+fn failed_call(call: PortCall, destination: Option<(u32, u16)>, error: io::Error) -> FailedCall
+    ensures call { result.call ≡ call }
+    ensures destination { result.destination ≡ destination }
+    ensures number { result.number ≡ raw_os_error error }
+{
+    FailedCall {
+        call,
+        destination,
+        number: error.raw_os_error(),
     }
 }
 

@@ -3,7 +3,7 @@ use super::client::{client, gets, sends};
 use crate::tests::holds;
 use rad_auth::Door;
 use rad_serve::{BindFault, Moments, UdpPorts};
-use rad_shell::{Got, PortFault, Ports, RECEIVED_MAX};
+use rad_shell::{FailedCall, Got, PortCall, PortFault, Ports, RECEIVED_MAX};
 use std::alloc::AllocGlobal;
 use std::net::{Net, UdpSocket};
 use std::process::Abort;
@@ -231,11 +231,20 @@ fn a_long_datagram_is_cut(rt: HostRuntime) -> Result<(), Fail> {
     Ok(())
 }
 
-// The system refuses to send to port 0, where no reply can go. The ports count it, and send on.
+/// A send to port 0, which the system refuses as invalid (EINVAL).
+const LOST: FailedCall = FailedCall {
+    call: PortCall::Send(Door::Auth),
+    destination: Some((LOOPBACK, 0)),
+    number: Some(22),
+};
+
+// The system refuses to send to port 0, where no reply can go. The ports count it, remember it, and send on.
 fn loses_one<R: Abort, P: Ports>(rt: &R, ports: &mut P, client: &UdpSocket, good: u16) {
+    holds(rt, ports.last_failure().is_none(), "no failure yet");
     let sent = ports.send(Door::Auth, LOOPBACK, 0, b"lost");
     holds(rt, sent.is_ok(), "no fault");
     holds(rt, ports.faults() == 1, "a failure");
+    holds(rt, ports.last_failure() == Some(LOST), "what failed");
     let sent = ports.send(Door::Acct, LOOPBACK, good, b"found");
     holds(rt, sent.is_ok(), "no fault");
     holds(rt, gets(client, 18129, b"found", b""), "the next one");
