@@ -15,6 +15,7 @@
 struct told {
     volatile int64_t shift;         // seconds by which the time of day is wrong
     volatile int64_t receive_error; // the error of each receive, if it isn't 0
+    volatile int64_t send_error;    // the error of each send, if it isn't 0
     volatile int64_t wait_error;    // the error of each wait, if it isn't 0
     volatile int64_t receives;
     volatile int64_t waits;
@@ -56,6 +57,14 @@ ssize_t recvfrom(int file, void *room, size_t len, int flags, struct sockaddr *f
         return -1;
     }
     return syscall(SYS_recvfrom, file, room, len, flags, from, from_len);
+}
+
+ssize_t sendto(int file, const void *octets, size_t len, int flags, const struct sockaddr *to, socklen_t to_len) {
+    if (told()->send_error) {
+        errno = told()->send_error;
+        return -1;
+    }
+    return syscall(SYS_sendto, file, octets, len, flags, to, to_len);
 }
 
 int epoll_wait(int file, struct epoll_event *events, int most, int milliseconds) {

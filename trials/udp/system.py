@@ -10,7 +10,7 @@ from serving import compiled, path
 class System:
     """What `system.c` reads and counts."""
 
-    FIELDS = ("shift", "receive_error", "wait_error", "receives", "waits", "moments", "pace", "passed")
+    FIELDS = ("shift", "receive_error", "send_error", "wait_error", "receives", "waits", "moments", "pace", "passed")
 
     def __init__(self):
         library = compiled("system.c", "-shared", "-fPIC")

@@ -1,4 +1,5 @@
 pub mod Failures
 pub mod Asking
 pub mod Calls
+pub mod Excesses
 pub mod Lives

@@ -27,7 +27,7 @@ pub struct Given {
 impl Given {
     /// Reads the configuration and the seed.
     ///
-    /// `ConfigUnreadable`, `Users`, `Config`, `SeedUnreadable`, in this order: one of them can't be read, or has a fault.
+    /// `Unreadable`, `Users`, `Config`: the configuration can't be read, or has a fault; then `Unreadable`: the seed can't be read.
     pub fn read<R: Files + Eprint + AllocGlobal>(
         rt: &R,
         options: &Options,
@@ -35,7 +35,7 @@ impl Given {
         let source = open_source(rt, &options.config)?;
         let config = match read_configuration(rt.alloc(), &source.text) {
             Ok(config) => config,
-            Err(fault) => return Err(GivenFault::from(source.into_fault(rt.alloc(), fault))),
+            Err(fault) => return Err(GivenFault::of_source(rt.alloc(), source, fault)),
         };
         let mut warnings = String::new(rt.alloc());
         if options.reports.log.is_some() {
@@ -53,9 +53,9 @@ impl Given {
                 seed,
                 warnings,
             }),
-            Err(error) => {
+            Err(fault) => {
                 let _ = eprint!(rt; "{warnings}");
-                Err(GivenFault::Serve(error))
+                Err(fault)
             }
         }
     }

@@ -11,7 +11,9 @@
 
 mod asking;
 mod calls;
+mod cause;
 mod closing;
+mod excess;
 mod failure;
 mod given;
 mod given_fault;
@@ -21,6 +23,7 @@ mod life;
 mod listening;
 mod lives;
 mod moments;
+mod noting_reader;
 mod options;
 mod previewing;
 mod progress;
@@ -33,10 +36,13 @@ mod serving;
 mod told_generations;
 mod told_journal;
 mod udp_ports;
+mod unreadable;
 mod warner;
 mod writer;
 
+pub use cause::{BrokenPort, Unbound};
 pub use closing::close_state;
+pub use excess::{Excess, excess_of};
 pub use failure::{Failure, receive_failure, send_failure};
 pub use given::Given;
 pub use given_fault::GivenFault;
@@ -50,3 +56,4 @@ pub use rad_watch::Level;
 pub use serve_error::ServeError;
 pub use serving::{serve, serve_with_state};
 pub use udp_ports::{BindFault, UdpPorts};
+pub use unreadable::{FileFault, GivenFile, Unreadable};

@@ -1,5 +1,6 @@
 //! Why serving ended early, or never began.
 
+use crate::cause::{BrokenPort, Unbound};
 use crate::held::HeldFault;
 use crate::udp_ports::BindFault;
 use rad_config::ConfigFault;
@@ -11,17 +12,8 @@ use thiserror::Error;
 
 /// Why `serve` ended before its last round. Those before `Rounds` are reported before anything is served, and in this order, but that refused
 /// memory is reported where it happens.
-#[derive(Clone, Copy, Debug, PartialEq, Eq, Error)]
+#[derive(Clone, Copy, Debug, Error)]
 pub enum ServeError {
-    /// The configuration can't be read, or has more than 16,777,216 octets.
-    #[error("config unreadable")]
-    ConfigUnreadable,
-    /// The configuration has a fault.
-    #[error(transparent)]
-    Config(ConfigFault),
-    /// The seed can't be read, or doesn't have exactly 32 octets.
-    #[error("seed unreadable")]
-    SeedUnreadable,
     /// Memory was refused before the first turn.
     #[error("out of memory")]
     NoMemory,
@@ -39,19 +31,13 @@ pub enum ServeError {
     Restore(RestoreFault),
     /// A port can't be bound.
     #[error("bind failed")]
-    Bind,
+    Bind(Unbound),
     /// The sockets that the process was given can't be served.
     #[error(transparent)]
     Held(HeldFault),
-    /// The rounds ended with a fault.
-    #[error(transparent)]
-    Rounds(ServeFault),
-}
-
-impl From<ConfigFault> for ServeError {
-    fn from(fault: ConfigFault) -> ServeError {
-        ServeError::Config(fault)
-    }
+    /// The rounds ended with a fault. If a port failed, which one and why.
+    #[error("{0}")]
+    Rounds(ServeFault, Option<BrokenPort>),
 }
 
 impl From<AllocError> for ServeError {
@@ -76,14 +62,8 @@ impl From<BindFault> for ServeError {
     fn from(fault: BindFault) -> ServeError {
         match fault {
             BindFault::NoMemory => ServeError::NoMemory,
-            BindFault::Bind => ServeError::Bind,
+            BindFault::Bind(unbound) => ServeError::Bind(unbound),
             BindFault::Held(fault) => ServeError::Held(fault),
         }
-    }
-}
-
-impl From<ServeFault> for ServeError {
-    fn from(fault: ServeFault) -> ServeError {
-        ServeError::Rounds(fault)
     }
 }

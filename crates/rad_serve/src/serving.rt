@@ -2,6 +2,7 @@
 ghost use Rattle.std.specs.Prelude.{◌<◌, ℕ};
 
 use crate::calls::make_calls;
+use crate::cause::BrokenPort;
 use crate::given::Given;
 use crate::life::{Configured, Life, Numbered, first, in_memory, newest_whole, over};
 use crate::listening::{listen, try_ports};
@@ -16,7 +17,7 @@ use crate::writer::{Text, Writing, write_files, write_lines};
 use crossbeam_channel::{Receiver, Sender, bounded};
 use rad_check::push_warning;
 use rad_journal::Journal;
-use rad_shell::{Gate, OpenGate, Ports, Service, Turns, Unwatched, Watch};
+use rad_shell::{Gate, OpenGate, Ports, ServeFault, Service, Turns, Unwatched, Watch};
 use rad_state::{Folder, Generations, Keeping, State};
 use rad_text::lines::divide;
 use rad_watch::Watcher;
@@ -456,7 +457,19 @@ fn serve_turns<
     ports: &mut P,
     keeping: &mut Keeping<K, J>,
 ) -> Result<(), ServeError> {
-    let served = make_calls(rt, options, service, turns, ports, keeping)?;
-    let _ = println!(rt; "{served}");
-    Ok(())
+    match make_calls(rt, options, service, turns, ports, keeping) {
+        Ok(served) => {
+            let _ = println!(rt; "{served}");
+            Ok(())
+        }
+        Err(fault) => Err(ServeError::Rounds(fault, broken_port(fault, ports))),
+    }
+}
+
+// The port that failed, if that is the fault.
+fn broken_port<P: Ports>(fault: ServeFault, ports: &P) -> Option<BrokenPort> {
+    match fault {
+        ServeFault::Receive | ServeFault::Send => ports.last_failure().map(BrokenPort),
+        ServeFault::Mismatch | ServeFault::Journal(_) => None,
+    }
 }

@@ -9,6 +9,7 @@ ghost use Rattle.rad_shell.specs.Passages.{reported_by};
 ghost use Rattle.rad_shell.specs.Serving.{IsReceived};
 
 use crate::asking::Asking;
+use crate::cause::Unbound;
 use crate::failure::{Failure, receive_failure, send_failure};
 use crate::held::{ACCT_DESCRIPTOR, AUTH_DESCRIPTOR, Expected, HeldFault, take_socket};
 use crate::moments::{Moments, wall};
@@ -34,14 +35,14 @@ const ACCT: Token = Token(1);
 const WAIT_SECONDS: u64 = 1;
 
 /// Why there are no ports.
-#[derive(Clone, Copy, Debug, PartialEq, Eq, Error)]
+#[derive(Clone, Copy, Debug, Error)]
 pub enum BindFault {
     /// Memory was refused.
     #[error("out of memory")]
     NoMemory,
     /// A socket can't be made or bound: the port is taken or not allowed, or the address isn't this machine's.
     #[error("bind failed")]
-    Bind,
+    Bind(Unbound),
     /// Sockets that the process was given can't be served.
     #[error(transparent)]
     Held(HeldFault),
@@ -60,8 +61,8 @@ impl From<HeldFault> for BindFault {
 }
 
 impl From<io::Error> for BindFault {
-    fn from(_error: io::Error) -> BindFault {
-        BindFault::Bind
+    fn from(error: io::Error) -> BindFault {
+        BindFault::Bind(Unbound { at: None, error })
     }
 }
 
@@ -352,16 +353,31 @@ fn failed_call(call: PortCall, destination: Option<(u32, u16)>, error: io::Error
     }
 }
 
-// A bound socket, of whose datagrams the poll tells, and its port.
+// A socket that is bound to an address and a port, of whose datagrams the poll tells, and its port.
 fn bind_socket<R: Net>(
     rt: &R,
     poll: &Poll,
     token: Token,
     address: u32,
     port: u16,
+) -> Result<(UdpSocket, u16), BindFault> {
+    let to = SocketAddrV4::new(Ipv4Addr::from_bits(address), port);
+    match bound_socket(rt, poll, token, to) {
+        Ok(bound) => Ok(bound),
+        Err(error) => Err(BindFault::Bind(Unbound {
+            at: Some((address, port)),
+            error,
+        })),
+    }
+}
+
+fn bound_socket<R: Net>(
+    rt: &R,
+    poll: &Poll,
+    token: Token,
+    to: SocketAddrV4,
 ) -> io::Result<(UdpSocket, u16)> {
-    let address = SocketAddrV4::new(Ipv4Addr::from_bits(address), port);
-    let mut socket = UdpSocket::bind(rt, SocketAddr::V4(address))?;
+    let mut socket = UdpSocket::bind(rt, SocketAddr::V4(to))?;
     poll.registry()
         .register(&mut socket, token, Interest::READABLE)?;
     ask_for_room(&socket);

@@ -5,9 +5,9 @@ use crate::options::{Absent, TEXT, Valued, text_of, with_options};
 use crate::state_copies::StateCopies;
 use crate::state_files::seed;
 use clap::{Arg, ArgMatches, Command};
-use rad_check::warn;
-use rad_config::{Config, read_configuration};
-use rad_serve::{open_source, preview};
+use rad_check::{Source, SourceFault, warn};
+use rad_config::{Config, ConfigFault, read_configuration};
+use rad_serve::{excess_of, open_source, preview};
 use std::alloc::{AllocError, AllocGlobal, Global};
 use std::fmt;
 use std::process::ExitCode;
@@ -86,7 +86,7 @@ fn try_check<R: Files + Print + Eprint + AllocGlobal>(
     let source = open_source(rt, path)?;
     let config = match read_configuration(rt.alloc(), &source.text) {
         Ok(config) => config,
-        Err(fault) => return Err(Fault::from(source.into_fault(rt.alloc(), fault))),
+        Err(fault) => return Err(fault_of(rt.alloc(), source, fault)),
     };
     let mut warnings = String::new(rt.alloc());
     warn(&mut warnings, rt, path, &source, &config);
@@ -95,6 +95,19 @@ fn try_check<R: Files + Print + Eprint + AllocGlobal>(
     match &checking.state {
         Some(folder) => print_preview(rt, host, folder, &config),
         None => Ok(()),
+    }
+}
+
+// The fault of a configuration, in one of its files, with what more there is to say.
+fn fault_of(alloc: Global, source: Source, fault: ConfigFault) -> Fault {
+    let excess = excess_of(alloc, &source.text, fault);
+    match source.into_fault(alloc, fault) {
+        SourceFault::Own(fault, detail) => Fault::Config {
+            fault,
+            detail,
+            excess,
+        },
+        SourceFault::Users { name, fault } => Fault::Users { path: name, fault },
     }
 }
 

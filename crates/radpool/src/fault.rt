@@ -2,16 +2,17 @@
 
 use clap::Command;
 use clap::error::ErrorKind;
-use rad_check::{Detail, SourceFault, UsersFault};
+use rad_check::{Detail, UsersFault};
 use rad_config::ConfigFault;
 use rad_journal::{JournalFault, RestoreFault};
 use rad_replay::RunFault;
-use rad_serve::{GivenFault, HeldFault, ServeError};
+use rad_serve::{Excess, GivenFault, HeldFault, ServeError, Unreadable};
 use rad_shell::ServeFault;
 use rad_state::OpenFault;
 use sqlite_disk::is_no_room;
 use sqlite_std_file::OpenError;
 use std::alloc::AllocError;
+use std::fmt::Display;
 use std::fs::TryLockError;
 use std::process::ExitCode;
 use std::{fmt, io};
@@ -31,14 +32,20 @@ pub enum Fault {
     Run(RunFault),
     /// Serving came to its fault.
     Serve(ServeError),
+    /// A file that is to be served or checked can't be read. Why is a line of its own.
+    Unreadable(Unreadable),
     /// A command came to its fault at this file or folder of a state. What may be done is a line of its own.
     State {
         path: String,
         fault: StateFault,
         advice: Option<String>,
     },
-    /// The configuration to check has a fault.
-    Config(ConfigFault, Detail),
+    /// The configuration has a fault. How many entries there are where there are too many is a line of its own.
+    Config {
+        fault: ConfigFault,
+        detail: Detail,
+        excess: Option<Excess>,
+    },
     /// The file of users at this path has a fault.
     Users {
         path: String,
@@ -76,7 +83,7 @@ impl StateFault {
                 ServeError::State(_)
                 | ServeError::OtherConfig(_)
                 | ServeError::Restore(_)
-                | ServeError::Rounds(ServeFault::Journal(_)),
+                | ServeError::Rounds(ServeFault::Journal(_), _),
             )
             | StateFault::Files(_)
             | StateFault::StrayLog
@@ -199,17 +206,14 @@ impl From<ServeError> for Fault {
 impl From<GivenFault> for Fault {
     fn from(fault: GivenFault) -> Fault {
         match fault {
-            GivenFault::Serve(error) => Fault::Serve(error),
+            GivenFault::NoMemory => Fault::Run(RunFault::NoMemory),
+            GivenFault::Unreadable(unreadable) => Fault::Unreadable(unreadable),
+            GivenFault::Config(fault, excess) => Fault::Config {
+                fault,
+                detail: Detail::Nothing,
+                excess,
+            },
             GivenFault::Users { path, fault } => Fault::Users { path, fault },
-        }
-    }
-}
-
-impl From<SourceFault> for Fault {
-    fn from(fault: SourceFault) -> Fault {
-        match fault {
-            SourceFault::Own(fault, detail) => Fault::Config(fault, detail),
-            SourceFault::Users { name, fault } => Fault::Users { path: name, fault },
         }
     }
 }
@@ -249,36 +253,55 @@ pub fn report<R: Eprint>(rt: &R, fault: Fault) -> ExitCode {
     match fault {
         Fault::CommandLine(error) => {
             let _ = rt.eprint(&error);
-            ExitCode::from(COMMAND_FAULT)
+            return ExitCode::from(COMMAND_FAULT);
         }
-        Fault::Run(fault) => {
-            let _ = eprintln!(rt; "radpool: {fault}");
-            ExitCode::from(RUN_FAULT)
-        }
-        Fault::Serve(fault) => {
-            let _ = eprintln!(rt; "radpool: {fault}");
-            ExitCode::from(RUN_FAULT)
+        Fault::Run(fault) => say(rt, fault),
+        Fault::Serve(fault) => report_serving(rt, fault),
+        Fault::Unreadable(unreadable) => {
+            say(rt, &unreadable);
+            say(rt, format_args!("{}: {}", unreadable.path, unreadable.why));
         }
         Fault::State {
             path,
             fault,
             advice,
         } => {
-            let _ = eprintln!(rt; "radpool: {path}: {fault}");
-            if let Some(advice) = advice {
-                let _ = eprintln!(rt; "radpool: {advice}");
-            }
-            ExitCode::from(RUN_FAULT)
+            say(rt, format_args!("{path}: {fault}"));
+            say_if(rt, advice);
         }
-        Fault::Config(fault, detail) => {
-            let _ = eprintln!(rt; "radpool: {fault}{detail}");
-            ExitCode::from(RUN_FAULT)
+        Fault::Config {
+            fault,
+            detail,
+            excess,
+        } => {
+            say(rt, format_args!("{fault}{detail}"));
+            say_if(rt, excess);
         }
-        Fault::Users { path, fault } => {
-            let _ = eprintln!(rt; "radpool: {path}: {fault}");
-            ExitCode::from(RUN_FAULT)
-        }
+        Fault::Users { path, fault } => say(rt, format_args!("{path}: {fault}")),
     }
+    ExitCode::from(RUN_FAULT)
+}
+
+// Prints why serving ended, and on a line of its own what the system said.
+fn report_serving<R: Eprint>(rt: &R, error: ServeError) {
+    say(rt, error);
+    match error {
+        ServeError::Bind(unbound) => say(rt, unbound),
+        ServeError::Rounds(_, broken) => say_if(rt, broken),
+        _ => {}
+    }
+}
+
+// Prints a line, if there is one.
+fn say_if<R: Eprint, D: Display + Drop>(rt: &R, line: Option<D>) {
+    if let Some(line) = line {
+        say(rt, line);
+    }
+}
+
+// Prints a line on standard error. Nobody has to read it.
+fn say<R: Eprint, D: Display + Drop>(rt: &R, line: D) {
+    let _ = eprintln!(rt; "radpool: {line}");
 }
 
 /// A fault of an option that doesn't fit, reported as clap reports those that it finds. The report has this name for the command.

@@ -2,7 +2,7 @@ use super::LOOPBACK;
 use super::client::{client, gets, sends};
 use crate::tests::holds;
 use rad_auth::Door;
-use rad_serve::{BindFault, Moments, UdpPorts};
+use rad_serve::{BindFault, Moments, UdpPorts, Unbound};
 use rad_shell::{FailedCall, Got, PortCall, PortFault, Ports, RECEIVED_MAX};
 use std::alloc::AllocGlobal;
 use std::net::{Net, UdpSocket};
@@ -262,25 +262,33 @@ fn a_datagram_from_port_0_is_lost(rt: HostRuntime) -> Result<(), Fail> {
 // TEST-NET-1, RFC 5737: no machine has it.
 const NOBODYS: u32 = 0xC000_0201;
 
-const UNBOUND: &[(u32, u16, u16, &str)] = &[
-    (LOOPBACK, 18132, 18134, "the first is taken"),
-    (LOOPBACK, 18134, 18133, "the second is taken"),
-    (LOOPBACK, 18134, 18134, "one port twice"),
-    (NOBODYS, 18134, 18135, "another machine's"),
+/// Address and ports, the port that can't be bound, and the number of the system's reason: EADDRINUSE or EADDRNOTAVAIL.
+const UNBOUND: &[(u32, u16, u16, u16, i32, &str)] = &[
+    (LOOPBACK, 18132, 18134, 18132, 98, "the first is taken"),
+    (LOOPBACK, 18134, 18133, 18133, 98, "the second is taken"),
+    (LOOPBACK, 18134, 18134, 18134, 98, "one port twice"),
+    (NOBODYS, 18134, 18135, 18134, 99, "another machine's"),
 ];
 
-fn is_not_bound<R: Net + Clock + AllocGlobal>(rt: &R, address: u32, auth: u16, acct: u16) -> bool {
+// Which address and port can't be bound, and why.
+fn unbound<R: Net + Clock + AllocGlobal>(
+    rt: &R,
+    address: u32,
+    auth: u16,
+    acct: u16,
+) -> Option<((u32, u16), i32)> {
     match UdpPorts::bind(rt, address, auth, acct) {
-        Ok(_) => false,
-        Err(fault) => fault == BindFault::Bind,
+        Err(BindFault::Bind(Unbound { at, error })) => Some((at?, error.raw_os_error()?)),
+        _ => None,
     }
 }
 
 #[test]
 fn ports_that_cannot_be_bound(rt: HostRuntime) -> Result<(), Fail> {
     let _taken = UdpPorts::bind(&rt, LOOPBACK, 18132, 18133)?;
-    for (address, auth, acct, what) in UNBOUND.iter() {
-        holds(&rt, is_not_bound(&rt, *address, *auth, *acct), what);
+    for (address, auth, acct, port, number, what) in UNBOUND.iter() {
+        let found = unbound(&rt, *address, *auth, *acct);
+        holds(&rt, found == Some(((*address, *port), *number)), what);
     }
     Ok(())
 }

@@ -2,13 +2,14 @@ use super::LOOPBACK;
 use super::client::CONFIGURATION;
 use super::shelf::Shelf;
 use crate::tests::holds;
-use rad_config::ConfigFault;
+use rad_auth::Door;
+use rad_config::{ConfigFault, Part};
 use rad_journal::RestoreFault;
 use rad_serve::{
-    Given, GivenFault, HeldFault, Options, Reports, ServeError, Sockets, UdpPorts, Workers, serve,
-    serve_with_state,
+    BrokenPort, Excess, Given, GivenFault, HeldFault, Options, Reports, ServeError, Sockets,
+    UdpPorts, Workers, excess_of, serve, serve_with_state,
 };
-use rad_shell::{JournalFault, ServeFault};
+use rad_shell::{FailedCall, JournalFault, PortCall, ServeFault};
 use rad_state::OpenFault;
 use std::alloc::{AllocGlobal, Global};
 use std::net::Net;
@@ -71,49 +72,114 @@ const UNREPORTED: Reports = Reports {
     record: None,
 };
 
-// How one turn of serving ends with these files, on these ports.
-fn served<R: Files + Net + Clock + Print + Eprint + Threads + Wait + Sync + AllocGlobal>(
+// How one turn of serving ends with these files, on these ports: the lines of its fault, or none.
+fn ended<R: Files + Net + Clock + Print + Eprint + Threads + Wait + Sync + AllocGlobal>(
     rt: &R,
     config: &str,
     seed: &str,
     auth: u16,
-) -> Option<Result<(), ServeError>> {
+) -> Option<String> {
     let options = options(rt.alloc(), config, seed, auth)?;
     match Given::read(rt, &options) {
-        Ok(given) => Some(serve(rt, &options, given)),
-        Err(GivenFault::Serve(error)) => Some(Err(error)),
-        Err(GivenFault::Users { .. }) => None,
+        Ok(given) => match serve(rt, &options, given) {
+            Ok(()) => Some(String::new(rt.alloc())),
+            Err(error) => lines_of_error(rt.alloc(), error),
+        },
+        Err(fault) => lines_of_given(rt.alloc(), &fault),
     }
 }
 
-/// Files, ports, and how serving ends: the configuration's fault comes first, then the seed's, and then that of the ports.
-type Row = (&'static str, &'static str, u16, Result<(), ServeError>);
+fn lines_of_given(alloc: Global, fault: &GivenFault) -> Option<String> {
+    match fault {
+        GivenFault::Unreadable(file) => {
+            format!(in alloc; "{file}\n{}: {}", file.path, file.why).ok()
+        }
+        GivenFault::Config(fault, None) => fault.to_string(alloc).ok(),
+        _ => None,
+    }
+}
+
+fn lines_of_error(alloc: Global, error: ServeError) -> Option<String> {
+    match error {
+        ServeError::Bind(unbound) => format!(in alloc; "{error}\n{unbound}").ok(),
+        ServeError::Rounds(fault, Some(broken)) => format!(in alloc; "{fault}\n{broken}").ok(),
+        _ => error.to_string(alloc).ok(),
+    }
+}
+
+/// Files, ports, and the lines with which serving ends: the configuration's fault comes first, then the seed's, and then that of the ports.
+type Row = (&'static str, &'static str, u16, &'static str);
 
 const ROWS: &[Row] = &[
-    (MISSING, MISSING, TAKEN, Err(ServeError::ConfigUnreadable)),
-    ("/", MISSING, TAKEN, Err(ServeError::ConfigUnreadable)),
-    (ENDLESS, MISSING, TAKEN, Err(ServeError::ConfigUnreadable)),
     (
-        NO_TOML,
+        MISSING,
         MISSING,
         TAKEN,
-        Err(ServeError::Config(ConfigFault::Syntax)),
+        "config unreadable\n/dev/null/missing: Not a directory (os error 20)",
     ),
-    (CONFIG, MISSING, TAKEN, Err(ServeError::SeedUnreadable)),
-    (CONFIG, "/", TAKEN, Err(ServeError::SeedUnreadable)),
-    (CONFIG, ENDLESS, TAKEN, Err(ServeError::SeedUnreadable)),
-    (CONFIG, "/dev/null", TAKEN, Err(ServeError::SeedUnreadable)),
-    (CONFIG, SHORT_SEED, TAKEN, Err(ServeError::SeedUnreadable)),
-    (CONFIG, LONG_SEED, TAKEN, Err(ServeError::SeedUnreadable)),
-    (CONFIG, SEED, TAKEN, Err(ServeError::Bind)),
-    (CONFIG, SEED, FREE, Ok(())),
+    (
+        "/",
+        MISSING,
+        TAKEN,
+        "config unreadable\n/: Is a directory (os error 21)",
+    ),
+    (
+        ENDLESS,
+        MISSING,
+        TAKEN,
+        "config unreadable\n/dev/zero: it has more than 16777216 octets",
+    ),
+    (NO_TOML, MISSING, TAKEN, "config fault 1 Syntax"),
+    (
+        CONFIG,
+        MISSING,
+        TAKEN,
+        "seed unreadable\n/dev/null/missing: Not a directory (os error 20)",
+    ),
+    (
+        CONFIG,
+        "/",
+        TAKEN,
+        "seed unreadable\n/: Is a directory (os error 21)",
+    ),
+    (
+        CONFIG,
+        ENDLESS,
+        TAKEN,
+        "seed unreadable\n/dev/zero: its size is not 32 octets but more",
+    ),
+    (
+        CONFIG,
+        "/dev/null",
+        TAKEN,
+        "seed unreadable\n/dev/null: its size is not 32 octets but 0",
+    ),
+    (
+        CONFIG,
+        SHORT_SEED,
+        TAKEN,
+        "seed unreadable\n/tmp/test_serve.short: its size is not 32 octets but 31",
+    ),
+    (
+        CONFIG,
+        LONG_SEED,
+        TAKEN,
+        "seed unreadable\n/tmp/test_serve.long: its size is not 32 octets but 99",
+    ),
+    (
+        CONFIG,
+        SEED,
+        TAKEN,
+        "bind failed\n127.0.0.1:18136: Address already in use (os error 98)",
+    ),
+    (CONFIG, SEED, FREE, ""),
 ];
 
 fn write_files<R: Files>(rt: &R) -> io::Result<()> {
     fs::write(rt, CONFIG, CONFIGURATION)?;
     fs::write(rt, SEED, &[1u8; 32])?;
     fs::write(rt, SHORT_SEED, &[1u8; 31])?;
-    fs::write(rt, LONG_SEED, &[1u8; 33])
+    fs::write(rt, LONG_SEED, &[1u8; 99])
 }
 
 fn remove_files<R: Files>(rt: &R) -> io::Result<()> {
@@ -128,8 +194,8 @@ fn ends_so<R: Files + Net + Clock + Print + Eprint + Threads + Wait + Sync + All
     row: &Row,
 ) -> bool {
     let (config, seed, auth, wanted) = *row;
-    match served(rt, config, seed, auth) {
-        Some(ended) => ended == wanted,
+    match ended(rt, config, seed, auth) {
+        Some(lines) => lines.as_str() == wanted,
         None => false,
     }
 }
@@ -139,47 +205,57 @@ fn faults_in_their_order(rt: HostRuntime) -> Result<(), Fail> {
     write_files(&rt)?;
     let _taken = UdpPorts::bind(&rt, LOOPBACK, TAKEN, TAKEN + 1)?;
     for row in ROWS.iter() {
-        holds(&rt, ends_so(&rt, row), row.1);
+        holds(&rt, ends_so(&rt, row), row.3);
     }
     remove_files(&rt)?;
     Ok(())
 }
 
-// How one turn of serving ends over a new folder whose files fail after so many calls each.
-fn served_over<R: Files + Net + Clock + Print + Eprint + Threads + Wait + Sync + AllocGlobal>(
+// How one turn of serving ends over a new folder whose files fail after so many calls each: the lines of its fault, or none.
+fn ended_over<R: Files + Net + Clock + Print + Eprint + Threads + Wait + Sync + AllocGlobal>(
     rt: &R,
     calls: u64,
-) -> Option<Result<(), ServeError>> {
+) -> Option<String> {
     let options = options(rt.alloc(), STATE_CONFIG, STATE_SEED, STATE_FREE)?;
     let given = Given::read(rt, &options).ok()?;
-    Some(serve_with_state(rt, &options, given, Shelf::new(calls), 2))
+    match serve_with_state(rt, &options, given, Shelf::new(calls), 2) {
+        Ok(()) => Some(String::new(rt.alloc())),
+        Err(error) => lines_of_error(rt.alloc(), error),
+    }
+}
+
+/// After how many calls its files fail, and the lines with which serving ends.
+const OVER: &[(u64, &str)] = &[(0, "the disk failed"), (9, "the disk failed"), (1000, "")];
+
+fn ends_so_over<R: Files + Net + Clock + Print + Eprint + Threads + Wait + Sync + AllocGlobal>(
+    rt: &R,
+    calls: u64,
+    wanted: &str,
+) -> bool {
+    match ended_over(rt, calls) {
+        Some(lines) => lines.as_str() == wanted,
+        None => false,
+    }
 }
 
 #[test]
 fn a_state_is_begun_or_its_disk_fails(rt: HostRuntime) -> Result<(), Fail> {
     fs::write(&rt, STATE_CONFIG, CONFIGURATION)?;
     fs::write(&rt, STATE_SEED, &[1u8; 32])?;
-    let failed = Err(ServeError::State(OpenFault::Disk));
-    holds(&rt, served_over(&rt, 0) == Some(failed), "no call");
-    holds(&rt, served_over(&rt, 9) == Some(failed), "nine calls");
-    holds(&rt, served_over(&rt, 1000) == Some(Ok(())), "begun");
+    for (calls, wanted) in OVER.iter() {
+        holds(&rt, ends_so_over(&rt, *calls, wanted), "begun, or failed");
+    }
     fs::remove_file(&rt, STATE_CONFIG)?;
     fs::remove_file(&rt, STATE_SEED)?;
     Ok(())
 }
 
 fn says(rt: &impl Abort, alloc: Global, error: ServeError, text: &str) {
-    let said = error.to_string(alloc).unwrap_or(String::new(alloc));
+    let said = lines_of_error(alloc, error).unwrap_or(String::new(alloc));
     holds(rt, said.as_str() == text, text);
 }
 
 const TEXTS: &[(ServeError, &str)] = &[
-    (ServeError::ConfigUnreadable, "config unreadable"),
-    (
-        ServeError::Config(ConfigFault::HoldBelowWindow),
-        "config fault 4 HoldBelowWindow",
-    ),
-    (ServeError::SeedUnreadable, "seed unreadable"),
     (ServeError::NoMemory, "out of memory"),
     (
         ServeError::State(OpenFault::InUse),
@@ -197,25 +273,75 @@ const TEXTS: &[(ServeError, &str)] = &[
         ServeError::Clocks,
         "the boot's id or its clock can't be read",
     ),
-    (ServeError::Bind, "bind failed"),
     (
         ServeError::Held(HeldFault::NoUdp(3)),
         "descriptor 3 is no UDP socket with an IPv4 address and a port",
     ),
-    (ServeError::Rounds(ServeFault::Receive), "receive failed"),
-    (ServeError::Rounds(ServeFault::Send), "send failed"),
-    (ServeError::Rounds(ServeFault::Mismatch), "mismatch"),
     (
-        ServeError::Rounds(ServeFault::Journal(JournalFault::Disk)),
+        ServeError::Rounds(ServeFault::Receive, Some(BrokenPort(RECEIVE))),
+        "receive failed\nauthentication port: Operation not permitted (os error 1)",
+    ),
+    (
+        ServeError::Rounds(ServeFault::Send, Some(BrokenPort(SEND))),
+        "send failed\naccounting port to 192.0.2.1:3799: Bad file descriptor (os error 9)",
+    ),
+    (
+        ServeError::Rounds(ServeFault::Send, Some(BrokenPort(STRANGE))),
+        "send failed\nauthentication port to 127.0.0.1:1024: the system gives no reason",
+    ),
+    (ServeError::Rounds(ServeFault::Mismatch, None), "mismatch"),
+    (
+        ServeError::Rounds(ServeFault::Journal(JournalFault::Disk), None),
         "the disk failed",
     ),
 ];
+
+const RECEIVE: FailedCall = FailedCall {
+    call: PortCall::Receive(Door::Auth),
+    destination: None,
+    number: Some(1),
+};
+
+const SEND: FailedCall = FailedCall {
+    call: PortCall::Send(Door::Acct),
+    destination: Some((0xC000_0201, 3799)),
+    number: Some(9),
+};
+
+const STRANGE: FailedCall = FailedCall {
+    call: PortCall::Send(Door::Auth),
+    destination: Some((LOOPBACK, 1024)),
+    number: None,
+};
 
 #[test]
 fn texts(rt: HostRuntime) {
     for (error, text) in TEXTS.iter() {
         says(&rt, rt.alloc(), *error, text);
     }
+}
+
+/// 17 pools.
+const POOLS: &[u8] = b"pool = [{},{},{},{},{},{},{},{},{},{},{},{},{},{},{},{},{}]";
+
+#[test]
+fn entries_that_are_too_many(rt: HostRuntime) {
+    let alloc = rt.alloc();
+    let excess = Excess {
+        part: Part::Pool,
+        count: 17,
+        most: 16,
+    };
+    let found = excess_of(alloc, POOLS, ConfigFault::TooMany(Part::Pool));
+    holds(&rt, found == Some(excess), "17 pools");
+    let other = excess_of(alloc, POOLS, ConfigFault::Syntax);
+    holds(&rt, other.is_none(), "another fault");
+    let said = excess.to_string(alloc).unwrap_or(String::new(alloc));
+    holds(
+        &rt,
+        said.as_str() == "17 pools, and at most 16 are allowed",
+        "its text",
+    );
 }
 
 #[test]
