@@ -5,6 +5,7 @@ use crate::progress::Progress;
 use crate::recording::Recording;
 use crate::warner::Warner;
 use crossbeam_channel::{Receiver, Sender};
+use rad_check::push_warning;
 use rad_config::Config;
 use rad_watch::Roster;
 use std::alloc::AllocGlobal;
@@ -50,17 +51,30 @@ pub(crate) struct Writing<'w, 'c> {
     pub progress: &'w Progress,
 }
 
-/// Writes lines to standard error until nobody hands over any more.
-pub(crate) fn write_lines<R: Eprint + Wait>(
+/// Writes lines to standard error until nobody hands over any more. Where some couldn't be written, a line before the next says so.
+pub(crate) fn write_lines<R: Eprint + Wait + AllocGlobal>(
     rt: &R,
     texts: &Receiver<Vec<u8>>,
     progress: &Progress,
 ) {
+    let mut has_gap = false;
     for lines in texts.iter(rt) {
+        has_gap = has_gap && !print_gap(rt);
         if !print(rt, &lines) {
+            has_gap = true;
             progress.count_unwritten();
         }
     }
+}
+
+// Prints that lines are missing, the last of which may be cut off. Whether it could.
+fn print_gap<R: Eprint + AllocGlobal>(rt: &R) -> bool {
+    let mut line = String::new(rt.alloc());
+    push_warning(
+        &mut line,
+        "writes to standard error again: lines before this one are missing",
+    );
+    !line.is_empty() && print(rt, b"\n") && print(rt, line.as_bytes())
 }
 
 // Whether these lines were printed.
@@ -98,7 +112,7 @@ pub(crate) fn write_files<R: Files + Wait + AllocGlobal>(
 struct Replaced<'w> {
     path: Option<&'w String>,
     mode: u32,
-    // Whether it was told that it can't be written.
+    // Whether it was told that it can't be written, and not yet that it can again.
     is_told: bool,
 }
 
@@ -111,17 +125,22 @@ impl<'w> Replaced<'w> {
         }
     }
 
-    // Puts a text in its place. That this can't be done is counted, and told once.
+    // Puts a text in its place. That this can't be done is counted, and told once; so is that it can be done again.
     fn replace<R: Files + Wait + AllocGlobal>(&mut self, rt: &R, text: &[u8], warner: &Warner) {
         let Some(path) = self.path else {
             return;
         };
-        let Err(error) = write_by_rename(rt, path, self.mode, text) else {
-            return;
-        };
-        warner.progress.count_unwritten();
-        if !self.is_told {
-            self.is_told = warner.warn(rt, format_args!("cannot write {path}: {error}"));
+        match write_by_rename(rt, path, self.mode, text) {
+            Ok(()) if self.is_told => {
+                self.is_told = !warner.warn(rt, format_args!("writes to {path} again"));
+            }
+            Ok(()) => {}
+            Err(error) => {
+                warner.progress.count_unwritten();
+                if !self.is_told {
+                    self.is_told = warner.warn(rt, format_args!("cannot write {path}: {error}"));
+                }
+            }
         }
     }
 }
