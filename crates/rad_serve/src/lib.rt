@@ -11,7 +11,6 @@
 
 mod asking;
 mod calls;
-mod cause;
 mod closing;
 mod excess;
 mod failure;
@@ -36,11 +35,11 @@ mod serving;
 mod told_generations;
 mod told_journal;
 mod udp_ports;
+mod unbound;
 mod unreadable;
 mod warner;
 mod writer;
 
-pub use cause::{BrokenPort, Unbound};
 pub use closing::close_state;
 pub use excess::{Excess, excess_of};
 pub use failure::{Failure, receive_failure, send_failure};
@@ -52,8 +51,9 @@ pub use lives::{Lives, live, lives_are_one_run, nothing_is_one_run};
 pub use moments::Moments;
 pub use options::{Options, Reports, Sockets, Workers};
 pub use previewing::preview;
-pub use rad_watch::Level;
+pub use rad_watch::{FailedPort, Level};
 pub use serve_error::ServeError;
 pub use serving::{serve, serve_with_state};
 pub use udp_ports::{BindFault, UdpPorts};
+pub use unbound::Unbound;
 pub use unreadable::{FileFault, GivenFile, Unreadable};

@@ -1,12 +1,13 @@
 //! Why serving ended early, or never began.
 
-use crate::cause::{BrokenPort, Unbound};
 use crate::held::HeldFault;
 use crate::udp_ports::BindFault;
+use crate::unbound::Unbound;
 use rad_config::ConfigFault;
 use rad_journal::RestoreFault;
 use rad_shell::ServeFault;
 use rad_state::OpenFault;
+use rad_watch::FailedPort;
 use std::alloc::AllocError;
 use thiserror::Error;
 
@@ -37,7 +38,7 @@ pub enum ServeError {
     Held(HeldFault),
     /// The rounds ended with a fault. If a port failed, which one and why.
     #[error("{0}")]
-    Rounds(ServeFault, Option<BrokenPort>),
+    Rounds(ServeFault, Option<FailedPort>),
 }
 
 impl From<AllocError> for ServeError {

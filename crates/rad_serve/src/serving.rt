@@ -2,7 +2,6 @@
 ghost use Rattle.std.specs.Prelude.{◌<◌, ℕ};
 
 use crate::calls::make_calls;
-use crate::cause::BrokenPort;
 use crate::given::Given;
 use crate::life::{Configured, Life, Numbered, first, in_memory, newest_whole, over};
 use crate::listening::{listen, try_ports};
@@ -20,7 +19,7 @@ use rad_journal::Journal;
 use rad_shell::{Gate, OpenGate, Ports, ServeFault, Service, Turns, Unwatched, Watch};
 use rad_state::{Folder, Generations, Keeping, State};
 use rad_text::lines::divide;
-use rad_watch::Watcher;
+use rad_watch::{FailedPort, Watcher};
 use rand_chacha::ChaCha20Rng;
 use rand_core::Rng;
 use sqlite_trees::store::Store;
@@ -462,14 +461,14 @@ fn serve_turns<
             let _ = println!(rt; "{served}");
             Ok(())
         }
-        Err(fault) => Err(ServeError::Rounds(fault, broken_port(fault, ports))),
+        Err(fault) => Err(ServeError::Rounds(fault, failed_port(fault, ports))),
     }
 }
 
 // The port that failed, if that is the fault.
-fn broken_port<P: Ports>(fault: ServeFault, ports: &P) -> Option<BrokenPort> {
+fn failed_port<P: Ports>(fault: ServeFault, ports: &P) -> Option<FailedPort> {
     match fault {
-        ServeFault::Receive | ServeFault::Send => ports.last_failure().map(BrokenPort),
+        ServeFault::Receive | ServeFault::Send => ports.last_failure().map(FailedPort),
         ServeFault::Mismatch | ServeFault::Journal(_) => None,
     }
 }

@@ -9,11 +9,11 @@ ghost use Rattle.rad_shell.specs.Passages.{reported_by};
 ghost use Rattle.rad_shell.specs.Serving.{IsReceived};
 
 use crate::asking::Asking;
-use crate::cause::Unbound;
 use crate::failure::{Failure, receive_failure, send_failure};
 use crate::held::{ACCT_DESCRIPTOR, AUTH_DESCRIPTOR, Expected, HeldFault, take_socket};
 use crate::moments::{Moments, wall};
 use crate::receive_buffer::{ask_for_room, has_room};
+use crate::unbound::Unbound;
 use mio::net::UdpSocket;
 use mio::{Events, Interest, Poll, Token};
 use rad_auth::Door;

@@ -16,7 +16,7 @@ mod client_sums;
 mod event;
 mod exchange;
 mod expiry;
-mod failing;
+mod failed_port;
 mod histogram;
 mod kind;
 mod limiter;
@@ -31,6 +31,7 @@ mod transcript;
 mod untold;
 mod watcher;
 
+pub use failed_port::FailedPort;
 pub use kind::Level;
 pub use limiter::LINES_MAX;
 pub use line::push_quoted;

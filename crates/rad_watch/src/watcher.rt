@@ -3,7 +3,7 @@
 use crate::event::{Event, is_reject};
 use crate::exchange::Exchange;
 use crate::expiry::LastLook;
-use crate::failing::write_failure;
+use crate::failed_port::FailedPort;
 use crate::kind::{KINDS, Kind, Level};
 use crate::limiter::Limiter;
 use crate::line::write_line;
@@ -19,6 +19,7 @@ use rad_server::Server;
 use rad_shell::{Outcome, Timed, Turn};
 use std::alloc::{AllocError, Global};
 use std::io;
+use std::io::Write;
 
 /// How many octets of lines wait at most to be taken, but for one line.
 const LINES_ROOM: usize = 1_048_576;
@@ -213,8 +214,8 @@ impl Watcher {
             return;
         }
         let mut reason = Vec::new(self.alloc);
-        if let Some(failure) = &turn.last_failure {
-            if write_failure(&mut reason, failure).is_err() {
+        if let Some(failed) = turn.last_failure.map(FailedPort) {
+            if write!(reason, "{failed}").is_err() {
                 reason.clear();
             }
         }

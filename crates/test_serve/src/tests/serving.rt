@@ -6,7 +6,7 @@ use rad_auth::Door;
 use rad_config::{ConfigFault, Part};
 use rad_journal::RestoreFault;
 use rad_serve::{
-    BrokenPort, Excess, Given, GivenFault, HeldFault, Options, Reports, ServeError, Sockets,
+    Excess, FailedPort, Given, GivenFault, HeldFault, Options, Reports, ServeError, Sockets,
     UdpPorts, Workers, excess_of, serve, serve_with_state,
 };
 use rad_shell::{FailedCall, JournalFault, PortCall, ServeFault};
@@ -278,15 +278,15 @@ const TEXTS: &[(ServeError, &str)] = &[
         "descriptor 3 is no UDP socket with an IPv4 address and a port",
     ),
     (
-        ServeError::Rounds(ServeFault::Receive, Some(BrokenPort(RECEIVE))),
+        ServeError::Rounds(ServeFault::Receive, Some(FailedPort(RECEIVE))),
         "receive failed\nauthentication port: Operation not permitted (os error 1)",
     ),
     (
-        ServeError::Rounds(ServeFault::Send, Some(BrokenPort(SEND))),
+        ServeError::Rounds(ServeFault::Send, Some(FailedPort(SEND))),
         "send failed\naccounting port to 192.0.2.1:3799: Bad file descriptor (os error 9)",
     ),
     (
-        ServeError::Rounds(ServeFault::Send, Some(BrokenPort(STRANGE))),
+        ServeError::Rounds(ServeFault::Send, Some(FailedPort(STRANGE))),
         "send failed\nauthentication port to 127.0.0.1:1024: the system gives no reason",
     ),
     (ServeError::Rounds(ServeFault::Mismatch, None), "mismatch"),
