@@ -38,9 +38,9 @@ def metrics():
 
 
 def ended(server):
-    """The lines of a server that is told to end; its metrics are written then."""
-    server.process.terminate()
-    return server.process.communicate(timeout=30)[1].splitlines()
+    """The lines of events of a server that makes its last turns, while nothing comes; then its metrics are written, too."""
+    _, errors = server.process.communicate(timeout=60)
+    return [line for line in errors.splitlines() if line.startswith("time=")]
 
 
 def asked_again(port, request, times):
@@ -76,7 +76,7 @@ def judge_samples(*wanted):
 def reports_and_repeats():
     """A report that means no session or another user's, and a repeat, are told and counted as such."""
     unknown = b"RAP1" + (99).to_bytes(8, "big")
-    with serving(words=REPORTS, configuration=CONFIGURATION + CLIENTS) as server:
+    with serving(words=[*REPORTS, "--rounds", "14"], configuration=CONFIGURATION + CLIENTS) as server:
         replies = asked_again(server.auth, access_request(1, b"ann"), 5)
         judge(replies[0][:1] == b"\x02" and set(replies) == {replies[0]}, "five times the same request get one Access-Accept")
         session = attribute(replies[0], 25)
@@ -105,7 +105,7 @@ def reports_and_repeats():
         ('radpool_reports_total{status="stop",session="none"}', "1"),
         ("radpool_reports_of_another_user_total", "1"),
     )
-    with serving(words=["--log", "refused"]) as server:
+    with serving(words=["--log", "refused", "--rounds", "5"]) as server:
         judge(server.ask(server.auth, access_request(1, b"dee"))[:1] == b"\x02", "dee gets an Access-Accept")
         judge(server.ask(server.acct, accounting_request(2, 3, unknown))[:2] == b"\x05\x02", "the report is answered")
         lines = ended(server)
@@ -115,7 +115,7 @@ def reports_and_repeats():
 
 def each_client():
     """The metrics of each client tell which one has a wrong secret, and which one is silent."""
-    with serving(words=REPORTS, configuration=CONFIGURATION + CLIENTS) as server:
+    with serving(words=[*REPORTS, "--rounds", "12"], configuration=CONFIGURATION + CLIENTS) as server:
         for source, answered in (("127.0.0.1", b"\x05"), ("127.0.0.2", b"\x05"), ("127.0.0.3", b"")):
             for identifier in range(2):
                 reply = server.ask(server.acct, accounting_request(identifier), 1, source=(source, 0))
