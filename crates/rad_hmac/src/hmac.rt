@@ -1,12 +1,13 @@
 //! HMACs of messages under keys, eight at a time.
-ghost use Rattle.std.specs.Prelude.{◌≡◌, ◌<◌, ◌++◌, length, map, replicate, All};
+ghost use Rattle.std.specs.Prelude.{◌≡◌, ◌<◌, ◌++◌, [], false, length, map, replicate, slice_index_or, true, All};
 ghost use Rattle.std.specs.Simd.Lanes.{zip2};
 ghost use Rattle.md5.specs.Md5.{md5};
+ghost use Rattle.rad_md5.specs.Lanes.{EachLane};
 ghost use Rattle.rad_md5.specs.Pieces.{HasFreePiece, message};
-ghost use Rattle.rad_hmac.specs.Hmac.{keyed_message, mac_of, text_limit, xor};
+ghost use Rattle.rad_hmac.specs.Hmac.{keyed_message, mac_of, mac_under, text_limit, xor};
 
 use crate::key::Key;
-use rad_md5::{BLOCK_LEN, DIGEST_LEN, LANES, Pieces, digest8};
+use rad_md5::{BLOCK_LEN, DIGEST_LEN, LANES, Pieces, digest_one, digest8, pass_pays};
 
 // The octet that ipad repeats.
 const IPAD: u8 = 0x36;
@@ -25,6 +26,75 @@ pub fn hmac8(messages: &[(&Key, Pieces); LANES]) -> [[u8; DIGEST_LEN]; LANES]
 {
     let inner = inner8(&pads8(messages, IPAD), messages);
     outer8(&pads8(messages, OPAD), &inner)
+}
+
+/// The HMACs of those of eight messages that are wanted, in their lanes. What is in the other lanes says nothing.
+///
+/// The rest is as for `hmac8`.
+pub fn hmac_some(
+    messages: &[(&Key, Pieces); LANES],
+    wanted: &[bool; LANES],
+) -> [[u8; DIGEST_LEN]; LANES]
+    requires free { All (λ keyed. HasFreePiece keyed.1) messages.now }
+    requires short { All (λ keyed. length (keyed_message keyed) < text_limit) messages.now }
+    ensures { EachLane (λ j. slice_index_or wanted.now j false ≡ true
+        → slice_index_or result j [] ≡ slice_index_or (map mac_of messages.now) j []) }
+{
+    if pass_pays(wanted) {
+        return hmac8(messages);
+    }
+    let [a, b, c, d, e, f, g, h] = messages;
+    [
+        hmac_if(wanted[0], a),
+        hmac_if(wanted[1], b),
+        hmac_if(wanted[2], c),
+        hmac_if(wanted[3], d),
+        hmac_if(wanted[4], e),
+        hmac_if(wanted[5], f),
+        hmac_if(wanted[6], g),
+        hmac_if(wanted[7], h),
+    ]
+}
+
+// The HMAC of a message under its key, if it is wanted.
+fn hmac_if(is_wanted: bool, keyed: &(&Key, Pieces)) -> [u8; DIGEST_LEN]
+    requires free { HasFreePiece keyed.now.1 }
+    requires short { length (keyed_message keyed.now) < text_limit }
+    ensures { is_wanted ≡ true → result ≡ mac_of keyed.now }
+{
+    if is_wanted {
+        hmac_one(keyed.0, &keyed.1)
+    } else {
+        [0; DIGEST_LEN]
+    }
+}
+
+/// HMAC-MD5 of a message under a key. The fifth slice of the message stays empty.
+///
+/// Source: RFC 2104, section 2.
+#[tactic(auto, unfolding(crate::specs::Hmac::mac_under))]
+pub fn hmac_one(key: &Key, text: &Pieces) -> [u8; DIGEST_LEN]
+    requires free { HasFreePiece text.now }
+    requires short { length (message text.now) < text_limit }
+    ensures { result ≡ mac_under key.now (message text.now) }
+{
+    outer(&key.xor(OPAD), &inner(&key.xor(IPAD), text))
+}
+
+// The digest of a pad followed by a message.
+fn inner(pad: &[u8; BLOCK_LEN], text: &Pieces) -> [u8; DIGEST_LEN]
+    requires free { HasFreePiece text.now }
+    requires short { length (message text.now) < text_limit }
+    ensures { result ≡ md5 (pad.now ++ message text.now) }
+{
+    digest_one(&text.after(pad))
+}
+
+// The digest of a pad followed by an inner digest.
+fn outer(pad: &[u8; BLOCK_LEN], inner: &[u8; DIGEST_LEN]) -> [u8; DIGEST_LEN]
+    ensures { result ≡ md5 (pad.now ++ inner.now) }
+{
+    digest_one(&after_pad(pad, inner))
 }
 
 // Each key's exclusive or with this octet.

@@ -1,14 +1,15 @@
 //! Digests of messages, eight at a time.
-ghost use Rattle.std.specs.Prelude.{◌≡◌, ℕ, ◌+◌, ◌<◌, ◌≤◌, List, [], length, map, slice_index, slice_index_or, EachIndex};
+ghost use Rattle.std.specs.Prelude.{◌≡◌, ℕ, ◌+◌, ◌<◌, ◌≤◌, List, [], false, length, map, slice_index, slice_index_or, true, EachIndex};
 ghost use Rattle.md5.specs.Md5.{digest_bytes, initial_hash};
 ghost use Rattle.rad_md5.specs.Lanes.{ArePlaces, AreWanted, EachLane, HasDigests, HaveAtMost, IsHashedAfter, IsWanted, lane};
-ghost use Rattle.rad_md5.specs.Pieces.{digest};
+ghost use Rattle.rad_md5.specs.Pieces.{IsDigested, digest};
 
 use crate::block::{block_count, next_blocks, words8};
 use crate::compress::compress8;
 use crate::lanes::{LANES, State};
 use crate::pieces::Pieces;
 use crate::table::{BLOCK_LEN, INITIAL_HASH};
+use md5::{Digest, Md5};
 use std::simd::u32x8;
 
 /// How many octets a digest has.
@@ -115,6 +116,60 @@ pub fn digest8(messages: &[Pieces; LANES]) -> [[u8; DIGEST_LEN]; LANES]
     ensures { result ≡ map digest messages.now }
 {
     digests_in(hash8(messages, &IN_ORDER))
+}
+
+/// The digest of a message.
+pub fn digest_one(message: &Pieces) -> [u8; DIGEST_LEN]
+    ensures { result ≡ digest message.now }
+{
+    let [a, b, c, d, e] = message.slices();
+    let mut hasher = Md5::new();
+    hasher.update(*a);
+    hasher.update(*b);
+    hasher.update(*c);
+    hasher.update(*d);
+    hasher.update(*e);
+    hasher.finalize()
+}
+
+// The fewest messages for which a pass of eight takes less time than one after the other.
+const PASS_PAYS_FROM: usize = 3;
+
+/// Whether so many of eight messages are wanted that a pass of eight takes less time than one after the other. No clause says it.
+pub fn pass_pays(wanted: &[bool; LANES]) -> bool {
+    wanted.iter().filter(|is_wanted| **is_wanted).count() >= PASS_PAYS_FROM
+}
+
+/// The digests of those of eight messages that are wanted, in their lanes. What is in the other lanes says nothing.
+pub fn digest_some(messages: &[Pieces; LANES], wanted: &[bool; LANES]) -> [[u8; DIGEST_LEN]; LANES]
+    ensures { EachLane (λ j. slice_index_or wanted.now j false ≡ true
+        → IsDigested messages.now result j) }
+{
+    if pass_pays(wanted) {
+        return digest8(messages);
+    }
+    let [a, b, c, d, e, f, g, h] = messages;
+    [
+        digest_if(wanted[0], a),
+        digest_if(wanted[1], b),
+        digest_if(wanted[2], c),
+        digest_if(wanted[3], d),
+        digest_if(wanted[4], e),
+        digest_if(wanted[5], f),
+        digest_if(wanted[6], g),
+        digest_if(wanted[7], h),
+    ]
+}
+
+// The digest of a message, if it is wanted.
+fn digest_if(is_wanted: bool, message: &Pieces) -> [u8; DIGEST_LEN]
+    ensures { is_wanted ≡ true → result ≡ digest message.now }
+{
+    if is_wanted {
+        digest_one(message)
+    } else {
+        [0; DIGEST_LEN]
+    }
 }
 
 /// Writes the digest of each lane at its place.
