@@ -36,9 +36,7 @@ pub(crate) fn stop(rows: &mut Rows<Session, Spans>, counts: &mut Counts, number:
     ensures room { rows.new.has_room ≡ rows.old.has_room }
 {
     let _last = rows.last();
-    let found = rows.get(number).copied();
-    counts.end(found);
-    rows.change(number, &Report::Stop);
+    counts.end(rows.change(number, &Report::Stop));
 }
 
 /// Each session of this source has ended.

@@ -6,7 +6,7 @@ use Rattle.std.proofs.lemmas.List.{get_or-replicate, length-map, length-replicat
 use Rattle.std.proofs.lemmas.List.Filters.{sum_by-filter_both}
 use Rattle.std.proofs.lemmas.List.Sums.{count_by-le-length, length-filter, sum_by-cons, sum_by_push}
 use Rattle.rad_rows.specs.Rows.{IsBefore, Tells, has_number, is_dead}
-use Rattle.rad_recent.specs.Index.{Forgets, IsIndexed, is_row_live, replies_of}
+use Rattle.rad_recent.specs.Index.{IsIndexed, is_row_live, replies_of}
 use Rattle.rad_recent.specs.Notes.{CountsClients, GainsClient, Leaves, LosesClient, TakesOne, is_live_of, one_of}
 use Rattle.rad_recent.specs.Numbers.{number_at}
 use Rattle.rad_recent.specs.Recent.{is_of, is_reply_live, same_key}
@@ -110,13 +110,6 @@ module _ (es : List (Key × ℕ)) (key : Key) (rows : List Numbered) (indexed : 
             omega (arith, none, others_all, all_rows, count_dead (is_of client) es key rows indexed n at x rising there e)
 
 -- ---- rows that go
-
--- what rows that go leave of the index
-pub forgets : (dead : List Numbered) (old new : Notes) → FoldsTo Leaves old dead new → FoldsTo Forgets old.index dead new.index
-forgets [] old new h = ap (λ (notes : Notes). notes.index) h
-forgets (row ∷ dead) old new h =
-    let first : Leaves old row h.0 = h.1 in
-    (h.0.index, first.index, forgets dead h.0 new h.2)
 
 clients_gone : (dead : List Numbered) (old new : Notes) → FoldsTo Leaves old dead new
     → (length new.clients.items ≡ length old.clients.items)

@@ -5,7 +5,7 @@ use Rattle.std.proofs.lemmas.Bool.{eqb-true, eq-eqb}
 use Rattle.std.proofs.lemmas.List.{length-map}
 use Rattle.std.proofs.lemmas.List.Sums.{count_by-le-length, length-filter}
 use Rattle.std.proofs.lemmas.List.Kept.{AllPairs-filter}
-use Rattle.std.proofs.lemmas.List.Elements.{All-cons, All-nil, All-head, All-tail, All-filter, filter_passes}
+use Rattle.std.proofs.lemmas.List.Elements.{All-head, All-tail, All-filter, filter_passes}
 use Rattle.rad_auth.specs.declared.arrival.Door.{Door}
 use Rattle.rad_auth.specs.declared.arrival.Door.TheVariants.{Auth, Acct}
 use Rattle.rad_rows.specs.Rows.{has_number, has_other}
@@ -139,30 +139,41 @@ find_replies p q (row ∷ rows) = by_test (p row.kept) refl (q row.kept) refl (f
     by_test true e false e' more = rw (e, e') more
     by_test false e b e' more = rw (e) more
 
--- the rows without a key
-pub without_number : (es : List (Key × ℕ)) (key : Key) (n : ℕ) (rows : List Numbered) → number_at es key ≡ Some n → All (IsIndexed es) rows
-    → replies_of (filter (has_other number_of n) rows) ≡ filter (λ reply. not (same_key key reply.key)) (replies_of rows)
-without_number es key n rows at h =
-    ap replies_of (filter_all_agree (has_other number_of n) (λ row. not (same_key key row.kept.key)) rows (λ k d lt. ap not (sym (agrees es key n _ at (h k d lt)))))
-    ∙ replies_filter (λ reply. not (same_key key reply.key)) rows
+-- whether a row has another key
+abbrev pub has_other_key : Key → Numbered → Bool
+has_other_key key row = not (same_key key row.kept.key)
 
--- where a key has no number, all replies are to other keys
-pub without_none : (es : List (Key × ℕ)) (key : Key) (rows : List Numbered) → number_at es key ≡ None → All (IsIndexed es) rows
-    → filter (λ reply. not (same_key key reply.key)) (replies_of rows) ≡ replies_of rows
-without_none es key [] at h = refl
-without_none es key (row ∷ rows) at h =
-    rw (no_row es key row at (All-head (IsIndexed es) row rows h)) (ap (λ l. row.kept ∷ l) (without_none es key rows at (All-tail (IsIndexed es) row rows h)))
+module _ (es : List (Key × ℕ)) (key : Key) (rows : List Numbered) where
+  -- without its number no row has the key
+  pub number_removed : (n : ℕ) → number_at es key ≡ Some n → All (IsIndexed es) rows
+      → filter (has_other number_of n) rows ≡ filter (has_other_key key) rows
+  number_removed n at h =
+      filter_all_agree (has_other number_of n) (has_other_key key) rows (λ k d lt. ap not (sym (agrees es key n _ at (h k d lt))))
 
--- without its number no row has the key
-pub gone : (es : List (Key × ℕ)) (key : Key) (n : ℕ) (rows : List Numbered) → number_at es key ≡ Some n → All (IsIndexed es) rows → All (λ row. same_key key row.kept.key ≡ false) (filter (has_other number_of n) rows)
-gone es key n rows at h = λ k d lt.
-    let indexed = All-filter (has_other number_of n) (IsIndexed es) rows h k d lt in
-    let other = filter_passes (has_other number_of n) rows k d lt in
-    agrees es key n _ at indexed ∙ turned (eqb _ n) other
-  where
-    turned : (b : Bool) → not b ≡ true → b ≡ false
-    turned true e = absurd (true≢false (sym e))
-    turned false e = refl
+  -- where a key has no number, all rows have other keys
+  pub none_removed : number_at es key ≡ None → All (IsIndexed es) rows → rows ≡ filter (has_other_key key) rows
+  none_removed at h = sym (all_pass rows (λ k d lt. ap not (no_row es key _ at (h k d lt))))
+    where
+      all_pass : (rows : List Numbered) → All (λ row. has_other_key key row ≡ true) rows → filter (has_other_key key) rows ≡ rows
+      all_pass [] pass = refl
+      all_pass (row ∷ rows) pass =
+          rw (All-head (λ row. has_other_key key row ≡ true) row rows pass)
+          (ap (λ l. row ∷ l) (all_pass rows (All-tail (λ row. has_other_key key row ≡ true) row rows pass)))
+
+module _ (key : Key) (rows left : List Numbered) (is : left ≡ filter (has_other_key key) rows) where
+  -- no row that is left has the key
+  pub gone : All (λ row. same_key key row.kept.key ≡ false) left
+  gone =
+      subst (All (λ row. same_key key row.kept.key ≡ false)) (sym is) (λ k d lt.
+      turned (same_key key _) (filter_passes (has_other_key key) rows k d lt))
+    where
+      turned : (b : Bool) → not b ≡ true → b ≡ false
+      turned true e = absurd (true≢false (sym e))
+      turned false e = refl
+
+  -- their replies are those to requests with other keys
+  pub replies_left : replies_of left ≡ filter (λ reply. not (same_key key reply.key)) (replies_of rows)
+  replies_left = ap replies_of is ∙ replies_filter (λ reply. not (same_key key reply.key)) rows
 
 -- ---- counts
 
@@ -177,23 +188,21 @@ module _ (p : Kept → Bool) (es : List (Key × ℕ)) (key : Key) (rows : List N
   others_of = length (filter (λ reply. not (same_key key reply.key)) (filter p (replies_of rows)))
 
   -- counted among the rows that pass
-  among_rows : others_of ≡ length (filter (λ reply. not (same_key key reply.key)) (replies_of (filter live rows)))
-  among_rows = ap (λ l. length (filter (λ reply. not (same_key key reply.key)) l)) (sym (replies_filter p rows))
+  among_rows : others_of ≡ length (filter (has_other_key key) (filter live rows))
+  among_rows =
+      ap (λ l. length (filter (λ reply. not (same_key key reply.key)) l)) (sym (replies_filter p rows))
+      ∙ ap length (sym (replies_left key (filter live rows) _ refl))
+      ∙ length-map (filter (has_other_key key) (filter live rows)) (λ row. row.kept)
 
   -- the key has no number
   pub count_none : number_at es key ≡ None → others_of ≡ length (filter live rows)
-  count_none at =
-      among_rows
-      ∙ ap length (without_none es key (filter live rows) at (All-filter live (IsIndexed es) rows indexed))
-      ∙ length-map (filter live rows) (λ row. row.kept)
+  count_none at = among_rows ∙ ap length (sym (none_removed es key (filter live rows) at (All-filter live (IsIndexed es) rows indexed)))
 
   module _ (n : ℕ) (at : number_at es key ≡ Some n) where
     -- the key has a number
     count_number : others_of ≡ length (filter (has_other number_of n) (filter live rows))
     count_number =
-        among_rows
-        ∙ ap length (sym (without_number es key n (filter live rows) at (All-filter live (IsIndexed es) rows indexed)))
-        ∙ length-map (filter (has_other number_of n) (filter live rows)) (λ row. row.kept)
+        among_rows ∙ ap length (sym (number_removed es key (filter live rows) n at (All-filter live (IsIndexed es) rows indexed)))
 
     -- the number is of no row
     pub count_vacant : find (has_number number_of n) rows ≡ None → others_of ≡ length (filter live rows)
@@ -212,15 +221,6 @@ module _ (p : Kept → Bool) (es : List (Key × ℕ)) (key : Key) (rows : List N
             count_number,
             others_some number_of n (filter live rows) x (AllPairs-filter (IsBefore number_of) live rows rising) (live_true number_of n live rows x there lives),
           )
-
--- what is no row's number
-pub all_other : (n : ℕ) (rows : List Numbered) → find (has_number number_of n) rows ≡ None → All (λ row. eqb row.number n ≡ false) rows
-all_other n [] h = All-nil (λ row. eqb row.number n ≡ false)
-all_other n (row ∷ rows) h = by_test (eqb row.number n) refl (all_other n rows)
-  where
-    by_test : (b : Bool) → eqb row.number n ≡ b → (find (has_number number_of n) rows ≡ None → All (λ row. eqb row.number n ≡ false) rows) → All (λ row. eqb row.number n ≡ false) (row ∷ rows)
-    by_test true e more = absurd (true≢false (ap is_some (sym (ap (λ b. cond b (Some row) (find (has_number number_of n) rows)) e) ∙ h)))
-    by_test false e more = All-cons (λ row. eqb row.number n ≡ false) row rows e (more (sym (ap (λ b. cond b (Some row) (find (has_number number_of n) rows)) e) ∙ h))
 
 -- no more replies than rows
 pub others_le : (p q : Kept → Bool) (rows : List Numbered) → length (filter q (filter p (replies_of rows))) ≤ length rows

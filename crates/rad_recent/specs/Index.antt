@@ -1,10 +1,12 @@
 -- Which row a key has: the rows have numbers, and an index has the number of each key's row.
-use Rattle.std.specs.Prelude.{◌≡◌, ℕ, ◌+◌, ◌≤◌, ◌<◌, ◌^◌, Bool, true, false, List, All, None, Some, IsSome, is_some, map}
+use Rattle.std.specs.Prelude.{◌≡◌, ℕ, ◌+◌, ◌≤◌, ◌<◌, ◌^◌, Bool, true, List, All, None, Some, cond, is_some, map}
+use Rattle.indexmap.specs.IndexMap.{spare}
+use Rattle.rad_rows.specs.Rows.{SeenRows}
 use Rattle.rad_recent.specs.declared.index.Index.{Index}
 use Rattle.rad_recent.specs.declared.kept.Kept.{Kept}
 use Rattle.rad_recent.specs.declared.key.Key.{Key}
 use Rattle.rad_recent.specs.declared.numbered.Numbered.{Numbered}
-use Rattle.rad_recent.specs.Numbers.{is_for, number_at}
+use Rattle.rad_recent.specs.Numbers.{number_at}
 use Rattle.rad_recent.specs.Recent.{is_reply_live, same_key}
 
 -- the replies of rows
@@ -20,18 +22,16 @@ pub record IsIndexed (entries : List (Key × ℕ)) (row : Numbered) : Type 0 whe
   pub own : (key : Key) → same_key key row.kept.key ≡ true → number_at entries key ≡ Some row.number
   pub only : (key : Key) → number_at entries key ≡ Some row.number → same_key key row.kept.key ≡ true
 
--- what an index is left with that is told of a row that goes: without the row's key, unless memory is ready for it
-pub record Forgets (old : Index) (row : Numbered) (new : Index) : Type 0 where
-  pub others : (key : Key) → same_key row.kept.key key ≡ false → number_at new.map.entries key ≡ number_at old.map.entries key
-  pub gone : is_for row.kept.key old.ready ≡ false → number_at new.map.entries row.kept.key ≡ None
-  pub less : (key : Key) (number : ℕ) → number_at new.map.entries key ≡ Some number → number_at old.map.entries key ≡ Some number
+-- what an index is left with from which a key is taken out
+pub record Forgets (old : Index) (key : Key) (new : Index) : Type 0 where
+  pub numbers : (other : Key) → number_at new.map.entries other ≡ cond (same_key key other) None (number_at old.map.entries other)
+  pub room : spare old.map ≤ spare new.map
   pub ready : new.ready ≡ old.ready
-  pub known : (key : Key) → old.ready ≡ Some key → number_at new.map.entries key ≡ number_at old.map.entries key
 
--- what rows and an index keep; `last` is the last number that was given
-pub record HoldsIndex (rows : List Numbered) (last : ℕ) (has_room : Bool) (index : Index) : Type 0 where
-  pub indexed : All (IsIndexed index.map.entries) rows
-  pub given : (key : Key) (number : ℕ) → number_at index.map.entries key ≡ Some number → number ≤ last
-  pub room : is_some index.ready ≡ true → has_room ≡ true
-  pub next : is_some index.ready ≡ true → last + 1 < 2 ^ 64
-  pub known : (key : Key) → index.ready ≡ Some key → IsSome (number_at index.map.entries key)
+-- what rows and an index keep
+pub record HoldsIndex (rows : SeenRows Numbered ℕ) (index : Index) : Type 0 where
+  pub indexed : All (IsIndexed index.map.entries) rows.rows
+  pub given : (key : Key) (number : ℕ) → number_at index.map.entries key ≡ Some number → number ≤ rows.last
+  pub room : is_some index.ready ≡ true → rows.has_room ≡ true
+  pub next : is_some index.ready ≡ true → rows.last + 1 < 2 ^ 64
+  pub spare : is_some index.ready ≡ true → 0 < spare index.map

@@ -1,5 +1,6 @@
 -- What is noted beside the rows of kept replies: which row each key has, and how many rows each client has.
 use Rattle.std.specs.Prelude.{◌≡◌, ℕ, ◌+◌, ◌-◌, ◌<◌, ◌^◌, ◌&&◌, Bool, List, Option, length, slice_index, cond, count_by}
+use Rattle.rad_rows.specs.Rows.{SeenRows}
 use Rattle.rad_recent.specs.Index.{Forgets, HoldsIndex, is_row_live, replies_of}
 use Rattle.rad_recent.specs.Recent.{is_client, is_of}
 use Rattle.rad_recent.specs.declared.clients.LiveReplies.{LiveReplies}
@@ -18,10 +19,10 @@ one_of client own = cond (is_client client own) 1 0
 pub record CountsClients (rows : List Numbered) (counts : List ℕ) : Type 0 where
   pub is : (n : ℕ) → n < length counts → slice_index counts n ≡ count_by (is_of n) (replies_of rows)
 
--- what rows and what is noted of them keep; `last` is the last number that was given
-pub record HoldsNotes (rows : List Numbered) (last : ℕ) (has_room : Bool) (notes : Notes) : Type 0 where
-  pub index : HoldsIndex rows last has_room notes.index
-  pub clients : CountsClients rows notes.clients.items
+-- what rows and what is noted of them keep
+pub record HoldsNotes (rows : SeenRows Numbered ℕ) (notes : Notes) : Type 0 where
+  pub index : HoldsIndex rows notes.index
+  pub clients : CountsClients rows.rows notes.clients.items
 
 -- one more of a client, if there is one, where one more can be counted
 pub record GainsClient (client : Option ℕ) (old new : List ℕ) : Type 0 where
@@ -35,7 +36,7 @@ pub record LosesClient (client : Option ℕ) (old new : List ℕ) : Type 0 where
 
 -- what is left of notes that are told of a row that goes
 pub record Leaves (old : Notes) (row : Numbered) (new : Notes) : Type 0 where
-  pub index : Forgets old.index row new.index
+  pub index : Forgets old.index row.kept.key new.index
   pub clients : LosesClient row.kept.client old.clients.items new.clients.items
 
 -- one reply less, if it takes the client's share

@@ -1,9 +1,8 @@
 //! Rows of kept replies, and the index that finds them.
-ghost use Rattle.std.specs.Prelude.{◌≡◌, ℕ, ◌+◌, ◌≤◌, ◌&&◌, ◌++◌, ◌∷◌, [], All, count_by, false, filter, find, not, option_copied, option_map, IsOk, IsSome, None, OnErr, OnOk, Some};
+ghost use Rattle.std.specs.Prelude.{◌≡◌, ℕ, ◌+◌, ◌≤◌, ◌&&◌, ◌++◌, ◌∷◌, [], All, count_by, filter, find, not, option_copied, option_map, IsOk, None, OnErr, OnOk, Some};
 ghost use Rattle.std.specs.List.{list_any};
 ghost use Rattle.rad_config.specs.Spans.{moment_max};
 ghost use Rattle.rad_recent.specs.Index.{HoldsIndex, IsIndexed, is_row_live, replies_of};
-ghost use Rattle.rad_recent.specs.Numbers.{number_at};
 ghost use Rattle.rad_recent.specs.Notes.{one_of};
 ghost use Rattle.rad_recent.specs.Recent.{is_of, is_reply_live, is_reply_to, same_key};
 
@@ -86,8 +85,8 @@ pub(crate) fn make_room(
     index: &mut Index,
     key: &Key,
 ) -> Result<(), AllocError>
-    requires { HoldsIndex rows.old.rows rows.old.last rows.old.has_room index.old }
-    ensures holds { HoldsIndex rows.new.rows rows.new.last rows.new.has_room index.new }
+    requires { HoldsIndex rows.old index.old }
+    ensures holds { HoldsIndex rows.new index.new }
     ensures rows { rows.new.rows ≡ rows.old.rows }
     ensures spans { rows.new.spans ≡ rows.old.spans }
     ensures ready { OnOk result (index.new.ready ≡ Some key.now) }
@@ -98,79 +97,40 @@ pub(crate) fn make_room(
         return Err(AllocError);
     }
     rows.room()?;
-    enter(rows, index, key)?;
-    let before = index.ready;
+    index.map.reserve(1)?;
     index.ready = Some(*key);
-    forget_vacant(rows, index, before);
     Ok(())
 }
 
-// Gives a key that has no number that of no row.
-fn enter(rows: &Rows<Numbered, u64>, index: &mut Index, key: &Key) -> Result<(), AllocError>
-    requires { HoldsIndex rows.now.rows rows.now.last rows.now.has_room index.old }
-    ensures holds { HoldsIndex rows.now.rows rows.now.last rows.now.has_room index.new }
-    ensures known { OnOk result (IsSome (number_at index.new.map.entries key.now)) }
-    ensures ready { index.new.ready ≡ index.old.ready }
-    ensures still { index.old.ready ≡ Some key.now → IsOk result }
-{
-    let _last = rows.last();
-    if index::find(&index.map, key).is_some() {
-        return Ok(());
-    }
-    index::note(&mut index.map, *key, 0)
-}
-
-/// Takes a key without a row out, unless memory is ready for it.
-pub(crate) fn forget_vacant(rows: &Rows<Numbered, u64>, index: &mut Index, vacant: Option<Key>)
-    requires { HoldsIndex rows.now.rows rows.now.last rows.now.has_room index.old }
-    ensures holds { HoldsIndex rows.now.rows rows.now.last rows.now.has_room index.new }
-    ensures ready { index.new.ready ≡ index.old.ready }
-{
-    let Some(vacant) = vacant else {
-        return;
-    };
-    if index.is_ready(&vacant) {
-        return;
-    }
-    let Some(number) = index::find(&index.map, &vacant) else {
-        return;
-    };
-    match rows.get(number) {
-        Some(_) => {}
-        None => index::forget(&mut index.map, &vacant),
-    }
-}
-
 /// Removes the row of a key.
-pub(crate) fn remove(rows: &mut Rows<Numbered, u64>, index: &Index, key: &Key)
-    requires { HoldsIndex rows.old.rows rows.old.last rows.old.has_room index.now }
-    ensures holds { HoldsIndex rows.new.rows rows.new.last rows.new.has_room index.now }
+pub(crate) fn remove(rows: &mut Rows<Numbered, u64>, index: &mut Index, key: &Key)
+    requires { HoldsIndex rows.old index.old }
+    ensures holds { HoldsIndex rows.new index.new }
     ensures rows { replies_of rows.new.rows
         ≡ filter (λ reply. not (same_key key.now reply.key)) (replies_of rows.old.rows) }
-    ensures gone { All (λ row. same_key key.now row.kept.key ≡ false) rows.new.rows }
     ensures spans { rows.new.spans ≡ rows.old.spans }
+    ensures ready { index.new.ready ≡ index.old.ready }
 {
-    if let Some(number) = index::find(&index.map, key) {
+    if let Some(number) = index::forget(index, key) {
         rows.remove(number);
     }
 }
 
 /// Puts a reply last, for whose key memory is ready. The row of its key goes.
 pub(crate) fn push(rows: &mut Rows<Numbered, u64>, index: &mut Index, kept: Kept)
-    requires holds { HoldsIndex rows.old.rows rows.old.last rows.old.has_room index.old }
+    requires holds { HoldsIndex rows.old index.old }
     requires ready { index.old.ready ≡ Some kept.key }
-    ensures holds { HoldsIndex rows.new.rows rows.new.last rows.new.has_room index.new }
+    ensures holds { HoldsIndex rows.new index.new }
     ensures rows { replies_of rows.new.rows
         ≡ filter (λ reply. not (same_key kept.key reply.key)) (replies_of rows.old.rows)
         ++ kept ∷ [] }
     ensures spans { rows.new.spans ≡ rows.old.spans }
     ensures ready { index.new.ready ≡ None }
 {
-    remove(rows, index, &kept.key);
     let number = rows.last() + 1;
-    let Ok(()) = index::note(&mut index.map, kept.key, number) else {
-        return;
-    };
+    if let Some(before) = index::note(&mut index.map, kept.key, number) {
+        rows.remove(before);
+    }
     index.ready = None;
     rows.push(Numbered { number, kept });
 }

@@ -17,7 +17,7 @@ impl Tally<Numbered> for Notes {
     ghost told = { λ old row new. Leaves old row new };
 
     fn leave(&mut self, row: &Numbered) {
-        index::leave(&mut self.index, row);
+        index::forget(&mut self.index, &row.kept.key);
         clients::remove_one(&mut self.clients, row.kept.client);
     }
 }

@@ -57,8 +57,7 @@ impl Model for Recent {
       ready = recent.notes.index.ready;
     } };
 
-    ghost invariant = { λ recent.
-        HoldsNotes recent.rows.rows recent.rows.last recent.rows.has_room recent.notes };
+    ghost invariant = { λ recent. HoldsNotes recent.rows recent.notes };
 }
 
 impl Recent {
@@ -263,8 +262,7 @@ impl Recent {
         let rows = self.rows.copy()?;
         let map = self.notes.index.map.clone()?;
         let clients = self.notes.clients.clone()?;
-        let mut index = Index { map, ready: None };
-        indexed::forget_vacant(&rows, &mut index, self.notes.index.ready);
+        let index = Index { map, ready: None };
         Ok(Recent {
             rows,
             notes: Notes { index, clients },

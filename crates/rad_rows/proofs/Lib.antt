@@ -6,3 +6,4 @@ pub mod RowsLemmas
 pub mod OrderLemmas
 pub mod GroupLemmas
 pub mod SweepLemmas
+pub mod ExpiryLemmas

@@ -26,19 +26,22 @@ module _ {T : Type 0} (number : T → ℕ) where
   rising_rest x xs ys is h = λ i j d lt within. (subst (AllPairs (IsBefore number)) is h) (suc i) (suc j) d (omega arith) (omega arith)
 
   pub rest_after : (x : T) (xs ys : List T) → ys ≡ x ∷ xs → AllPairs (IsBefore number) ys → All (IsAfter number (number x)) xs
-  rest_after x xs ys is h = λ k d within. record { lt = ((subst (AllPairs (IsBefore number)) is h) 0 (suc k) d (omega arith) (omega arith)).lt }
+  rest_after x xs ys is h =
+      λ k d within. record { lt = ((subst (AllPairs (IsBefore number)) is h) 0 (suc k) d (omega arith) (omega arith)).lt }
 
   -- numbers that rise up to the last are no more than it
   pub no_more : (last : ℕ) (rows : List T) → IsRising number last rows → length rows ≤ last
   no_more last rows h = omega (arith, above 0 rows (omega arith) (all_after last rows h.given) h.given h.rising)
     where
-      above : (low : ℕ) (rows : List T) → low ≤ last → All (IsAfter number low) rows → All (IsGiven number last) rows → AllPairs (IsBefore number) rows → low + length rows ≤ last
+      above : (low : ℕ) (rows : List T) → low ≤ last → All (IsAfter number low) rows → All (IsGiven number last) rows
+          → AllPairs (IsBefore number) rows → low + length rows ≤ last
       above low [] le after given rising = omega arith
       above low (x ∷ xs) le after given rising =
           omega (
             arith,
             (All-head (IsAfter number low) x xs after).lt,
-            above (number x) xs (All-head (IsGiven number last) x xs given).le (rest_after x xs (x ∷ xs) refl rising) (All-tail (IsGiven number last) x xs given) (rising_rest x xs (x ∷ xs) refl rising),
+            above (number x) xs (All-head (IsGiven number last) x xs given).le (rest_after x xs (x ∷ xs) refl rising)
+                (All-tail (IsGiven number last) x xs given) (rising_rest x xs (x ∷ xs) refl rising),
           )
 
 -- one row more was copied

@@ -112,12 +112,15 @@ impl<T: Row<S>, S: Copy> Block<T, S> {
         plain::remove(&mut self.rows, number);
     }
 
-    /// Changes the row of this number.
-    pub fn change<C: Change<T>>(&mut self, number: u64, by: &C)
-        ensures { self.new ≡ block_changed T.number number (C.to by.now) self.old }
+    /// Changes the row of this number, and returns it as it was.
+    pub fn change<C: Change<T>>(&mut self, number: u64, by: &C) -> Option<T>
+    where
+        T: Copy,
+        ensures was { result ≡ find (has_number T.number number) self.old.rows }
+        ensures block { self.new ≡ block_changed T.number number (C.to by.now) self.old }
     {
         let Block { rows, spans, bound } = self;
-        *bound = plain::change(rows, spans, number, by, *bound);
+        plain::change(rows, spans, bound, number, by)
     }
 
     /// Changes each row.

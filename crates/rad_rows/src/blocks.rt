@@ -2,11 +2,11 @@
 ghost use Rattle.std.specs.Prelude.{◌≡◌, ℕ, ◌<◌, ◌-◌, ◌*◌, ◌++◌, ◌∷◌, [], All, OnErr, OnOk, false, filter, find, length, option_copied, slice_get, true};
 ghost use Rattle.indexmap.specs.IndexMap.{keys};
 ghost use Rattle.rad_rows.specs.Blocks.{block_changed, block_mapped, block_without};
-ghost use Rattle.rad_rows.specs.Entries.{Ascends, EntryLives, IsGrouped, IsPlaced, IsSound, IsUpTo, all_rows, has_room_at, has_rows, is_at_key, key_of, on_blocks};
+ghost use Rattle.rad_rows.specs.Entries.{Ascends, IsGrouped, IsPlaced, IsSound, IsUpTo, all_rows, has_room_at, has_rows, is_at_key, key_of, on_blocks};
 ghost use Rattle.rad_rows.specs.Rows.{has_number};
 
 use crate::block::{BLOCK, Block};
-use crate::groups::{self, GROUP};
+use crate::bounds::Bounds;
 use crate::row::{Change, Row};
 use indexmap::IndexMap;
 use std::alloc::AllocError;
@@ -55,129 +55,112 @@ pub(crate) fn remove<T: Row<S>, S: Copy>(
     count - (before - after)
 }
 
-/// Changes the row of this number, and returns a bound, where `bound` was one before.
-pub(crate) fn change<T: Row<S>, S: Copy, C: Change<T>>(
+/// Changes the row of this number, and returns it as it was.
+pub(crate) fn change<T: Row<S> + Copy, S: Copy, C: Change<T>>(
     blocks: &mut IndexMap<u64, Block<T, S>>,
-    bounds: &mut Vec<u64>,
+    bounds: &mut Bounds,
     number: u64,
     by: &C,
-    bound: u64,
-) -> u64
+) -> Option<T>
     requires placed { All (IsPlaced T.number) blocks.old.entries }
     requires ascends { Ascends 0 (keys blocks.old) }
-    requires lives { All (EntryLives T.is_live bound) blocks.old.entries }
-    requires grouped { IsGrouped T.is_live bounds.old.items blocks.old.entries }
+    requires grouped { IsGrouped T.is_live 0 bounds.old blocks.old.entries }
+    ensures was { result ≡ find (has_number T.number number) (all_rows blocks.old.entries) }
     ensures entries { blocks.new.entries
         ≡ on_blocks (block_changed T.number number (C.to by.now)) blocks.old.entries }
-    ensures lives { All (EntryLives T.is_live result) blocks.new.entries }
-    ensures grouped { IsGrouped T.is_live bounds.new.items blocks.new.entries }
+    ensures grouped { IsGrouped T.is_live 0 bounds.new blocks.new.entries }
 {
     let key = number / BLOCK;
     let Some(at) = blocks.get_index_of(&key) else {
-        return bound;
+        return None;
     };
     let block = &mut blocks[at];
-    block.change(number, by);
-    let until = block.bound();
-    groups::lower(bounds, at / GROUP, until);
-    bound.min(until)
+    let was = block.change(number, by);
+    bounds.lower(at, block.bound());
+    was
 }
 
-/// Changes each row, and returns a bound.
+/// Changes each row. The next sweep finds the bounds anew.
 pub(crate) fn change_all<T: Row<S>, S: Copy, C: Change<T>>(
     blocks: &mut IndexMap<u64, Block<T, S>>,
-    bounds: &mut Vec<u64>,
+    bounds: &mut Bounds,
     by: &C,
-) -> u64
-    requires { IsGrouped T.is_live bounds.old.items blocks.old.entries }
+)
+    requires { IsGrouped T.is_live 0 bounds.old blocks.old.entries }
     ensures entries { blocks.new.entries
         ≡ on_blocks (block_mapped (C.to by.now)) blocks.old.entries }
-    ensures lives { All (EntryLives T.is_live result) blocks.new.entries }
-    ensures grouped { IsGrouped T.is_live bounds.new.items blocks.new.entries }
+    ensures grouped { IsGrouped T.is_live 0 bounds.new blocks.new.entries }
 {
-    let mut bound: u64 = u64::MAX;
     for at in 0..blocks.len() {
-        let block = &mut blocks[at];
-        block.change_all(by);
-        bound = bound.min(block.bound());
+        blocks[at].change_all(by);
     }
-    // The next sweep finds the bounds of the groups anew.
-    bounds.fill(0);
-    bound
+    bounds.forget();
 }
 
-/// Puts a row last, and returns a bound, where `bound` was one before.
+/// Puts a row last.
 pub(crate) fn push<T: Row<S>, S: Copy>(
     blocks: &mut IndexMap<u64, Block<T, S>>,
-    bounds: &mut Vec<u64>,
+    bounds: &mut Bounds,
     spans: &S,
     row: T,
-    bound: u64,
-) -> u64
-    requires sound { IsSound T.number T.is_live spans.now
-        bound (key_of (T.number row)) blocks.old.entries }
+)
+    requires sound { IsSound T.number spans.now (key_of (T.number row)) blocks.old.entries }
     requires room { has_room_at (key_of (T.number row)) blocks.old.entries ≡ true }
-    requires grouped { IsGrouped T.is_live bounds.old.items blocks.old.entries }
-    ensures sound { IsSound T.number T.is_live spans.now
-        result (key_of (T.number row)) blocks.new.entries }
+    requires grouped { IsGrouped T.is_live 0 bounds.old blocks.old.entries }
+    ensures sound { IsSound T.number spans.now (key_of (T.number row)) blocks.new.entries }
     ensures rows { all_rows blocks.new.entries ≡ all_rows blocks.old.entries ++ row ∷ [] }
-    ensures grouped { IsGrouped T.is_live bounds.new.items blocks.new.entries }
+    ensures grouped { IsGrouped T.is_live 0 bounds.new blocks.new.entries }
 {
-    let end = row.ends(spans);
     let at = blocks.len() - 1;
     let block = &mut blocks[at];
     block.push(row);
-    let until = block.bound();
-    groups::lower(bounds, at / GROUP, until);
-    bound.min(end)
+    bounds.lower(at, block.bound());
 }
 
 /// Makes the block of this key the last, with memory for one more row. If memory is refused, the blocks without rows are taken out,
 /// and it tries once more.
 pub(crate) fn make_room<T: Row<S>, S: Copy>(
     blocks: &mut IndexMap<u64, Block<T, S>>,
-    bounds: &mut Vec<u64>,
+    bounds: &mut Bounds,
     spans: &S,
     key: u64,
-    bound: u64,
 ) -> Result<(), AllocError>
-    requires sound { IsSound T.number T.is_live spans.now bound key blocks.old.entries }
-    requires grouped { IsGrouped T.is_live bounds.old.items blocks.old.entries }
-    ensures sound { IsSound T.number T.is_live spans.now bound key blocks.new.entries }
-    ensures grouped { IsGrouped T.is_live bounds.new.items blocks.new.entries }
+    requires sound { IsSound T.number spans.now key blocks.old.entries }
+    requires grouped { IsGrouped T.is_live 0 bounds.old blocks.old.entries }
+    ensures sound { IsSound T.number spans.now key blocks.new.entries }
+    ensures grouped { IsGrouped T.is_live 0 bounds.new blocks.new.entries }
     ensures rows { all_rows blocks.new.entries ≡ all_rows blocks.old.entries }
     ensures ready { OnOk result (has_room_at key blocks.new.entries ≡ true) }
 {
-    if try_room(blocks, bounds, spans, key, bound).is_ok() {
+    if try_room(blocks, bounds, spans, key).is_ok() {
         return Ok(());
     }
-    let _limit = compact(blocks, bounds, spans, key, bound, 0);
-    try_room(blocks, bounds, spans, key, bound)
+    let _limit = compact(blocks, bounds, spans, key, 0);
+    try_room(blocks, bounds, spans, key)
 }
 
 /// The same with one try, and nothing is taken out.
 pub(crate) fn try_room<T: Row<S>, S: Copy>(
     blocks: &mut IndexMap<u64, Block<T, S>>,
-    bounds: &mut Vec<u64>,
+    bounds: &mut Bounds,
     spans: &S,
     key: u64,
-    bound: u64,
 ) -> Result<(), AllocError>
-    requires sound { IsSound T.number T.is_live spans.now bound key blocks.old.entries }
-    requires grouped { IsGrouped T.is_live bounds.old.items blocks.old.entries }
-    ensures sound { IsSound T.number T.is_live spans.now bound key blocks.new.entries }
-    ensures grouped { IsGrouped T.is_live bounds.new.items blocks.new.entries }
+    requires sound { IsSound T.number spans.now key blocks.old.entries }
+    requires grouped { IsGrouped T.is_live 0 bounds.old blocks.old.entries }
+    ensures sound { IsSound T.number spans.now key blocks.new.entries }
+    ensures grouped { IsGrouped T.is_live 0 bounds.new blocks.new.entries }
     ensures rows { all_rows blocks.new.entries ≡ all_rows blocks.old.entries }
     ensures ready { OnOk result (has_room_at key blocks.new.entries ≡ true) }
     // After an error no block is new.
     ensures unready { OnErr result ((top : ℕ) →
         All (IsUpTo top) blocks.old.entries → All (IsUpTo top) blocks.new.entries) }
 {
-    groups::grow(bounds, blocks.len())?;
+    bounds.grow(blocks.len())?;
     if is_last(blocks, key) {
-        reserve(blocks, bounds, spans, key, bound)
+        reserve(blocks, bounds, spans, key)
     } else {
-        add(blocks, bounds, spans, key, bound)
+        add(blocks, bounds, spans, key)
     }
 }
 
@@ -195,18 +178,17 @@ fn is_last<T: Row<S>, S: Copy>(blocks: &IndexMap<u64, Block<T, S>>, key: u64) ->
 // Makes memory ready for one more row in the last block, which is that of this key.
 fn reserve<T: Row<S>, S: Copy>(
     blocks: &mut IndexMap<u64, Block<T, S>>,
-    bounds: &[u64],
+    bounds: &Bounds,
     spans: &S,
     key: u64,
-    bound: u64,
 ) -> Result<(), AllocError>
-    requires sound { IsSound T.number T.is_live spans.now bound key blocks.old.entries }
+    requires sound { IsSound T.number spans.now key blocks.old.entries }
     requires last { is_at_key key
         (slice_get blocks.old.entries (length blocks.old.entries - 1)) ≡ true }
-    requires grouped { IsGrouped T.is_live bounds.now blocks.old.entries }
-    ensures { IsSound T.number T.is_live spans.now bound key blocks.new.entries
+    requires grouped { IsGrouped T.is_live 0 bounds.now blocks.old.entries }
+    ensures { IsSound T.number spans.now key blocks.new.entries
         × (all_rows blocks.new.entries ≡ all_rows blocks.old.entries)
-        × IsGrouped T.is_live bounds.now blocks.new.entries
+        × IsGrouped T.is_live 0 bounds.now blocks.new.entries
         × OnOk result (has_room_at key blocks.new.entries ≡ true) }
 {
     let at = blocks.len() - 1;
@@ -217,19 +199,18 @@ fn reserve<T: Row<S>, S: Copy>(
 // Puts an empty block of this key last.
 fn add<T: Row<S>, S: Copy>(
     blocks: &mut IndexMap<u64, Block<T, S>>,
-    bounds: &[u64],
+    bounds: &Bounds,
     spans: &S,
     key: u64,
-    bound: u64,
 ) -> Result<(), AllocError>
-    requires sound { IsSound T.number T.is_live spans.now bound key blocks.old.entries }
+    requires sound { IsSound T.number spans.now key blocks.old.entries }
     requires last { is_at_key key
         (slice_get blocks.old.entries (length blocks.old.entries - 1)) ≡ false }
-    requires grouped { IsGrouped T.is_live bounds.now blocks.old.entries }
+    requires grouped { IsGrouped T.is_live 0 bounds.now blocks.old.entries }
     requires enough { length blocks.old.entries < 64 * length bounds.now }
-    ensures { IsSound T.number T.is_live spans.now bound key blocks.new.entries
+    ensures { IsSound T.number spans.now key blocks.new.entries
         × (all_rows blocks.new.entries ≡ all_rows blocks.old.entries)
-        × IsGrouped T.is_live bounds.now blocks.new.entries
+        × IsGrouped T.is_live 0 bounds.now blocks.new.entries
         × OnOk result (has_room_at key blocks.new.entries ≡ true)
         × OnErr result (blocks.new.entries ≡ blocks.old.entries) }
 {
@@ -246,24 +227,23 @@ fn add<T: Row<S>, S: Copy>(
 /// there are, and no walk frees more than a ninth of them.
 pub(crate) fn compact<T: Row<S>, S: Copy>(
     blocks: &mut IndexMap<u64, Block<T, S>>,
-    bounds: &mut Vec<u64>,
+    bounds: &mut Bounds,
     spans: &S,
     key: u64,
-    bound: u64,
     limit: usize,
 ) -> usize
-    requires sound { IsSound T.number T.is_live spans.now bound key blocks.old.entries }
-    requires grouped { IsGrouped T.is_live bounds.old.items blocks.old.entries }
-    ensures sound { IsSound T.number T.is_live spans.now bound key blocks.new.entries }
-    ensures grouped { IsGrouped T.is_live bounds.new.items blocks.new.entries }
+    requires sound { IsSound T.number spans.now key blocks.old.entries }
+    requires grouped { IsGrouped T.is_live 0 bounds.old blocks.old.entries }
+    ensures sound { IsSound T.number spans.now key blocks.new.entries }
+    ensures grouped { IsGrouped T.is_live 0 bounds.new blocks.new.entries }
     ensures rows { all_rows blocks.new.entries ≡ all_rows blocks.old.entries }
 {
     if blocks.len() <= limit {
         return limit;
     }
     keep_with_rows(blocks);
-    // Blocks have other places now. The next sweep finds the bounds of the groups anew.
-    bounds.fill(0);
+    // Blocks have other places now. The next sweep finds the bounds anew.
+    bounds.forget();
     let len = blocks.len();
     len.saturating_add(len / 8).saturating_add(BLOCKS_MIN)
 }

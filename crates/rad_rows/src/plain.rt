@@ -94,46 +94,48 @@ fn position<T: Row<S>, S>(rows: &[T], number: u64) -> Option<usize>
     None
 }
 
-/// Changes the row of this number, and returns a bound, where `bound` was one before.
-pub(crate) fn change<T: Row<S>, S, C: Change<T>>(
+/// Changes the row of this number, and returns it as it was. The bound stays one.
+pub(crate) fn change<T: Row<S> + Copy, S, C: Change<T>>(
     rows: &mut Vec<T>,
     spans: &S,
+    bound: &mut u64,
     number: u64,
     by: &C,
-    bound: u64,
-) -> u64
-    requires { All (LivesUntil T.is_live spans.now bound) rows.old.items }
+) -> Option<T>
+    requires { All (LivesUntil T.is_live spans.now bound.old) rows.old.items }
+    ensures was { result ≡ find (has_number T.number number) rows.old.items }
     ensures items { rows.new.items
         ≡ map (change_row T.number number (C.to by.now)) rows.old.items }
-    ensures bound { All (LivesUntil T.is_live spans.now result) rows.new.items }
+    ensures bound { All (LivesUntil T.is_live spans.now bound.new) rows.new.items }
     ensures len { vec_len rows.new ≡ vec_len rows.old }
     ensures capacity { vec_capacity rows.new ≡ vec_capacity rows.old }
 {
-    let mut bound = bound;
+    let was = find(rows, number).copied();
     for row in rows.iter_mut() {
-        bound = change_one(row, spans, number, by, bound);
+        change_one(row, spans, bound, number, by);
     }
-    bound
+    was
 }
 
-// Changes the row if it has this number, and returns a bound of it that is no later than `bound`, which was one before.
+// Changes the row if it has this number. The bound stays one, and comes no later.
+#[inline(always)]
 fn change_one<T: Row<S>, S, C: Change<T>>(
     row: &mut T,
     spans: &S,
+    bound: &mut u64,
     number: u64,
     by: &C,
-    bound: u64,
-) -> u64
-    requires { LivesUntil T.is_live spans.now bound row.old }
+)
+    requires { LivesUntil T.is_live spans.now bound.old row.old }
     ensures row { row.new ≡ change_row T.number number (C.to by.now) row.old }
-    ensures bound { LivesUntil T.is_live spans.now result row.new }
-    ensures earlier { result ≤ bound }
+    ensures bound { LivesUntil T.is_live spans.now bound.new row.new }
+    ensures earlier { bound.new ≤ bound.old }
 {
     if row.number() != number {
-        return bound;
+        return;
     }
     by.change(row);
-    bound.min(row.ends(spans))
+    *bound = (*bound).min(row.ends(spans));
 }
 
 /// Changes each row, and returns a bound.

@@ -5,7 +5,8 @@ ghost use Rattle.rad_rows.specs.Rows.{AreSame, IsRising, Tells, change_row, has_
 
 use crate::block::{BLOCK, Block};
 use crate::blocks::{self, BLOCKS_MIN};
-use crate::groups;
+use crate::bounds::Bounds;
+use crate::expiry;
 use crate::iter::Iter;
 use crate::live::Live;
 use crate::row::{Change, Row, Tally};
@@ -21,16 +22,13 @@ use std::marker::Model;
 pub struct Rows<T: Row<S>, S: Copy> {
     // Each block under the number of each of its rows, divided by `BLOCK`.
     blocks: IndexMap<u64, Block<T, S>>,
-    // A bound of each `GROUP` neighbouring blocks.
-    bounds: Vec<u64>,
+    bounds: Bounds,
     // With more blocks than this, some are looked for that have no row.
     limit: usize,
     spans: S,
     // The last number that was given, or 0.
     last: u64,
     count: usize,
-    // Each row lives before this moment.
-    bound: u64,
     // Whether memory was made ready since the last row came.
     ready: bool,
 }
@@ -50,7 +48,7 @@ impl<T: Row<S>, S: Copy> Model for Rows<T, S> {
     } };
 
     ghost invariant = { λ rows. IsConsistent T.number T.is_live
-        rows.blocks.entries rows.bounds.items rows.spans rows.last rows.count rows.bound rows.ready };
+        rows.blocks.entries rows.bounds rows.spans rows.last rows.count rows.ready };
 }
 
 impl<T: Row<S>, S: Copy> Rows<T, S> {
@@ -63,12 +61,11 @@ impl<T: Row<S>, S: Copy> Rows<T, S> {
     {
         Rows {
             blocks: IndexMap::new(alloc),
-            bounds: Vec::new(alloc),
+            bounds: Bounds::open(alloc),
             limit: BLOCKS_MIN,
             spans,
             last: 0,
             count: 0,
-            bound: u64::MAX,
             ready: false,
         }
     }
@@ -119,11 +116,8 @@ impl<T: Row<S>, S: Copy> Rows<T, S> {
         requires { now ≤ moment_max }
         ensures { result ≡ length (filter (T.is_live self.now.spans now) self.now.rows) }
     {
-        if now < self.bound {
-            return self.count;
-        }
         let mut live = Live { count: self.count };
-        groups::tell_dead(&self.blocks, &self.bounds, &self.spans, &mut live, now);
+        expiry::tell_dead(&self.blocks, &self.bounds, &self.spans, &mut live, now);
         live.count
     }
 
@@ -145,11 +139,10 @@ impl<T: Row<S>, S: Copy> Rows<T, S> {
             bounds,
             limit,
             spans,
-            bound,
             ..
         } = self;
-        *limit = blocks::compact(blocks, bounds, spans, key, *bound, *limit);
-        blocks::make_room(blocks, bounds, spans, key, *bound)?;
+        *limit = blocks::compact(blocks, bounds, spans, key, *limit);
+        blocks::make_room(blocks, bounds, spans, key)?;
         self.ready = true;
         Ok(())
     }
@@ -164,16 +157,9 @@ impl<T: Row<S>, S: Copy> Rows<T, S> {
         ensures room { self.new.has_room ≡ false }
     {
         let number = row.number();
-        let bound = blocks::push(
-            &mut self.blocks,
-            &mut self.bounds,
-            &self.spans,
-            row,
-            self.bound,
-        );
+        blocks::push(&mut self.blocks, &mut self.bounds, &self.spans, row);
         self.last = number;
         self.count += 1;
-        self.bound = bound;
         self.ready = false;
     }
 
@@ -209,10 +195,9 @@ impl<T: Row<S>, S: Copy> Rows<T, S> {
             blocks,
             bounds,
             spans,
-            bound,
             ..
         } = self;
-        blocks::try_room(blocks, bounds, spans, number / BLOCK, *bound)?;
+        blocks::try_room(blocks, bounds, spans, number / BLOCK)?;
         self.last = number - 1;
         self.ready = true;
         Ok(())
@@ -229,17 +214,19 @@ impl<T: Row<S>, S: Copy> Rows<T, S> {
         self.count = count;
     }
 
-    /// Changes the row of this number, which keeps its number. With a number of no row nothing changes.
-    pub fn change<C: Change<T>>(&mut self, number: u64, by: &C)
+    /// Changes the row of this number, which keeps its number, and returns it as it was. With a number of no row nothing changes.
+    pub fn change<C: Change<T>>(&mut self, number: u64, by: &C) -> Option<T>
+    where
+        T: Copy,
         requires { (row : T) → T.number (C.to by.now row) ≡ T.number row }
+        ensures was { result ≡ find (has_number T.number number) self.old.rows }
         ensures rows { self.new.rows
             ≡ map (change_row T.number number (C.to by.now)) self.old.rows }
         ensures last { self.new.last ≡ self.old.last }
         ensures spans { self.new.spans ≡ self.old.spans }
         ensures room { self.new.has_room ≡ self.old.has_room }
     {
-        let bound = blocks::change(&mut self.blocks, &mut self.bounds, number, by, self.bound);
-        self.bound = bound;
+        blocks::change(&mut self.blocks, &mut self.bounds, number, by)
     }
 
     /// Changes each row, which keeps its number. It goes over every row.
@@ -250,8 +237,7 @@ impl<T: Row<S>, S: Copy> Rows<T, S> {
         ensures spans { self.new.spans ≡ self.old.spans }
         ensures room { self.new.has_room ≡ self.old.has_room }
     {
-        let bound = blocks::change_all(&mut self.blocks, &mut self.bounds, by);
-        self.bound = bound;
+        blocks::change_all(&mut self.blocks, &mut self.bounds, by);
     }
 
     /// Tells the tally of each row that isn't live at a moment, oldest first. The rows stay.
@@ -259,10 +245,7 @@ impl<T: Row<S>, S: Copy> Rows<T, S> {
         requires { now ≤ moment_max }
         ensures { Tells G.told T.is_live self.now.spans now self.now.rows tally.old tally.new }
     {
-        if now < self.bound {
-            return;
-        }
-        groups::tell_dead(&self.blocks, &self.bounds, &self.spans, tally, now);
+        expiry::tell_dead(&self.blocks, &self.bounds, &self.spans, tally, now);
     }
 
     /// Removes the rows that aren't live at a moment, and tells the tally of each, oldest first.
@@ -275,9 +258,6 @@ impl<T: Row<S>, S: Copy> Rows<T, S> {
         ensures told { Tells G.told T.is_live self.old.spans now
             self.old.rows tally.old tally.new }
     {
-        if now < self.bound {
-            return;
-        }
         let Rows {
             blocks,
             bounds,
@@ -285,9 +265,7 @@ impl<T: Row<S>, S: Copy> Rows<T, S> {
             count,
             ..
         } = self;
-        let swept = groups::sweep(blocks, bounds, spans, tally, now, *count);
-        self.count = swept.count;
-        self.bound = swept.bound;
+        *count = expiry::sweep(blocks, bounds, spans, tally, now, *count);
     }
 
     /// Equal rows, with the same last number. No memory is ready for one more.

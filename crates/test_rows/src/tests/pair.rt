@@ -61,13 +61,14 @@ impl Pair {
     }
 
     fn change(&mut self, number: u64, now: u64) -> bool {
-        self.rows.change(number, &Renewal { made: now });
+        let was = self.rows.change(number, &Renewal { made: now });
+        let is_same = was == find(&self.plain, number);
         for entry in self.plain.iter_mut() {
             if entry.number == number {
                 entry.made = now;
             }
         }
-        true
+        is_same
     }
 
     fn change_all(&mut self, by: u64) -> bool {

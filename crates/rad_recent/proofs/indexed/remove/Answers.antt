@@ -1,27 +1,30 @@
-use Rattle.std.proofs.Common.{rules, ◌≡◌, false, ◌∙◌, ap, sym, subst}
-use Rattle.std.proofs.lemmas.List.Elements.{All-filter}
-use Rattle.std.specs.List.{All}
-use Rattle.rad_rows.specs.Rows.{has_other}
-use Rattle.rad_recent.specs.Index.{IsIndexed, replies_of}
-use Rattle.rad_recent.specs.Recent.{same_key}
-use Rattle.rad_recent.proofs.NumberedLemmas.{gone, number_of, without_none, without_number}
+use Rattle.std.proofs.Common.{◌≡◌, ◌∙◌, filter, refl, sym}
+use Rattle.rad_recent.proofs.HoldLemmas.{holds_removed}
+use Rattle.rad_recent.proofs.NumberedLemmas.{has_other_key, none_removed, number_removed, replies_left}
 use Rattle.rad_recent.proofs.indexed.remove.Goals as goal
 
+some_left : (c : goal.After-remove) → c.remove.new.self.rows ≡ filter (has_other_key c.args.key.now) c.args.rows.now.rows
+some_left c =
+    c.remove.ensures.rows
+    ∙ number_removed c.args.index.now.map.entries c.args.key.now c.args.rows.now.rows c.in-Some.number (sym c.in-Some.ensures.before)
+    c.requires.indexed
+
+none_left : (c : goal.In_default) → c.args.rows.now.rows ≡ filter (has_other_key c.args.key.now) c.args.rows.now.rows
+none_left c =
+    none_removed c.args.index.now.map.entries c.args.key.now c.args.rows.now.rows (sym c.in_default.ensures.before) c.requires.indexed
+
 pub returns-in-Some-clause-holds : goal.returns-in-Some-clause-holds
-returns-in-Some-clause-holds c = record {
-  indexed = subst (All (IsIndexed c.args.index.now.map.entries)) (sym c.remove.ensures.rows) (All-filter (has_other number_of c.in-Some.number) (IsIndexed c.args.index.now.map.entries) c.args.rows.now.rows c.requires.indexed);
-  given = λ key number at. search rules;
-  room = λ r. c.remove.ensures.room ∙ c.requires.room r;
-  next = search rules;
-  known = c.requires.known;
-}
+returns-in-Some-clause-holds c =
+    holds_removed c.args.key.now c.args.rows.now c.remove.new.self c.args.index.now c.forget.new.index
+    (some_left c) c.remove.ensures.last c.remove.ensures.room c.forget.ensures.forgotten c.requires
 
 pub returns-in-Some-clause-rows : goal.returns-in-Some-clause-rows
-returns-in-Some-clause-rows c = ap replies_of c.remove.ensures.rows ∙ without_number c.args.index.now.map.entries c.args.key.now c.in-Some.number c.args.rows.now.rows (sym c.in-Some.ensures) c.requires.indexed
+returns-in-Some-clause-rows c = replies_left c.args.key.now c.args.rows.now.rows c.remove.new.self.rows (some_left c)
 
-pub returns-in-Some-clause-gone : goal.returns-in-Some-clause-gone
-returns-in-Some-clause-gone c =
-    subst (All (λ row. same_key c.args.key.now row.kept.key ≡ false)) (sym c.remove.ensures.rows) (gone c.args.index.now.map.entries c.args.key.now c.in-Some.number c.args.rows.now.rows (sym c.in-Some.ensures) c.requires.indexed)
+pub returns-in_default-clause-holds : goal.returns-in_default-clause-holds
+returns-in_default-clause-holds c =
+    holds_removed c.args.key.now c.args.rows.now c.args.rows.now c.args.index.now c.forget.new.index
+    (none_left c) refl refl c.forget.ensures.forgotten c.requires
 
 pub returns-in_default-clause-rows : goal.returns-in_default-clause-rows
-returns-in_default-clause-rows c = sym (without_none c.args.index.now.map.entries c.args.key.now c.args.rows.now.rows (sym c.in_default.ensures) c.requires.indexed)
+returns-in_default-clause-rows c = replies_left c.args.key.now c.args.rows.now.rows c.args.rows.now.rows (none_left c)

@@ -3,15 +3,23 @@ use Rattle.indexmap.proofs.CallerLemmas.{insert_entry-new}
 use Rattle.rad_rows.specs.Blocks.{SeenBlock}
 use Rattle.rad_rows.specs.Entries.{IsGrouped, IsSound, all_rows, has_room_at}
 use Rattle.rad_rows.proofs.GroupLemmas.{grouped_add}
-use Rattle.rad_rows.proofs.LastLemmas.{key_is_new, sound_add}
+use Rattle.rad_rows.proofs.LastLemmas.{key_is_new, room_add, rows_add, sound_add}
 use Rattle.rad_rows.proofs.blocks.add.Goals as goal
 
 pub returns-in-Ok : goal.returns-in-Ok
 returns-in-Ok g c =
     let es = c.args.blocks.now.entries in
+    let key = c.args.key in
     let b = c.in_ok-block.block in
-    let new = key_is_new 0 c.args.key es c.requires.sound.ascends c.requires.sound.limited (omega arith) c.requires.last in
-    let is : c.insert.new.self.entries ≡ es ++ (c.args.key, b) ∷ [] = c.in-Ok.ensures.entries ∙ insert_entry-new nat_eq c.args.blocks.now c.args.key b new.0 in
-    subst (λ (l : List (ℕ × SeenBlock g.row.T.Denot g.row.S.Denot)). IsSound g.T.Row.number g.T.Row.is_live c.args.spans.now c.args.bound c.args.key l × (all_rows l ≡ all_rows es) × IsGrouped g.T.Row.is_live c.args.bounds.now l × (has_room_at c.args.key l ≡ true) × Unit {0}) (sym is)
-    (let sound = sound_add g.T.Row.number g.T.Row.is_live c.args.spans.now c.args.bound c.args.key es b c.requires.sound (new.1 b) c.in_ok-block.ensures.rows c.in_ok-block.ensures.spans c.in_ok-block.ensures.room in
-    (sound.0, sound.1, grouped_add g.T.Row.is_live c.args.bounds.now es c.args.key b c.requires.enough c.in_ok-block.ensures.rows c.requires.grouped, sound.2, tt))
+    let none = c.in_ok-block.ensures.rows in
+    let new = key_is_new 0 key es c.requires.sound.ascends c.requires.sound.limited (omega arith) c.requires.last in
+    let is : c.insert.new.self.entries ≡ es ++ (key, b) ∷ [] =
+    c.in-Ok.ensures.entries ∙ insert_entry-new nat_eq c.args.blocks.now key b new.0 in
+    subst (λ (l : List (ℕ × SeenBlock g.row.T.Denot g.row.S.Denot)). IsSound g.T.Row.number c.args.spans.now key l
+    × (all_rows l ≡ all_rows es) × IsGrouped g.T.Row.is_live 0 c.args.bounds.now l × (has_room_at key l ≡ true) × Unit {0}) (sym is) (
+      sound_add g.T.Row.number c.args.spans.now key es b c.requires.sound (new.1 b) none c.in_ok-block.ensures.spans,
+      rows_add key es b none,
+      grouped_add g.T.Row.is_live c.args.bounds.now es key b c.requires.enough none c.requires.grouped,
+      room_add key es b none c.in_ok-block.ensures.room,
+      tt,
+    )

@@ -1,16 +1,17 @@
-use Rattle.std.proofs.Common.{subst, sym}
-use Rattle.rad_rows.specs.Entries.{IsGrouped}
 use Rattle.rad_rows.proofs.GroupLemmas.{grouped_more}
 use Rattle.rad_rows.proofs.blocks.try_room.Goals as goal
 
 pub returns-in_err-grow-clause-grouped : goal.returns-in_err-grow-clause-grouped
 returns-in_err-grow-clause-grouped g c =
-    grouped_more g.T.Row.is_live c.args.bounds.now.items c.grow.new.bounds.items c.args.blocks.now.entries c.grow.ensures.longer c.grow.ensures.same c.requires.grouped
+    grouped_more g.T.Row.is_live c.args.bounds.now c.grow.new.self c.args.blocks.now.entries c.grow.ensures.longer c.grow.ensures.same
+    c.requires.grouped
 
 pub reserve-requires-clause-grouped : goal.reserve-requires-clause-grouped
-reserve-requires-clause-grouped g c = subst (λ bounds. IsGrouped g.T.Row.is_live bounds c.args.blocks.now.entries) (sym c.deref.ensures.value)
-    (grouped_more g.T.Row.is_live c.args.bounds.now.items c.grow.new.bounds.items c.args.blocks.now.entries c.grow.ensures.longer c.grow.ensures.same c.requires.grouped)
+reserve-requires-clause-grouped g c =
+    grouped_more g.T.Row.is_live c.args.bounds.now c.grow.new.self c.args.blocks.now.entries c.grow.ensures.longer c.grow.ensures.same
+    c.requires.grouped
 
 pub add-requires-clause-grouped : goal.add-requires-clause-grouped
-add-requires-clause-grouped g c = subst (λ bounds. IsGrouped g.T.Row.is_live bounds c.args.blocks.now.entries) (sym c.deref-else-is_last.ensures.value)
-    (grouped_more g.T.Row.is_live c.args.bounds.now.items c.grow.new.bounds.items c.args.blocks.now.entries c.grow.ensures.longer c.grow.ensures.same c.requires.grouped)
+add-requires-clause-grouped g c =
+    grouped_more g.T.Row.is_live c.args.bounds.now c.grow.new.self c.args.blocks.now.entries c.grow.ensures.longer c.grow.ensures.same
+    c.requires.grouped

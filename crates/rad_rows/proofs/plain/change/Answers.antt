@@ -6,8 +6,11 @@ use Rattle.rad_rows.proofs.BlockLemmas.{lives_set}
 use Rattle.rad_rows.proofs.plain.change.Goals as goal
 
 pub loop-row-preserved : goal.loop-row-preserved
-loop-row-preserved g c = record {
-  items = grind (arith, common_steps, map_over_more (change_row g.T.Row.number c.args.number (g.C.Change.to c.args.by.now)));
-  bound = lives_set g.T.Row.is_live c.args.spans.now c.loop-row.bound c.change_one-bound.result c.loop-row.row-items c.loop-row.row-index c.change_one-bound.new.row
-      c.change_one-bound.ensures.earlier c.loop-row.invariant.bound c.change_one-bound.ensures.bound;
-}
+loop-row-preserved g c =
+    let xs = c.loop-row.row-items in
+    let i = c.loop-row.row-index in
+    record {
+      items = grind (arith, common_steps, map_over_more (change_row g.T.Row.number c.args.number (g.C.Change.to c.args.by.now)));
+      bound = lives_set g.T.Row.is_live c.args.spans.now c.loop-row.bound c.change_one.new.bound xs i c.change_one.new.row
+          c.change_one.ensures.earlier c.loop-row.invariant.bound c.change_one.ensures.bound;
+    }

@@ -17,6 +17,7 @@ loop-row-preserved g c =
     record {
       items = grind (arith, common_steps, map_over_more (g.C.Change.to c.args.by.now));
       bound = subst (All (LivesUntil live spans c.min-bound.result)) (sym (take_more_set xs i row (omega arith)))
-          (lives_more live spans c.loop-row.bound c.ends.result c.min-bound.result (take i xs) row (omega arith) (omega arith) c.loop-row.invariant.bound
+          (lives_more live spans c.loop-row.bound c.ends.result c.min-bound.result (take i xs) row (omega arith) (omega arith)
+          c.loop-row.invariant.bound
           (lives_to_end live spans c.ends.result row c.ends.ensures));
     }

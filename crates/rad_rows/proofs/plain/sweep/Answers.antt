@@ -19,12 +19,16 @@ loop-at-preserved g c =
     let ends = c.ends-ends.result in
     elim c.if-now-ends.branch [
       | goal.then-now-ends w ↦ rw (w.rows-is, w.kept-is, w.tally-is, w.bound-is) (record {
-        swept = swept_stays told live spans now old xs ys w.swap.new.self.items k i tally bound ends w.min-bound.result row c.loop-at.invariant.swept (omega arith) c.index-row.ensures c.requires c.ends-ends.ensures
+        swept =
+            swept_stays told live spans now old xs ys w.swap.new.self.items k i tally bound ends w.min-bound.result row
+            c.loop-at.invariant.swept (omega arith) c.index-row.ensures c.requires c.ends-ends.ensures
             w.if-now-ends.true (omega arith) (omega arith) w.swap.ensures.by_index;
         capacity = w.swap.ensures.capacity ∙ c.loop-at.invariant.capacity;
       })
       | goal.else-now-ends w ↦ rw (w.rows-is, w.kept-is, w.tally-is, w.bound-is) (record {
-        swept = swept_goes told live spans now old xs ys k i tally w.leave.new.self bound ends row c.loop-at.invariant.swept (omega arith) c.index-row.ensures c.requires c.ends-ends.ensures
+        swept =
+            swept_goes told live spans now old xs ys k i tally w.leave.new.self bound ends row c.loop-at.invariant.swept (omega arith)
+            c.index-row.ensures c.requires c.ends-ends.ensures
             w.if-now-ends.false w.leave.ensures;
         capacity = c.loop-at.invariant.capacity;
       })

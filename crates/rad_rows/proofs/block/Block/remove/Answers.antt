@@ -5,4 +5,5 @@ use Rattle.rad_rows.proofs.block.Block.remove.Goals as goal
 
 pub invariant_of-self : goal.invariant_of-self
 invariant_of-self g c =
-    rw c.remove.ensures.items (All-filter (has_other g.T.Row.number c.args.number) (LivesUntil g.T.Row.is_live c.self.inside.spans c.self.inside.bound) c.self.inside.rows.items c.self.invariant)
+    rw c.remove.ensures.items (All-filter (has_other g.T.Row.number c.args.number)
+    (LivesUntil g.T.Row.is_live c.self.inside.spans c.self.inside.bound) c.self.inside.rows.items c.self.invariant)

@@ -6,10 +6,17 @@ use Rattle.rad_rows.proofs.rows.Rows.change.Goals as goal
 
 pub invariant_of-self : goal.invariant_of-self
 invariant_of-self g c =
+    let number = g.T.Row.number in
     let to = g.C.Change.to c.args.by.now in
-    consistent_mapped g.T.Row.number g.T.Row.is_live c.self.inside.spans c.self.inside.last c.self.inside.count c.self.inside.bound c.change-bound.result c.self.inside.bounds.items c.change-bound.new.bounds.items c.self.inside.ready
-    (change_row g.T.Row.number c.args.number to) c.self.inside.blocks.entries c.change-bound.new.blocks.entries (changed_number g.T.Row.number c.args.number to c.requires) c.self.invariant c.change-bound.ensures.entries c.change-bound.ensures.lives c.change-bound.ensures.grouped
+    let old = c.self.inside in
+    consistent_mapped number g.T.Row.is_live old.spans old.last old.count old.bounds c.change.new.bounds old.ready
+    (change_row number c.args.number to) old.blocks.entries c.change.new.blocks.entries (changed_number number c.args.number to c.requires)
+    c.self.invariant c.change.ensures.entries c.change.ensures.grouped
+
+pub returns-clause-was : goal.returns-clause-was
+returns-clause-was g c = rw (← c.self.view_is) c.change.ensures.was
 
 pub returns-clause-rows : goal.returns-clause-rows
 returns-clause-rows g c =
-    rw (← c.self.view_is) (ap all_rows c.change-bound.ensures.entries ∙ rows_mapped (change_row g.T.Row.number c.args.number (g.C.Change.to c.args.by.now)) c.self.inside.blocks.entries)
+    rw (← c.self.view_is) (ap all_rows c.change.ensures.entries
+    ∙ rows_mapped (change_row g.T.Row.number c.args.number (g.C.Change.to c.args.by.now)) c.self.inside.blocks.entries)

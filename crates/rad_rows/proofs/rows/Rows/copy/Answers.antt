@@ -20,7 +20,9 @@ loop-row-init g c =
     }
 
 pub restore-requires : goal.restore-requires
-restore-requires g c = rw (c.in_ok-copy.ensures) (first_after g.T.Row.number c.loop-row.copy.last c.in-Some.row.now c.next.new.self c.loop-row.rest c.in-Some.ensures.steps c.loop-row.invariant.after)
+restore-requires g c =
+    rw (c.in_ok-copy.ensures) (first_after g.T.Row.number c.loop-row.copy.last c.in-Some.row.now c.next.new.self c.loop-row.rest
+    c.in-Some.ensures.steps c.loop-row.invariant.after)
 
 pub loop-row-preserved : goal.loop-row-preserved
 loop-row-preserved g c =
@@ -29,10 +31,18 @@ loop-row-preserved g c =
     let rows = c.in_ok-restore.ensures.rows ∙ ap (λ row. c.loop-row.copy.rows ++ row ∷ []) c.in_ok-copy.ensures in
     let last = c.in_ok-restore.ensures.last ∙ ap number c.in_ok-copy.ensures in
     record {
-      rows = moved c.in-Some.row.now c.loop-row.copy.rows c.restore.new.self.rows c.next.new.self c.loop-row.rest c.args.self.now.rows is c.loop-row.invariant.rows rows;
+      rows = moved c.in-Some.row.now c.loop-row.copy.rows c.restore.new.self.rows c.next.new.self c.loop-row.rest c.args.self.now.rows is
+          c.loop-row.invariant.rows rows;
       spans = c.in_ok-restore.ensures.spans ∙ c.loop-row.invariant.spans;
-      after = subst (λ n. All (IsAfter number n) c.next.new.self) (sym last) (rest_after number c.in-Some.row.now c.next.new.self c.loop-row.rest is c.loop-row.invariant.rising);
+      after = subst (λ n. All (IsAfter number n) c.next.new.self) (sym last)
+          (rest_after number c.in-Some.row.now c.next.new.self c.loop-row.rest is c.loop-row.invariant.rising);
       given = given_rest number c.args.self.now.last c.in-Some.row.now c.next.new.self c.loop-row.rest is c.loop-row.invariant.given;
-      last = omega (arith, last, first_given number c.args.self.now.last c.in-Some.row.now c.next.new.self c.loop-row.rest is c.loop-row.invariant.given);
+      last =
+          omega (
+            arith,
+            last,
+            first_given number c.args.self.now.last c.in-Some.row.now c.next.new.self c.loop-row.rest is
+                c.loop-row.invariant.given,
+          );
       rising = rising_rest number c.in-Some.row.now c.next.new.self c.loop-row.rest is c.loop-row.invariant.rising;
     }

@@ -1,21 +1,16 @@
-use Rattle.std.proofs.Common.{◌∙◌, ap, sym}
+use Rattle.std.proofs.Common.{◌∙◌, ap}
 use Rattle.rad_rows.specs.Entries.{all_rows}
-use Rattle.rad_rows.proofs.RowsLemmas.{consistent_cut, none_told, rows_cut, rows_kept}
+use Rattle.rad_rows.proofs.RowsLemmas.{consistent_cut, rows_cut}
 use Rattle.rad_rows.proofs.rows.Rows.expire.Goals as goal
-
-pub returns-then-now-self-clause-rows : goal.returns-then-now-self-clause-rows
-returns-then-now-self-clause-rows g c = rw (← c.self.view_is)
-    (sym (rows_kept g.T.Row.is_live c.self.inside.spans c.self.inside.bound c.args.now c.self.inside.blocks.entries c.if-now-self.true c.requires c.self.invariant.sound.spanned c.self.invariant.sound.lives))
-
-pub returns-then-now-self-clause-told : goal.returns-then-now-self-clause-told
-returns-then-now-self-clause-told g c = rw (← c.self.view_is)
-    (none_told g.G.Tally.told g.T.Row.is_live c.self.inside.spans c.self.inside.bound c.args.now c.self.inside.blocks.entries c.args.tally.now c.if-now-self.true c.requires c.self.invariant.sound.spanned c.self.invariant.sound.lives)
 
 pub invariant_of-self : goal.invariant_of-self
 invariant_of-self g c =
-    consistent_cut g.T.Row.number g.T.Row.is_live c.self.inside.spans c.args.now c.self.inside.last c.self.inside.count c.sweep-swept.result.count c.self.inside.bound c.sweep-swept.result.bound c.self.inside.bounds.items c.sweep-swept.new.bounds.items c.self.inside.ready
-    c.self.inside.blocks.entries c.sweep-swept.new.blocks.entries c.self.invariant c.sweep-swept.ensures.entries c.sweep-swept.ensures.count c.sweep-swept.ensures.bound c.sweep-swept.ensures.grouped
+    let old = c.self.inside in
+    consistent_cut g.T.Row.number g.T.Row.is_live old.spans c.args.now old.last old.count c.sweep.result old.bounds c.sweep.new.bounds
+    old.ready
+    old.blocks.entries c.sweep.new.blocks.entries c.self.invariant c.sweep.ensures.entries c.sweep.ensures.count c.sweep.ensures.grouped
 
 pub returns-clause-rows : goal.returns-clause-rows
-returns-clause-rows g c = rw (← c.self.view_is)
-    (ap all_rows c.sweep-swept.ensures.entries ∙ rows_cut g.T.Row.is_live c.self.inside.spans c.args.now c.self.inside.blocks.entries c.self.invariant.sound.spanned)
+returns-clause-rows g c =
+    rw (← c.self.view_is) (ap all_rows c.sweep.ensures.entries
+    ∙ rows_cut g.T.Row.is_live c.self.inside.spans c.args.now c.self.inside.blocks.entries c.self.invariant.sound.spanned)

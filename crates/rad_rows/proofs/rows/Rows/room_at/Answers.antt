@@ -13,7 +13,6 @@ invariant_of-self g c =
         placed = known.sound.placed;
         ascends = known.sound.ascends;
         limited = known.unready (key_of (c.self.inside.last + 1)) before.sound.limited;
-        lives = known.sound.lives;
       };
       grouped = known.grouped;
       count = before.count ∙ ap length (sym known.rows);
