@@ -2,6 +2,7 @@ mod make;
 mod replay;
 mod streams;
 mod text;
+mod transcripts;
 
 use std::alloc::AllocError;
 use std::process::Abort;

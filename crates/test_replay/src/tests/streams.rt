@@ -1,6 +1,7 @@
 //! Replays over readers and writers that move few octets, or fail.
 
-use crate::tests::replay::{GATEWAY, SECOND, SECOND_REPLY, START, START_REPLY, ends};
+use crate::tests::replay::ends;
+use crate::tests::transcripts::{GATEWAY, SECOND, SECOND_REPLY, START, START_REPLY};
 use crate::tests::{are_octets, concat, holds, is_number};
 use rad_replay::{RunFault, run_replay};
 use std::alloc::Global;
