@@ -26,24 +26,31 @@ admitted_again clients request checked held content = rw (held, content) refl
 
 -- ---- what an admitted request has
 
-in_place : (o : Option ℕ) (read : Result Packet Discard) (datagram : Datagram) (request : Request)
-    → (ok_or o UnknownClient >>= λ place. (read >>= λ p. (refuse_if (not (is_code_accepted datagram.door p.code)) WrongCode >>= λ taken. Ok (request_of datagram place p)))) ≡ Ok request
-    → (o ≡ Some request.client) × IsTrue (is_code_accepted request.door request.packet.code)
-in_place None read datagram request e = absurd (cc)
-in_place (Some place) (Err discard) datagram request e = absurd (cc)
-in_place (Some place) (Ok p) datagram request e = at (is_code_accepted datagram.door p.code) refl e
+-- what follows of a request from how it was read
+abbrev Found : Option ℕ → Request → Type 0
+Found place request =
+    (place ≡ Some request.client)
+    × (IsTrue (is_code_accepted request.door request.packet.code) × (request.proxy_states ≡ proxy_states_size request.packet))
+
+found : (o : Option ℕ) (read : Result Packet Discard) (datagram : Datagram) (request : Request)
+    → (ok_or o UnknownClient >>= λ place. (read >>= λ p.
+    (refuse_if (not (is_code_accepted datagram.door p.code)) WrongCode >>= λ taken. Ok (request_of datagram place p)))) ≡ Ok request
+    → Found o request
+found None read datagram request e = absurd (cc)
+found (Some place) (Err discard) datagram request e = absurd (cc)
+found (Some place) (Ok p) datagram request e = at (is_code_accepted datagram.door p.code) refl e
   where
-    at : (b : Bool) → is_code_accepted datagram.door p.code ≡ b → (refuse_if (not b) WrongCode >>= λ taken. Ok (request_of datagram place p)) ≡ Ok request
-        → (Some place ≡ Some request.client) × IsTrue (is_code_accepted request.door request.packet.code)
+    at : (b : Bool) → is_code_accepted datagram.door p.code ≡ b
+        → (refuse_if (not b) WrongCode >>= λ taken. Ok (request_of datagram place p)) ≡ Ok request → Found (Some place) request
     at false taken e = absurd (cc)
     at true taken e =
         let same : request_of datagram place p ≡ request = cc in
-        (ap (λ (r : Request). Some r.client) same, subst (λ (r : Request). IsTrue (is_code_accepted r.door r.packet.code)) same taken)
+        subst (Found (Some place)) same (refl, (taken, refl))
 
-held_in_place : (clients : List Client) (datagram : Datagram) (request : Request) → request_in clients datagram ≡ Ok request
-    → (client_place clients datagram.source ≡ Some request.client) × IsTrue (is_code_accepted request.door request.packet.code)
+held : (clients : List Client) (datagram : Datagram) (request : Request) → request_in clients datagram ≡ Ok request
+    → Found (client_place clients datagram.source) request
 unfolding request_in
-held_in_place clients datagram request e = in_place (client_place clients datagram.source) (packet_or_discard (packet_of datagram.octets)) datagram request e
+held clients datagram request e = found (client_place clients datagram.source) (packet_or_discard (packet_of datagram.octets)) datagram request e
 
 last_rungs : (a b c d e : Bool) (checked : Unit {0})
     → (refuse_if a BadAuthenticator >>= λ _. (refuse_if b BadMessageAuthenticator >>= λ _.
@@ -87,12 +94,12 @@ pub answerable : (clients : List Client) (request : Request) → IsAdmitted clie
 unfolding admission
 answerable clients request e =
     let parts = both clients (request_in clients (own_datagram request)) request e in
-    let place = held_in_place clients (own_datagram request) request parts.0 in
+    let place = held clients (own_datagram request) request parts.0 in
     let content = content_fits (client_at clients request.client) request.packet tt parts.1 in
     record {
       client = (position-Some _ clients request.client (client_at clients 0) place.0).0;
       place = place.0;
-      taken = place.1;
+      taken = place.1.0;
       status = content.0;
-      proxy_states = content.1;
+      proxy_states = (place.1.1, content.1);
     }

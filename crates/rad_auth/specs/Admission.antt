@@ -93,6 +93,7 @@ request_of datagram place p = record {
   port = datagram.port;
   door = datagram.door;
   packet = p;
+  proxy_states = proxy_states_size p;
 }
 
 -- the request that a datagram holds, whose content is still to be checked: from a client, and of a Code that the server's port accepts
@@ -146,15 +147,20 @@ IsAdmitted clients request = admission clients (own_datagram request) ≡ Ok req
 abbrev pub HoldsAdmitted : List Client → Option (Result Request Discard) → Type 0
 HoldsAdmitted clients lane = IfSome lane (λ verdict. IfOk verdict (IsAdmitted clients))
 
+-- a request knows how many octets its Proxy-State attributes have, and they are few enough
+abbrev pub KnowsProxyStates : Request → Type 0
+KnowsProxyStates request =
+    (request.proxy_states ≡ proxy_states_size request.packet) × (proxy_states_size request.packet ≤ proxy_states_max)
+
 -- what those who answer a request use of it: its client is one of the list, that of its source, the server's port accepts its Code, an
--- Accounting-Request says its status, and its Proxy-State attributes have at most so many octets in total
+-- Accounting-Request says its status, and it knows its Proxy-State attributes
 pub record IsAnswerable (clients : List Client) (request : Request) : Type 0 where
   pub client : request.client < length clients
   pub place : client_place clients request.source ≡ Some request.client
   pub taken : IsTrue (is_code_accepted request.door request.packet.code)
   pub status : request.packet.code ≡ code_accounting_request
       → IsTrue (has_len type_acct_status_type integer_size request.packet.attributes)
-  pub proxy_states : proxy_states_size request.packet ≤ proxy_states_max
+  pub proxy_states : KnowsProxyStates request
 
 -- every admitted request may be answered
 abbrev pub AdmittedAreAnswerable : Type 0

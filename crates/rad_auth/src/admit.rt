@@ -2,7 +2,7 @@
 ghost use Rattle.std.specs.Prelude.{◌≡◌, ◌<◌, length, map, All, IfOk, Ok};
 ghost use Rattle.rad_packet.specs.Attributes.{has};
 ghost use Rattle.rad_packet.specs.Types.{type_message_authenticator};
-ghost use Rattle.rad_auth.specs.Admission.{AdmittedAreAnswerable, HoldsAdmitted, IsAdmitted, IsAnswerable, IsInOwnDatagram, admission, content_checks, has_bad_authenticator, has_bad_message_authenticator, has_right_message_authenticator, is_code_accepted, lane_admission, lacks_message_authenticator, lacks_status_type, request_in};
+ghost use Rattle.rad_auth.specs.Admission.{AdmittedAreAnswerable, HoldsAdmitted, IsAdmitted, IsAnswerable, admission, content_checks, has_bad_authenticator, has_bad_message_authenticator, has_right_message_authenticator, is_code_accepted, lane_admission, lacks_message_authenticator, lacks_status_type};
 ghost use Rattle.rad_auth.specs.Clients.{Client};
 ghost use Rattle.rad_auth.specs.Datagrams.{datagram_of};
 ghost use Rattle.rad_auth.specs.RequestLanes.{IsAccountingAuthenticator, IsCandidate, IsMessageAuthenticator, IsHmacUnder, OfCandidate, asked_of, verdict_on, verdict_on_lane};
@@ -81,23 +81,12 @@ fn read_lane<'a>(clients: &Clients, arrival: &Option<Arrival<'a>>) -> Lane<'a>
     }
 }
 
-#[tactic(auto, unfolding(crate::specs::Admission::admission))]
+// What is read of an arrival without a digest or an HMAC.
+#[tactic(auto, unfolding(crate::specs::Admission::admission, crate::specs::Admission::request_in))]
 fn read_candidate<'a>(clients: &Clients, arrival: &Arrival<'a>) -> Result<Candidate<'a>, Discard>
     ensures verdict { admission clients.now (datagram_of arrival.now)
         ≡ verdict_on clients.now result }
     ensures candidate { IfOk result (IsCandidate clients.now) }
-{
-    let request = read_request(clients, arrival)?;
-    let summary = Summary::of(request.packet.attributes());
-    Ok(Candidate { request, summary })
-}
-
-// The checks that need no digest or HMAC.
-#[tactic(auto, unfolding(crate::specs::Admission::request_in))]
-fn read_request<'a>(clients: &Clients, arrival: &Arrival<'a>) -> Result<Request<'a>, Discard>
-    ensures read { result ≡ request_in clients.now (datagram_of arrival.now) }
-    ensures client { IfOk result (λ request. request.client < length clients.now) }
-    ensures held { IfOk result (IsInOwnDatagram clients.now) }
 {
     let Some(client) = clients.find(arrival.source) else {
         return Err(Discard::UnknownClient);
@@ -106,13 +95,16 @@ fn read_request<'a>(clients: &Clients, arrival: &Arrival<'a>) -> Result<Request<
     if !is_code_accepted(arrival.door, packet.code()) {
         return Err(Discard::WrongCode);
     }
-    Ok(Request {
+    let summary = Summary::of(packet.attributes());
+    let request = Request {
         client,
         source: arrival.source,
         port: arrival.port,
         door: arrival.door,
         packet,
-    })
+        proxy_states: summary.proxy_states,
+    };
+    Ok(Candidate { request, summary })
 }
 
 // Whether a port accepts a Code.
@@ -165,6 +157,7 @@ fn admitted<'a>(
         port,
         door,
         packet,
+        proxy_states,
     } = &candidate.request;
     Ok(Request {
         client: *client,
@@ -172,6 +165,7 @@ fn admitted<'a>(
         port: *port,
         door: *door,
         packet: packet.copy(),
+        proxy_states: *proxy_states,
     })
 }
 

@@ -31,4 +31,6 @@ pub struct Request<'a> {
     pub port: u16,
     pub door: Door,
     pub packet: Packet<'a>,
+    /// The octets of its Proxy-State attributes, Type and Length counted.
+    pub proxy_states: usize,
 }

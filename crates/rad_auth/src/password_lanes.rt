@@ -6,50 +6,13 @@ ghost use Rattle.rad_auth.specs.PasswordChecks.{AreLaneDigests, IsLaneDigest, us
 
 use crate::authenticators::nothing;
 use crate::password_check::PasswordCheck;
-use rad_md5::{DIGEST_LEN, LANES, Pieces, digest8};
-
-// The fewest passwords for which a pass of eight digests takes less time than one digest for each.
-const PASS_PAYS_FROM: usize = 3;
+use rad_md5::{DIGEST_LEN, LANES, Pieces, digest_some};
 
 /// Whether each password is the one that was sent. A lane without one is wrong.
 ///
-/// One pass of digests serves responses and values of one block, unless there are few. A longer value takes a pass of its own. Source: RFC 2865, sections 2.2, 5.2 and 5.3.
+/// A response, or a value of one block, takes one digest. A longer value takes digests of its own. Source: RFC 2865, sections 2.2,
+/// 5.2 and 5.3.
 pub fn passwords_right8(checks: &[Option<PasswordCheck>; 8]) -> [bool; 8]
-    ensures { result ≡ map is_right_in checks.now }
-{
-    if checks.iter().filter(|check| uses_lane(check)).count() < PASS_PAYS_FROM {
-        one_by_one(checks)
-    } else {
-        side_by_side(checks)
-    }
-}
-
-fn one_by_one(checks: &[Option<PasswordCheck>; LANES]) -> [bool; LANES]
-    ensures { result ≡ map is_right_in checks.now }
-{
-    let [a, b, c, d, e, f, g, h] = checks;
-    [
-        is_right_in(a),
-        is_right_in(b),
-        is_right_in(c),
-        is_right_in(d),
-        is_right_in(e),
-        is_right_in(f),
-        is_right_in(g),
-        is_right_in(h),
-    ]
-}
-
-fn is_right_in(check: &Option<PasswordCheck>) -> bool
-    ensures { result ≡ is_right_in check.now }
-{
-    match check {
-        None => false,
-        Some(check) => check.is_right(),
-    }
-}
-
-fn side_by_side(checks: &[Option<PasswordCheck>; LANES]) -> [bool; LANES]
     ensures { result ≡ map is_right_in checks.now }
 {
     let digests = digests(checks);
@@ -66,21 +29,36 @@ fn side_by_side(checks: &[Option<PasswordCheck>; LANES]) -> [bool; LANES]
     ]
 }
 
-// The digests of the lanes, in one pass.
+// The digests of the lanes.
 fn digests(checks: &[Option<PasswordCheck>; LANES]) -> [[u8; DIGEST_LEN]; LANES]
     ensures { AreLaneDigests checks.now result }
 {
+    if !checks.iter().any(uses_lane) {
+        return [[0; DIGEST_LEN]; LANES];
+    }
     let [a, b, c, d, e, f, g, h] = checks;
-    digest8(&[
-        lane_text(a),
-        lane_text(b),
-        lane_text(c),
-        lane_text(d),
-        lane_text(e),
-        lane_text(f),
-        lane_text(g),
-        lane_text(h),
-    ])
+    digest_some(
+        &[
+            lane_text(a),
+            lane_text(b),
+            lane_text(c),
+            lane_text(d),
+            lane_text(e),
+            lane_text(f),
+            lane_text(g),
+            lane_text(h),
+        ],
+        &[
+            uses_lane(a),
+            uses_lane(b),
+            uses_lane(c),
+            uses_lane(d),
+            uses_lane(e),
+            uses_lane(f),
+            uses_lane(g),
+            uses_lane(h),
+        ],
+    )
 }
 
 fn uses_lane(check: &Option<PasswordCheck>) -> bool

@@ -8,8 +8,8 @@ ghost use Rattle.rad_auth.specs.Sealing.{AreJobs, IsJob};
 
 use crate::authenticators::{SIXTEEN_ZEROS, nothing};
 use crate::job::Job;
-use rad_hmac::{Key, hmac8};
-use rad_md5::{DIGEST_LEN, LANES, Pieces, digest8};
+use rad_hmac::{Key, hmac_some};
+use rad_md5::{DIGEST_LEN, LANES, Pieces, digest_some};
 use rad_packet::attribute::MESSAGE_AUTHENTICATOR;
 use rad_packet::{HEADER_SIZE, code};
 
@@ -58,7 +58,7 @@ fn header(job: &Job) -> [u8; HEADER_SIZE]
     header
 }
 
-/// The Message-Authenticators of replies, in one pass of HMACs, or in none.
+/// The Message-Authenticators of replies.
 pub(crate) fn reply_hmacs<'x>(
     jobs: &'x [Option<Job<'x>>; LANES],
     headers: &'x [[u8; HEADER_SIZE]; LANES],
@@ -72,16 +72,28 @@ pub(crate) fn reply_hmacs<'x>(
         return [SIXTEEN_ZEROS; LANES];
     }
     let [a, b, c, d, e, f, g, h] = jobs;
-    hmac8(&[
-        (key(a, no_key), hmac_text(a, &headers[0])),
-        (key(b, no_key), hmac_text(b, &headers[1])),
-        (key(c, no_key), hmac_text(c, &headers[2])),
-        (key(d, no_key), hmac_text(d, &headers[3])),
-        (key(e, no_key), hmac_text(e, &headers[4])),
-        (key(f, no_key), hmac_text(f, &headers[5])),
-        (key(g, no_key), hmac_text(g, &headers[6])),
-        (key(h, no_key), hmac_text(h, &headers[7])),
-    ])
+    hmac_some(
+        &[
+            (key(a, no_key), hmac_text(a, &headers[0])),
+            (key(b, no_key), hmac_text(b, &headers[1])),
+            (key(c, no_key), hmac_text(c, &headers[2])),
+            (key(d, no_key), hmac_text(d, &headers[3])),
+            (key(e, no_key), hmac_text(e, &headers[4])),
+            (key(f, no_key), hmac_text(f, &headers[5])),
+            (key(g, no_key), hmac_text(g, &headers[6])),
+            (key(h, no_key), hmac_text(h, &headers[7])),
+        ],
+        &[
+            has_hmac(a),
+            has_hmac(b),
+            has_hmac(c),
+            has_hmac(d),
+            has_hmac(e),
+            has_hmac(f),
+            has_hmac(g),
+            has_hmac(h),
+        ],
+    )
 }
 
 // Whether a reply has a Message-Authenticator.
@@ -133,7 +145,7 @@ fn hmac_reply<'x>(job: &'x Job<'x>, header: &'x [u8; HEADER_SIZE]) -> Pieces<'x>
     Pieces::of([header, &HMAC_FRONT, &SIXTEEN_ZEROS, others, &[]])
 }
 
-/// The Response Authenticators of replies, in one pass.
+/// The Response Authenticators of replies.
 pub(crate) fn reply_digests(
     jobs: &[Option<Job>; LANES],
     headers: &[[u8; HEADER_SIZE]; LANES],
@@ -145,16 +157,28 @@ pub(crate) fn reply_digests(
     ensures { AreReplyDigests jobs.now result }
 {
     let [a, b, c, d, e, f, g, h] = jobs;
-    digest8(&[
-        digested_text(a, &headers[0], &macs[0]),
-        digested_text(b, &headers[1], &macs[1]),
-        digested_text(c, &headers[2], &macs[2]),
-        digested_text(d, &headers[3], &macs[3]),
-        digested_text(e, &headers[4], &macs[4]),
-        digested_text(f, &headers[5], &macs[5]),
-        digested_text(g, &headers[6], &macs[6]),
-        digested_text(h, &headers[7], &macs[7]),
-    ])
+    digest_some(
+        &[
+            digested_text(a, &headers[0], &macs[0]),
+            digested_text(b, &headers[1], &macs[1]),
+            digested_text(c, &headers[2], &macs[2]),
+            digested_text(d, &headers[3], &macs[3]),
+            digested_text(e, &headers[4], &macs[4]),
+            digested_text(f, &headers[5], &macs[5]),
+            digested_text(g, &headers[6], &macs[6]),
+            digested_text(h, &headers[7], &macs[7]),
+        ],
+        &[
+            a.is_some(),
+            b.is_some(),
+            c.is_some(),
+            d.is_some(),
+            e.is_some(),
+            f.is_some(),
+            g.is_some(),
+            h.is_some(),
+        ],
+    )
 }
 
 // The message of a lane's digest.

@@ -8,11 +8,11 @@ ghost use Rattle.rad_auth.specs.RequestLanes.{AreAccountingAuthenticators, AreMe
 use crate::authenticators::{accounting_pieces, hmac_pieces, nothing};
 use crate::candidate::{Candidate, Lane, is_message_authenticator_checked};
 use crate::client::Clients;
-use rad_hmac::{Key, hmac8};
-use rad_md5::{DIGEST_LEN, LANES, Pieces, digest8};
+use rad_hmac::{Key, hmac_some};
+use rad_md5::{DIGEST_LEN, LANES, Pieces, digest_some};
 use rad_packet::code;
 
-/// The Request Authenticators that the lanes' Accounting-Requests must have, in one pass of digests, or in none.
+/// The Request Authenticators that the lanes' Accounting-Requests must have.
 pub(crate) fn accounting_authenticators(
     clients: &Clients,
     lanes: &[Lane; LANES],
@@ -24,16 +24,28 @@ pub(crate) fn accounting_authenticators(
         return [[0; DIGEST_LEN]; LANES];
     }
     let [a, b, c, d, e, f, g, h] = lanes;
-    digest8(&[
-        accounting_text(clients, a),
-        accounting_text(clients, b),
-        accounting_text(clients, c),
-        accounting_text(clients, d),
-        accounting_text(clients, e),
-        accounting_text(clients, f),
-        accounting_text(clients, g),
-        accounting_text(clients, h),
-    ])
+    digest_some(
+        &[
+            accounting_text(clients, a),
+            accounting_text(clients, b),
+            accounting_text(clients, c),
+            accounting_text(clients, d),
+            accounting_text(clients, e),
+            accounting_text(clients, f),
+            accounting_text(clients, g),
+            accounting_text(clients, h),
+        ],
+        &[
+            is_accounting(a),
+            is_accounting(b),
+            is_accounting(c),
+            is_accounting(d),
+            is_accounting(e),
+            is_accounting(f),
+            is_accounting(g),
+            is_accounting(h),
+        ],
+    )
 }
 
 fn is_accounting(lane: &Lane) -> bool
@@ -68,7 +80,7 @@ fn accounting_packet<'x>(clients: &'x Clients, candidate: &Candidate<'x>) -> Pie
     )
 }
 
-/// The Message-Authenticators that the lanes' requests must have, in one pass of HMACs, or in none.
+/// The Message-Authenticators that the lanes' requests must have.
 pub(crate) fn message_authenticators(
     clients: &Clients,
     lanes: &[Lane; LANES],
@@ -81,16 +93,28 @@ pub(crate) fn message_authenticators(
     }
     let no_key = Key::new(&[]);
     let [a, b, c, d, e, f, g, h] = lanes;
-    hmac8(&[
-        (key(clients, &no_key, a), hmac_text(a)),
-        (key(clients, &no_key, b), hmac_text(b)),
-        (key(clients, &no_key, c), hmac_text(c)),
-        (key(clients, &no_key, d), hmac_text(d)),
-        (key(clients, &no_key, e), hmac_text(e)),
-        (key(clients, &no_key, f), hmac_text(f)),
-        (key(clients, &no_key, g), hmac_text(g)),
-        (key(clients, &no_key, h), hmac_text(h)),
-    ])
+    hmac_some(
+        &[
+            (key(clients, &no_key, a), hmac_text(a)),
+            (key(clients, &no_key, b), hmac_text(b)),
+            (key(clients, &no_key, c), hmac_text(c)),
+            (key(clients, &no_key, d), hmac_text(d)),
+            (key(clients, &no_key, e), hmac_text(e)),
+            (key(clients, &no_key, f), hmac_text(f)),
+            (key(clients, &no_key, g), hmac_text(g)),
+            (key(clients, &no_key, h), hmac_text(h)),
+        ],
+        &[
+            has_hmac_to_check(a),
+            has_hmac_to_check(b),
+            has_hmac_to_check(c),
+            has_hmac_to_check(d),
+            has_hmac_to_check(e),
+            has_hmac_to_check(f),
+            has_hmac_to_check(g),
+            has_hmac_to_check(h),
+        ],
+    )
 }
 
 fn has_hmac_to_check(lane: &Lane) -> bool

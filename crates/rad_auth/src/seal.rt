@@ -8,13 +8,13 @@ ghost use Rattle.rad_auth.specs.ReplyLanes.{HasReplyDigest, HasReplyHmac, IsRepl
 ghost use Rattle.rad_auth.specs.Authenticators.{response_authenticator};
 ghost use Rattle.rad_auth.specs.Sealing.{AreJobs, BeginsOtherwise, IsJob, IsRequestCode, job_octets, lane_octets, request_octets, sealed};
 
-use crate::authenticators::{SIXTEEN_ZEROS, body_digest, hmac_pieces, nothing};
+use crate::authenticators::{SIXTEEN_ZEROS, body_digest, hmac_pieces};
 use crate::job::Job;
 use crate::reply_authenticators::{headers, reply_digests, reply_hmacs};
 use crate::secret::Secret;
 use crate::summary::Summary;
-use rad_hmac::{Key, hmac8};
-use rad_md5::{DIGEST_LEN, LANES, Pieces};
+use rad_hmac::{Key, hmac_one};
+use rad_md5::{DIGEST_LEN, LANES};
 use rad_packet::{Body, Frame, HEADER_SIZE, LENGTH_MAX, TooLong, code, write};
 
 /// The Response Authenticator of a reply.
@@ -122,25 +122,6 @@ fn put_hmac(frame: &mut Frame, after: usize, secret: &Secret)
 {
     let octets = frame.octets();
     let place = octets.len() - after - DIGEST_LEN;
-    let mac = mac(secret.key(), hmac_pieces(octets, after));
+    let mac = hmac_one(secret.key(), &hmac_pieces(octets, after));
     frame.overwrite(place, &mac);
-}
-
-// One HMAC.
-fn mac(key: &Key, text: Pieces) -> [u8; DIGEST_LEN]
-    requires free { HasFreePiece text }
-    requires short { length (message text) < text_limit }
-    ensures { result ≡ mac_under key.now (message text.entry) }
-{
-    let [mac, ..] = hmac8(&[
-        (key, text),
-        (key, nothing()),
-        (key, nothing()),
-        (key, nothing()),
-        (key, nothing()),
-        (key, nothing()),
-        (key, nothing()),
-        (key, nothing()),
-    ]);
-    mac
 }

@@ -10,7 +10,7 @@ ghost use Rattle.rad_replay.specs.Replays.{IsFirstOf, IsLineOf, IsLineOfRequest,
 ghost use Rattle.rad_replay.specs.Transcripts.{draw_of, sealed_reply};
 
 use crate::output_line::OutputLine;
-use rad_auth::{Arrival, Clients, Discard, Job, Request, admitted_is_answerable, check8, seal8};
+use rad_auth::{Arrival, Clients, Discard, Job, Request, check8, seal8};
 use rad_config::Config;
 use rad_packet::{Body, Frame};
 use rad_server::{Answer, Server};
@@ -126,13 +126,7 @@ fn seal<'x>(clients: &'x Clients, request: &Request, body: &'x Body, frames: &mu
     requires admitted { IsAdmitted clients.now request.now }
     ensures { IsFirstOf frames.new (sealed_reply clients.now request.now body.now) }
 {
-    admitted_is_answerable(clients, request);
-    let job = Job {
-        body,
-        id: request.packet.identifier(),
-        request_authenticator: request.packet.authenticator(),
-        secret: clients.secret(request.client),
-    };
+    let job = Job::of(clients, request, body);
     let jobs = [Some(job), None, None, None, None, None, None, None];
     seal8(&jobs, frames);
 }

@@ -372,7 +372,7 @@ decided_is_lawful : TableLaws → (configuration : Configuration) (state : State
     → IsGiven configuration request draw → IsLawful configuration state → IsSound configuration state request.client d
     → IsLawfulResult configuration state (decided configuration state request draw d)
 decided_is_lawful laws configuration state request draw (Err denial) given lawful sound = record {
-  reply = reject_is_reply denial request.packet given.answerable.proxy_states;
+  reply = reject_is_reply denial request.packet given.answerable.proxy_states.1;
   session = λ accept. absurd (omega (arith, accept));
   new = lawful;
   clock = refl;
@@ -383,7 +383,7 @@ decided_is_lawful laws configuration state request draw (Ok (Challenged user)) g
     let row : User = user_at configuration user in
     record {
       reply = challenge_is_reply row state.challenges.next draw request.packet (text_fits row.challenge known.said.challenge) given.drawn
-          given.answerable.proxy_states;
+          given.answerable.proxy_states.1;
       session = λ accept. absurd (omega (arith, accept));
       new = record {
         clock = lawful.clock;
@@ -427,7 +427,7 @@ decided_is_lawful laws configuration state request draw (Ok (Granted user grant)
     let is_lawful = IsLawfulSession configuration state.clock sessions.next in
     let in_pool = (All-contains is_lawful sessions.sessions session new.sessions (Contains-push state.sessions.sessions session)).address in
     record {
-      reply = accept_is_reply row grant request.packet (can_be_accepted (length configuration.pools) row grant known (pooled configuration user row grant.address at_place in_pool)) given.answerable.proxy_states;
+      reply = accept_is_reply row grant request.packet (can_be_accepted (length configuration.pools) row grant known (pooled configuration user row grant.address at_place in_pool)) given.answerable.proxy_states.1;
       session = accept_has_session request.client request.source user state.clock row grant request.packet state.sessions known.reply;
       new = record {
         clock = lawful.clock;
@@ -511,7 +511,7 @@ account_is_lawful laws configuration state request answerable lawful =
     with_table : (table : Sessions) → IsKept table
         → IsLawfulResult configuration state (accounting_response request.packet, record state { sessions = table })
     with_table table kept = record {
-      reply = accounting_is_reply request.packet answerable.proxy_states;
+      reply = accounting_is_reply request.packet answerable.proxy_states.1;
       session = λ accept. absurd (omega (arith, accept));
       new = record {
         clock = lawful.clock;

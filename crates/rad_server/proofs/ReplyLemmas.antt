@@ -73,6 +73,11 @@ own-text : (kind : ℕ) (text : Option (List ℕ)) → (kind ≡ 80 → ⊥) →
 own-text kind None other short = record { size = omega arith; none = refl }
 own-text kind (Some octets) other short = own-one kind 253 octets other short
 
+-- attributes of no octets are none
+pub no_attributes : (list : List Attribute) → size list ≡ 0 → list ≡ []
+no_attributes [] none = refl
+no_attributes (a ∷ list) none = absurd (omega (arith, none))
+
 pub accounting_is_reply : (p : Packet) → proxy_states_size p ≤ proxy_states_max → IsReply (accounting_response p)
 accounting_is_reply p le = record {
   fits = omega (arith, le);

@@ -6,6 +6,7 @@ use Rattle.rad_auth.specs.Clients.{Client}
 use Rattle.rad_auth.specs.Datagrams.{Datagram}
 use Rattle.rad_auth.specs.declared.arrival.Request.{Request}
 use Rattle.rad_packet.specs.Bodies.{Body}
+use Rattle.rad_packet.specs.Packets.{packet_octets}
 use Rattle.rad_config.specs.Configurations.{Configuration}
 use Rattle.rad_config.specs.Ranges.{IsConfiguration}
 use Rattle.rad_config.specs.Spans.{moment_max}
@@ -13,6 +14,7 @@ use Rattle.rad_server.specs.Lawful.{IsLawful}
 use Rattle.rad_server.specs.Servers.{Server}
 use Rattle.rad_server.specs.States.{State, at_moment, when_passed}
 use Rattle.rad_server.specs.Steps.{is_fresh, session_at, step}
+use Rattle.rad_server.specs.declared.answer.Answer.{Answer}
 use Rattle.rad_server.specs.declared.answer.Answer.TheVariants.{Send}
 use Rattle.rad_server.specs.declared.entry.Entry.{Entry}
 
@@ -21,6 +23,21 @@ abbrev pub datagram_of_entry : Entry → Datagram
 datagram_of_entry entry = record { source = entry.source; port = entry.port; door = entry.door; octets = entry.octets }
 
 -- ---- exchanges
+
+-- the entry of a request with a tag, at a moment and with a draw, from what the server did with it
+abbrev pub entry_of : ℕ → Request → ℕ → List ℕ → Answer → Option ℕ → Entry
+entry_of tag request moment draw answer session = record {
+  tag = tag;
+  client = request.client;
+  source = request.source;
+  port = request.port;
+  door = request.door;
+  octets = packet_octets request.packet;
+  moment = moment;
+  draw = draw;
+  answer = answer;
+  session = session;
+}
 
 -- the request of an entry: the one that the admission of its datagram gives, with its client, at a moment up to the last and with a
 -- draw of 16 octets

@@ -2,7 +2,10 @@
 ghost use Rattle.std.specs.Prelude.{◌≡◌, ◌≤◌, length};
 ghost use Rattle.rad_packet.specs.Packets.{packet_octets};
 ghost use Rattle.rad_config.specs.Spans.{moment_max};
+ghost use Rattle.rad_server.specs.Runs.{IsRequestOf, entry_of};
 
+use crate::answer::Answer;
+use crate::entry::Entry;
 use crate::prepared::Prepared;
 use rad_packet::Octets;
 
@@ -46,6 +49,29 @@ impl<'r, 'a> Ask<'r, 'a> {
             octets,
             moment,
             draw,
+        }
+    }
+
+    /// The entry of the request, with its octets and what the server did with it.
+    pub(crate) fn entry(&self, octets: Octets, answer: Answer, session: Option<u64>) -> Entry
+        requires { octets ≡ self.now.octets.now }
+        ensures value { result ≡ entry_of self.now.tag self.now.prepared.now.request
+            self.now.moment self.now.draw.now answer session }
+        ensures asked { IsRequestOf self.now.prepared.now.configuration.clients
+            result self.now.prepared.now.request }
+    {
+        let request = self.prepared.request();
+        Entry {
+            tag: self.tag,
+            client: request.client,
+            source: request.source,
+            port: request.port,
+            door: request.door,
+            octets,
+            moment: self.moment,
+            draw: *self.draw,
+            answer,
+            session,
         }
     }
 }

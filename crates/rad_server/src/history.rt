@@ -35,41 +35,11 @@ pub fn exchange(
     ensures server { OnErr result (server.new ≡ server.old) }
     ensures history { OnErr result (history.new.items ≡ history.old.items) }
 {
-    let Ask {
-        tag,
-        prepared,
-        octets,
-        moment,
-        draw,
-    } = ask;
-    let first_copy = octets.copy()?;
-    let second_copy = octets.copy()?;
+    let first_copy = ask.octets.copy()?;
+    let second_copy = ask.octets.copy()?;
     history.reserve(1)?;
-    let stepped = server.step_with_copy(prepared, Some(octets), moment, draw)?;
-    let request = prepared.request();
-    history.push_reserved(Entry {
-        tag,
-        client: request.client,
-        source: request.source,
-        port: request.port,
-        door: request.door,
-        octets: first_copy,
-        moment,
-        draw: *draw,
-        answer: stepped.copy,
-        session: stepped.session,
-    });
-    let entry = Entry {
-        tag,
-        client: request.client,
-        source: request.source,
-        port: request.port,
-        door: request.door,
-        octets: second_copy,
-        moment,
-        draw: *draw,
-        answer: stepped.answer,
-        session: stepped.session,
-    };
+    let stepped = server.step_with_copy(ask.prepared, Some(ask.octets), ask.moment, ask.draw)?;
+    history.push_reserved(ask.entry(first_copy, stepped.copy, stepped.session));
+    let entry = ask.entry(second_copy, stepped.answer, stepped.session);
     Ok((entry, stepped.is_fresh))
 }

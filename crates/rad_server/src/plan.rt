@@ -2,7 +2,7 @@
 ghost use Rattle.std.specs.Prelude.{◌≡◌, ℕ, ◌≤◌, ◌<◌, ◌==◌, true, List, length, IfOk, IfSome, None, option_copied};
 ghost use Rattle.rad_packet.specs.Codes.{code_status_server};
 ghost use Rattle.rad_packet.specs.Packets.{packet_octets};
-ghost use Rattle.rad_auth.specs.Admission.{proxy_states_max, proxy_states_size};
+ghost use Rattle.rad_auth.specs.Admission.{KnowsProxyStates};
 ghost use Rattle.rad_auth.specs.Sealing.{IsReply};
 ghost use Rattle.rad_config.specs.Configurations.{Configuration};
 ghost use Rattle.rad_config.specs.Spans.{moment_max};
@@ -124,7 +124,7 @@ fn plan_status<'a>(
     request: &Request,
     body: Option<&Body>,
 ) -> Result<Plan<'a>, AllocError>
-    requires proxy_states { proxy_states_size request.now.packet ≤ proxy_states_max }
+    requires proxy_states { KnowsProxyStates request.now }
     requires code { (request.now.packet.code == code_status_server) ≡ true }
     requires body { IfSome body
         (λ body. body.now ≡ fixed_body request.now.packet (FixedReply.Status request.now.door)) }
@@ -132,7 +132,7 @@ fn plan_status<'a>(
         → IfOk result (IsPlanOf configuration current request.now draw) }
     ensures sealable { IfOk result (λ plan. IsSealable (planned_answer plan)) }
 {
-    let mut body = FixedReply::Status(request.door).body(alloc, &request.packet, body)?;
+    let mut body = FixedReply::Status(request.door).body(alloc, request, body)?;
     body.share()?;
     Ok(Plan::Unchanged(body))
 }
@@ -203,14 +203,14 @@ fn plan_fixed<'a>(
     change: Change,
     body: Option<&Body>,
 ) -> Result<NewReply<'a>, AllocError>
-    requires proxy_states { proxy_states_size request.now.packet ≤ proxy_states_max }
+    requires proxy_states { KnowsProxyStates request.now }
     requires body { IfSome body (λ body. body.now ≡ fixed_body request.now.packet fixed) }
     ensures body { IfOk result (λ reply. reply.body ≡ fixed_body request.now.packet fixed) }
     ensures answered { IfOk result (λ reply. option_copied reply.answered ≡ None) }
     ensures change { IfOk result (λ reply. reply.change ≡ change) }
     ensures sealable { IfOk result (λ reply. IsReply reply.body) }
 {
-    let body = fixed.body(alloc, &request.packet, body)?;
+    let body = fixed.body(alloc, request, body)?;
     Ok(NewReply {
         body,
         answered: None,
@@ -236,17 +236,17 @@ fn plan_decided<'a>(
     let (config, request) = (prepared.config(), prepared.request());
     let (body, change) = match decision {
         Err(denial) => {
-            let body = access_reject(alloc, denial, &request.packet)?;
+            let body = access_reject(alloc, denial, request)?;
             (body, Change::Nothing)
         }
         Ok(Decision::Challenge(user, number)) => {
             let row = config.user_at(user);
-            let body = access_challenge(alloc, row, number, draw, &request.packet)?;
+            let body = access_challenge(alloc, row, number, draw, request)?;
             (body, Change::Challenge(user))
         }
         Ok(Decision::Session(session)) => {
             let row = config.user_at(session.user);
-            let body = access_accept(alloc, row, session.grant, &request.packet)?;
+            let body = access_accept(alloc, row, session.grant, request)?;
             (body, Change::Grant(session))
         }
     };

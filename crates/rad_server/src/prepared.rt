@@ -1,7 +1,7 @@
 //! Requests that are prepared: what the configuration tells of them is known before the state is looked at. So passwords are compared
 //! side by side, and the lock is held for less time. A repeat is prepared too, since only the state tells that it is one.
 ghost use Rattle.std.specs.Prelude.{◌≡◌, ◌≤◌, length, map, All, IfSome};
-ghost use Rattle.rad_auth.specs.Admission.{HoldsAdmitted, IsAdmitted, IsAnswerable, proxy_states_max, proxy_states_size};
+ghost use Rattle.rad_auth.specs.Admission.{HoldsAdmitted, IsAdmitted, IsAnswerable, KnowsProxyStates};
 ghost use Rattle.rad_server.specs.Prepared.{IsBodyOf, IsInquiryIn, IsTold, prepared_in, right_of};
 
 use crate::inquiry::{Inquiry, inquire};
@@ -195,11 +195,11 @@ fn prepared_in<'r, 'a>(
 
 // The body of the reply, for copies to share, if the reply is fixed and there is memory.
 fn body_in_advance(alloc: Global, request: &Request, rule: Option<Rule>) -> Option<Body>
-    requires { proxy_states_size request.now.packet ≤ proxy_states_max }
+    requires { KnowsProxyStates request.now }
     ensures { IfSome result (IsBodyOf request.now rule.entry) }
 {
     let fixed = fixed_reply(request.door, rule)?;
-    let mut body = fixed.make(alloc, &request.packet).ok()?;
+    let mut body = fixed.make(alloc, request).ok()?;
     body.share().ok()?;
     Some(body)
 }

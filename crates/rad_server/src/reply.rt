@@ -5,20 +5,20 @@ ghost use Rattle.rad_packet.specs.Bodies.{with_attributes};
 ghost use Rattle.rad_config.specs.Configurations.{accept_max};
 ghost use Rattle.rad_packet.specs.Codes.{code_access_accept};
 ghost use Rattle.rad_packet.specs.Types.{type_proxy_state};
-ghost use Rattle.rad_auth.specs.Admission.{proxy_states_max, proxy_states_size};
+ghost use Rattle.rad_auth.specs.Admission.{KnowsProxyStates};
 ghost use Rattle.rad_auth.specs.Sealing.{IsReply};
 ghost use Rattle.rad_server.specs.ReplyBodies.{CanBeAccepted, access_front};
 ghost use Rattle.rad_server.specs.Replies.{accept_attributes, access_accept, access_challenge, access_reject, access_reply, accounting_response, attribute_if_any, class_value, four_octets, status_reply};
 
 use crate::denial::Denial;
-use rad_auth::Door;
+use rad_auth::{Door, Request};
 use rad_config::{Text, User};
+use rad_packet::Body;
 use rad_packet::attribute::{
     CLASS, FRAMED_IP_ADDRESS, FRAMED_PROTOCOL, MESSAGE_AUTHENTICATOR, PROXY_STATE, REPLY_MESSAGE,
     SERVICE_TYPE, SESSION_TIMEOUT, STATE,
 };
 use rad_packet::code::{ACCESS_ACCEPT, ACCESS_CHALLENGE, ACCESS_REJECT, ACCOUNTING_RESPONSE};
-use rad_packet::{Body, Packet};
 use rad_pool::Grant;
 use rad_recent::state_value;
 use std::alloc::{AllocError, Global};
@@ -38,19 +38,19 @@ pub(crate) fn access_accept(
     alloc: Global,
     user: &User,
     grant: Grant,
-    packet: &Packet,
+    request: &Request,
 ) -> Result<Body, AllocError>
     requires message { IfSome user.now.message (λ message. length message ≤ value_max) }
     requires small { size user.now.reply.attributes ≤ accept_max }
     requires accepted { CanBeAccepted user.now grant }
-    requires proxy_states { proxy_states_size packet.now ≤ proxy_states_max }
-    ensures value { IfOk result (λ body. body ≡ access_accept user.now grant packet.now) }
+    requires proxy_states { KnowsProxyStates request.now }
+    ensures value { IfOk result (λ body. body ≡ access_accept user.now grant request.now.packet) }
     ensures reply { IfOk result IsReply }
 {
     let own = 4 * INTEGER_SIZE + text_size(user.message.as_ref()) + CLASS_SIZE + user.reply.size();
-    let size = FRONT_SIZE + own + proxy_states_size(packet);
+    let size = FRONT_SIZE + own + request.proxy_states;
     let mut body = grant_body(alloc, user, grant, size)?;
-    copy_proxy_states(packet, &mut body)?;
+    copy_proxy_states(request, &mut body)?;
     Ok(body)
 }
 
@@ -59,17 +59,17 @@ pub(crate) fn access_accept(
 pub(crate) fn access_reject(
     alloc: Global,
     denial: Denial,
-    packet: &Packet,
+    request: &Request,
 ) -> Result<Body, AllocError>
-    requires { proxy_states_size packet.now ≤ proxy_states_max }
-    ensures value { IfOk result (λ body. body ≡ access_reject denial packet.now) }
+    requires { KnowsProxyStates request.now }
+    ensures value { IfOk result (λ body. body ≡ access_reject denial request.now.packet) }
     ensures reply { IfOk result IsReply }
 {
     let text = denial.text().as_bytes();
-    let size = FRONT_SIZE + text.len() + 2 + proxy_states_size(packet);
+    let size = FRONT_SIZE + text.len() + 2 + request.proxy_states;
     let mut body = access_body(alloc, ACCESS_REJECT, size)?;
     body.push(REPLY_MESSAGE, text)?;
-    copy_proxy_states(packet, &mut body)?;
+    copy_proxy_states(request, &mut body)?;
     Ok(body)
 }
 
@@ -79,59 +79,59 @@ pub(crate) fn access_challenge(
     user: &User,
     number: u64,
     draw: &[u8; 16],
-    packet: &Packet,
+    request: &Request,
 ) -> Result<Body, AllocError>
     requires challenge { IfSome user.now.challenge (λ text. length text ≤ value_max) }
-    requires proxy_states { proxy_states_size packet.now ≤ proxy_states_max }
+    requires proxy_states { KnowsProxyStates request.now }
     ensures value { IfOk result
-        (λ body. body ≡ access_challenge user.now number draw.now packet.now) }
+        (λ body. body ≡ access_challenge user.now number draw.now request.now.packet) }
     ensures reply { IfOk result IsReply }
 {
     let own = text_size(user.challenge.as_ref()) + STATE_SIZE;
-    let size = FRONT_SIZE + own + proxy_states_size(packet);
+    let size = FRONT_SIZE + own + request.proxy_states;
     let mut body = access_body(alloc, ACCESS_CHALLENGE, size)?;
     if let Some(text) = &user.challenge {
         body.push(REPLY_MESSAGE, text.octets())?;
     }
     body.push(STATE, &state_value(number, draw))?;
-    copy_proxy_states(packet, &mut body)?;
+    copy_proxy_states(request, &mut body)?;
     Ok(body)
 }
 
 /// The Accounting-Response.
 #[tactic(auto, using(crate::proofs::ReplyLemmas::accounting_is_reply))]
-pub(crate) fn accounting_response(alloc: Global, packet: &Packet) -> Result<Body, AllocError>
-    requires { proxy_states_size packet.now ≤ proxy_states_max }
-    ensures value { IfOk result (λ body. body ≡ accounting_response packet.now) }
+pub(crate) fn accounting_response(alloc: Global, request: &Request) -> Result<Body, AllocError>
+    requires { KnowsProxyStates request.now }
+    ensures value { IfOk result (λ body. body ≡ accounting_response request.now.packet) }
     ensures reply { IfOk result IsReply }
 {
-    let mut body = Body::with_room(alloc, ACCOUNTING_RESPONSE, proxy_states_size(packet))?;
-    copy_proxy_states(packet, &mut body)?;
+    let mut body = Body::with_room(alloc, ACCOUNTING_RESPONSE, request.proxy_states)?;
+    copy_proxy_states(request, &mut body)?;
     Ok(body)
 }
 
 /// The reply to a Status-Server, by the server's port.
-pub(crate) fn status_reply(alloc: Global, door: Door, packet: &Packet) -> Result<Body, AllocError>
-    requires { proxy_states_size packet.now ≤ proxy_states_max }
-    ensures value { IfOk result (λ body. body ≡ status_reply door packet.now) }
+pub(crate) fn status_reply(alloc: Global, door: Door, request: &Request) -> Result<Body, AllocError>
+    requires { KnowsProxyStates request.now }
+    ensures value { IfOk result (λ body. body ≡ status_reply door request.now.packet) }
     ensures reply { IfOk result IsReply }
 {
     match door {
-        Door::Auth => status_accept(alloc, packet),
-        Door::Acct => accounting_response(alloc, packet),
+        Door::Auth => status_accept(alloc, request),
+        Door::Acct => accounting_response(alloc, request),
     }
 }
 
 // The Access-Accept of a Status-Server.
 #[tactic(auto, using(crate::proofs::ReplyLemmas::status_is_reply))]
-fn status_accept(alloc: Global, packet: &Packet) -> Result<Body, AllocError>
-    requires { proxy_states_size packet.now ≤ proxy_states_max }
-    ensures value { IfOk result (λ body. body ≡ access_reply code_access_accept [] packet.now) }
+fn status_accept(alloc: Global, request: &Request) -> Result<Body, AllocError>
+    requires { KnowsProxyStates request.now }
+    ensures value { IfOk result (λ body. body ≡ access_reply code_access_accept [] request.now.packet) }
     ensures reply { IfOk result IsReply }
 {
-    let size = FRONT_SIZE + proxy_states_size(packet);
+    let size = FRONT_SIZE + request.proxy_states;
     let mut body = access_body(alloc, ACCESS_ACCEPT, size)?;
-    copy_proxy_states(packet, &mut body)?;
+    copy_proxy_states(request, &mut body)?;
     Ok(body)
 }
 
@@ -194,28 +194,16 @@ fn text_size(text: Option<&Text>) -> usize
     }
 }
 
-// The size of the packet's Proxy-State attributes. The packet's length would do as a bound, but then a kept reply would hold memory
-// that it doesn't use.
-fn proxy_states_size(packet: &Packet) -> usize
-    requires { proxy_states_size packet.now ≤ proxy_states_max }
-    ensures { result ≡ proxy_states_size packet.now }
-{
-    let mut size = 0;
-    let mut rest = packet.attributes();
-    while let Some(attribute) = rest.next() {
-        if attribute.kind == PROXY_STATE {
-            size += attribute.value.len() + 2;
-        }
-    }
-    size
-}
-
-// Appends copies of the packet's Proxy-State attributes.
-fn copy_proxy_states(packet: &Packet, body: &mut Body) -> Result<(), AllocError>
+// Appends copies of the request's Proxy-State attributes.
+fn copy_proxy_states(request: &Request, body: &mut Body) -> Result<(), AllocError>
+    requires { KnowsProxyStates request.now }
     ensures { OnOk result (body.new ≡
-        with_attributes (of_kind type_proxy_state packet.now.attributes) body.old) }
+        with_attributes (of_kind type_proxy_state request.now.packet.attributes) body.old) }
 {
-    let mut rest = packet.attributes();
+    if request.proxy_states == 0 {
+        return Ok(());
+    }
+    let mut rest = request.packet.attributes();
     while let Some(attribute) = rest.next() {
         if attribute.kind == PROXY_STATE {
             body.push(attribute.kind, attribute.value)?;

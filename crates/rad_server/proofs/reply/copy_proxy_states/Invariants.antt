@@ -7,6 +7,6 @@ use Rattle.rad_server.proofs.reply.copy_proxy_states.Given as goal
 abbrev pub invariant-loop-attribute : goal.invariant-loop-attribute
 invariant-loop-attribute l = record {
   code : l.body.code ≡ l.fn.body.code;
-  copied : l.body.attributes ++ of_kind 33 l.rest ≡ l.fn.body.attributes ++ of_kind 33 l.packet.attributes;
+  copied : l.body.attributes ++ of_kind 33 l.rest ≡ l.fn.body.attributes ++ of_kind 33 l.request.packet.attributes;
   each : AllByRecursion IsAttribute l.rest;
 }

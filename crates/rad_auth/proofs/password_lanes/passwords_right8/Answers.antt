@@ -2,7 +2,7 @@ use Rattle.std.proofs.Common.{ap, arith}
 use Rattle.std.specs.Prelude.{map}
 use Rattle.rad_auth.specs.PasswordChecks.{is_right_in}
 use Rattle.rad_auth.proofs.LaneLemmas.{eight_lanes}
-use Rattle.rad_auth.proofs.password_lanes.side_by_side.Goals as goal
+use Rattle.rad_auth.proofs.password_lanes.passwords_right8.Goals as goal
 
 pub returns : goal.returns
 returns c =
