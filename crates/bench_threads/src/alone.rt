@@ -6,7 +6,7 @@ ghost use Rattle.rad_auth.specs.Sealing.{IsJob};
 ghost use Rattle.rad_server.specs.Steps.{IsSealable};
 
 use crate::datagrams::Replies;
-use rad_auth::{Arrival, Clients, Discard, Job, Request, admitted_is_answerable, check8, seal8};
+use rad_auth::{Arrival, Clients, Discard, Job, Request, check8, seal8};
 use rad_config::MOMENT_MAX;
 use rad_packet::Frame;
 use rad_server::{Answer, Server};
@@ -126,11 +126,5 @@ fn job<'a>(clients: &'a Clients, verdict: &Verdict, answer: &'a Option<Answer>) 
     let Some(Answer::Send(body)) = answer else {
         return None;
     };
-    admitted_is_answerable(clients, request);
-    Some(Job {
-        body,
-        id: request.packet.identifier(),
-        request_authenticator: request.packet.authenticator(),
-        secret: clients.secret(request.client),
-    })
+    Some(Job::of(clients, request, body))
 }

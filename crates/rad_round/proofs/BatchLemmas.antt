@@ -1,5 +1,5 @@
 -- What a batch knows of its lanes.
-use Rattle.std.proofs.Common.{◌≡◌, ◌⊎◌, ◌<◌, ℕ, zero, suc, ◌+◌, ◌*◌, List, [], ◌∷◌, ◌++◌, length, map, replicate, get_or, All, Option, Some, None, IfSome, option_map, slice_get, arith, inl, inr, refl, sym, ap, subst, ◌∙◌, length-append}
+use Rattle.std.proofs.Common.{◌≡◌, ◌<◌, ℕ, zero, suc, ◌+◌, ◌*◌, List, [], ◌∷◌, length, map, replicate, get_or, All, Option, Some, None, IfSome, option_map, slice_get, arith, refl, sym, ap, subst, ◌∙◌}
 use Rattle.std.proofs.lemmas.Option.{get_or_from_slice_get, none-some, slice_get-get_or, slice_get-map, slice_get_read, slice_get_within}
 use Rattle.std.proofs.lemmas.List.{length-map}
 use Rattle.rad_packet.specs.Packets.{packet_octets}
@@ -13,7 +13,7 @@ use Rattle.rad_auth.specs.declared.arrival.Arrival.{Arrival}
 use Rattle.rad_auth.specs.declared.job.Job.{Job}
 use Rattle.rad_desk.specs.declared.receipt.Receipt.{Receipt}
 use Rattle.rad_server.specs.declared.entry.Entry.{Entry}
-use Rattle.rad_round.specs.Works.{AreAskedOf, AreSealed, AreVerdicts, CheckedBatch, HasOctets, IsAskedOf, IsChecked, IsJobIn, IsLane, IsReady, IsVerdict, PutsLanes, Verdict, entry_of, unasked}
+use Rattle.rad_round.specs.Works.{AreAskedOf, AreLanes, AreSealed, AreVerdicts, CheckedBatch, HasOctets, IsAskedOf, IsChecked, IsJobIn, IsLane, IsLaneOf, IsReady, IsVerdict, Verdict, entry_of, unasked}
 use Rattle.rad_round.specs.Rounds.{IsSentAs}
 use Rattle.rad_server.specs.Steps.{IsSealable}
 use Rattle.rad_auth.specs.declared.arrival.Request.{Request}
@@ -21,7 +21,7 @@ use Rattle.rad_auth.specs.declared.discard.Discard.{Discard}
 use Rattle.std.proofs.Common.{Result, Ok, Err}
 use Rattle.rad_round.specs.declared.outcome.Outcome.{Outcome}
 use Rattle.rad_round.specs.declared.timed.Timed.{Timed}
-use Rattle.rad_round.proofs.ListLemmas.{get_either, some_is, zip2_get}
+use Rattle.rad_round.proofs.ListLemmas.{some_is, zip2_get}
 
 -- ---- verdicts
 
@@ -54,8 +54,8 @@ verdicts_of clients arrivals first lanes verdicts are from admitted lane verdict
         ∙ ap (lane_admission clients) (from lane arrival is) ∙ of_arrival (slice_get arrivals (first + lane))
 
 -- the requests among the verdicts of a batch are admitted
-pub all_admitted : (clients : List Client) (arrivals : List Timed) (first : ℕ) (verdicts : List Verdict) → AreVerdicts clients arrivals first verdicts
-    → All (HoldsAdmitted clients) verdicts
+pub all_admitted : (clients : List Client) (arrivals : List Timed) (first : ℕ) (verdicts : List Verdict)
+    → AreVerdicts clients arrivals first verdicts → All (HoldsAdmitted clients) verdicts
 all_admitted clients arrivals first verdicts are lane d within =
     (are lane (get_or verdicts lane d) (slice_get-get_or verdicts lane d within)).admitted
 
@@ -73,63 +73,9 @@ sealed_of clients verdicts asked jobs before after are jobs_are lane frame at_fr
 
 -- ---- outcomes
 
--- the outcomes of the lanes below one are put last
-pub record PutBelow (batch : CheckedBatch) (entries : List (Option Entry)) (lane : ℕ) (before after : List (Option Outcome)) : Type 0 where
-  pub outcomes : List (Option Outcome)
-  pub last : after ≡ before ++ outcomes
-  pub count : length outcomes ≡ lane
-  pub each : (place : ℕ) (outcome : Option Outcome) (entry : Option Entry) → slice_get outcomes place ≡ Some outcome
-      → slice_get entries place ≡ Some entry → IsLane batch.configuration.clients batch.arrivals (batch.number * 8 + place) outcome entry
-
-pub put_none : (batch : CheckedBatch) (entries : List (Option Entry)) (before : List (Option Outcome)) → PutBelow batch entries 0 before before
-put_none batch entries before = record {
-  outcomes = [];
-  last = sym (nothing before);
-  count = refl;
-  each = λ place outcome entry at there. absurd (none-some outcome at);
-}
-  where
-    nothing : (xs : List (Option Outcome)) → xs ++ [] ≡ xs
-    nothing [] = refl
-    nothing (x ∷ xs) = ap (λ l. x ∷ l) (nothing xs)
-
-join : (xs ys zs : List (Option Outcome)) → (xs ++ ys) ++ zs ≡ xs ++ (ys ++ zs)
-join [] ys zs = refl
-join (x ∷ xs) ys zs = ap (λ l. x ∷ l) (join xs ys zs)
-
-pub put_more : (batch : CheckedBatch) (entries : List (Option Entry)) (lane : ℕ) (before now after : List (Option Outcome)) (outcome : Option Outcome)
-    → PutBelow batch entries lane before now → after ≡ now ++ outcome ∷ []
-    → ((entry : Option Entry) → slice_get entries lane ≡ Some entry → IsLane batch.configuration.clients batch.arrivals (batch.number * 8 + lane) outcome entry)
-    → PutBelow batch entries (lane + 1) before after
-put_more batch entries lane before now after outcome put is own = record {
-  outcomes = put.outcomes ++ outcome ∷ [];
-  last = is ∙ ap (λ l. l ++ outcome ∷ []) put.last ∙ join before put.outcomes (outcome ∷ []);
-  count = omega (arith, length-append put.outcomes (outcome ∷ []), put.count);
-  each = λ place each entry at there. pick place each entry there (get_either put.outcomes (outcome ∷ []) place each at);
-}
-  where
-    pick : (place : ℕ) (each : Option Outcome) (entry : Option Entry) → slice_get entries place ≡ Some entry
-        → (slice_get put.outcomes place ≡ Some each) ⊎ ((j : ℕ) × (place ≡ length put.outcomes + j) × (slice_get (outcome ∷ []) j ≡ Some each))
-        → IsLane batch.configuration.clients batch.arrivals (batch.number * 8 + place) each entry
-    pick place each entry there (inl old) = put.each place each entry old there
-    pick place each entry there (inr new) = last new.0 new.1 new.2
-      where
-        last : (j : ℕ) → place ≡ length put.outcomes + j → slice_get (outcome ∷ []) j ≡ Some each
-            → IsLane batch.configuration.clients batch.arrivals (batch.number * 8 + place) each entry
-        last zero at one =
-            let same : place ≡ lane = omega (arith, at, put.count) in
-            subst (λ n. IsLane batch.configuration.clients batch.arrivals (batch.number * 8 + n) each entry) (sym same)
-            (subst (λ o. IsLane batch.configuration.clients batch.arrivals (batch.number * 8 + lane) o entry) (some_is outcome each one)
-            (own entry (subst (λ n. slice_get entries n ≡ Some entry) same there)))
-        last (suc j) at one = absurd (none-some each one)
-
-pub put_all : (batch : CheckedBatch) (entries : List (Option Entry)) (lane : ℕ) (before after : List (Option Outcome)) → lane ≡ 8 → length entries ≡ 8
-    → PutBelow batch entries lane before after → PutsLanes batch entries before after
-put_all batch entries lane before after is count put = record {
-  outcomes = put.outcomes;
-  last = put.last;
-  lanes = record { outcome_each = put.count ∙ is; entry_each = count; each = put.each };
-}
+-- a batch that contracts see is checked
+abbrev pub IsCheckedBatch : CheckedBatch → Type 0
+IsCheckedBatch batch = IsChecked batch.configuration.clients batch.arrivals batch.number batch.verdicts
 
 -- the entry in a lane of receipts
 pub entry_at : (asked : List (Option Receipt)) (lane : ℕ) (entry : Option Entry) → slice_get (map entry_of asked) lane ≡ Some entry
@@ -144,6 +90,21 @@ none_at zero lane entry at = absurd (none-some entry at)
 none_at (suc count) zero entry at = some_is None entry at
 none_at (suc count) (suc lane) entry at = none_at count lane entry at
 
+-- what the lanes of a batch have, by their receipts
+pub lanes_of : (batch : CheckedBatch) (asked : List (Option Receipt)) (outcomes : List (Option Outcome)) → length asked ≡ 8
+    → length outcomes ≡ 8
+    → ((lane : ℕ) (outcome : Option Outcome) → slice_get outcomes lane ≡ Some outcome
+    → IsLaneOf batch.configuration.clients batch.arrivals (batch.number * 8 + lane) outcome (slice_get asked lane))
+    → AreLanes batch.configuration.clients batch.arrivals batch.number outcomes (map entry_of asked)
+lanes_of batch asked outcomes asked_each outcome_each lanes = record {
+  outcome_each = outcome_each;
+  entry_each = length-map asked entry_of ∙ asked_each;
+  each = λ lane outcome entry at there.
+      let receipt = entry_at asked lane entry there in
+      subst (IsLane batch.configuration.clients batch.arrivals (batch.number * 8 + lane) outcome) receipt.2
+      (lanes lane outcome at receipt.0 receipt.1);
+}
+
 -- ---- lanes
 
 -- the element of a list that was read
@@ -151,14 +112,14 @@ pub the_read : {A : Type 0} (xs : List A) (k : ℕ) (read x : A) → read ≡ ge
 the_read xs k read x is at = sym (get_or_from_slice_get xs k x read at) ∙ sym is
 
 -- where there is no arrival there is no verdict, else it is that of its admission
-verdict_at : (clients : List Client) (arrivals : List Timed) (number : ℕ) (verdict : Verdict) (some : Option Timed) → slice_get arrivals number ≡ some
-    → IsVerdict clients arrivals number verdict → verdict ≡ option_map (λ timed. admission clients (datagram_of timed.arrival)) some
+verdict_at : (clients : List Client) (arrivals : List Timed) (number : ℕ) (verdict : Verdict) (some : Option Timed)
+    → slice_get arrivals number ≡ some → IsVerdict clients arrivals number verdict → verdict ≡ option_map (λ timed. admission clients (datagram_of timed.arrival)) some
 verdict_at clients arrivals number verdict some at is =
     is.value ∙ ap (option_map (λ timed. admission clients (datagram_of timed.arrival))) at
 
 -- a lane of which no exchange was made
-pub unasked_lane : (clients : List Client) (arrivals : List Timed) (number : ℕ) (verdict : Verdict) → IsVerdict clients arrivals number verdict
-    → IsLane clients arrivals number (unasked verdict) None
+pub unasked_lane : (clients : List Client) (arrivals : List Timed) (number : ℕ) (verdict : Verdict)
+    → IsVerdict clients arrivals number verdict → IsLane clients arrivals number (unasked verdict) None
 unasked_lane clients arrivals number verdict is = by (slice_get arrivals number) refl
   where
     of : (timed : Timed) (said : Result Request Discard) → slice_get arrivals number ≡ Some timed
@@ -168,7 +129,8 @@ unasked_lane clients arrivals number verdict is = by (slice_get arrivals number)
 
     by : (some : Option Timed) → slice_get arrivals number ≡ some → IsLane clients arrivals number (unasked verdict) None
     by None at =
-        subst (λ v. IsLane clients arrivals number (unasked v) None) (sym (verdict_at clients arrivals number verdict None at is)) (at, refl)
+        subst (λ v. IsLane clients arrivals number (unasked v) None) (sym (verdict_at clients arrivals number verdict None at is))
+        (at, refl)
     by (Some timed) at =
         subst (λ v. IsLane clients arrivals number (unasked v) None) (sym (verdict_at clients arrivals number verdict (Some timed) at is))
         (of timed (admission clients (datagram_of timed.arrival)) at refl)
@@ -200,10 +162,6 @@ verdict_in clients arrivals number verdicts lane verdict checked within is =
     slice_get-get_or verdicts lane verdict (omega (arith, within, checked.lanes)) ∙ ap Some (sym is) in
     (at, checked.checked lane verdict at)
 
--- a batch that contracts see is checked
-abbrev pub IsCheckedBatch : CheckedBatch → Type 0
-IsCheckedBatch batch = IsChecked batch.configuration.clients batch.arrivals batch.number batch.verdicts
-
 -- the verdict in a lane of which nothing was read
 some_verdict : (batch : CheckedBatch) (lane : ℕ) → IsCheckedBatch batch → lane < 8
     → (verdict : Verdict) × (slice_get batch.verdicts lane ≡ Some verdict) × IsVerdict batch.configuration.clients batch.arrivals (batch.number * 8 + lane) verdict
@@ -211,6 +169,26 @@ some_verdict batch lane checked within =
     let verdict = get_or batch.verdicts lane None in
     let at : slice_get batch.verdicts lane ≡ Some verdict = slice_get-get_or batch.verdicts lane None (omega (arith, within, checked.lanes)) in
     (verdict, at, checked.checked lane verdict at)
+
+-- what the lanes of a batch have of which nothing was asked
+pub lanes_unasked : (batch : CheckedBatch) (outcomes : List (Option Outcome)) → IsCheckedBatch batch → outcomes ≡ map unasked batch.verdicts
+    → AreLanes batch.configuration.clients batch.arrivals batch.number outcomes (replicate 8 None)
+lanes_unasked batch outcomes checked are = record { outcome_each = outcome_each; entry_each = refl; each = each }
+  where
+    outcome_each : length outcomes ≡ 8
+    outcome_each = ap length are ∙ length-map batch.verdicts unasked ∙ checked.lanes
+
+    each : (lane : ℕ) (outcome : Option Outcome) (entry : Option Entry) → slice_get outcomes lane ≡ Some outcome
+        → slice_get (replicate 8 None) lane ≡ Some entry
+        → IsLane batch.configuration.clients batch.arrivals (batch.number * 8 + lane) outcome entry
+    each lane outcome entry at there =
+        let verdict = some_verdict batch lane checked (omega (arith, slice_get_within outcomes lane outcome at, outcome_each)) in
+        let is : unasked verdict.0 ≡ outcome = some_is (unasked verdict.0) outcome
+        (ap (option_map unasked) (sym verdict.1) ∙ sym (slice_get-map unasked batch.verdicts lane)
+        ∙ ap (λ list. slice_get list lane) (sym are) ∙ at) in
+        subst (IsLane batch.configuration.clients batch.arrivals (batch.number * 8 + lane) outcome) (none_at 8 lane entry there)
+        (subst (λ o. IsLane batch.configuration.clients batch.arrivals (batch.number * 8 + lane) o None) is
+        (unasked_lane batch.configuration.clients batch.arrivals (batch.number * 8 + lane) verdict.0 verdict.2))
 
 -- what the lane of a receipt has, where its answer is sent as this outcome
 pub lane_of : (batch : CheckedBatch) (asked : List (Option Receipt)) (lane : ℕ) (receipt : Receipt) (outcome : Outcome) → IsCheckedBatch batch → lane < 8
@@ -222,11 +200,6 @@ lane_of batch asked lane receipt outcome checked within are at sent =
     let said = some_verdict batch lane checked within in
     let is = are.1 lane said.0 (Some receipt) said.1 at in
     asked_lane batch.configuration.clients batch.arrivals (batch.number * 8 + lane) said.0 receipt outcome said.2 is (sent said.0 is said.1)
-
--- the receipt that was read in a lane
-pub receipt_at : (asked : List (Option Receipt)) (lane : ℕ) (read receipt : Option Receipt) → read ≡ get_or asked lane read
-    → slice_get asked lane ≡ Some receipt → receipt ≡ read
-receipt_at asked lane read receipt is at = the_read asked lane read receipt is at
 
 -- an answer that was read in a lane can be sealed
 pub sealable_in : (batch : CheckedBatch) (asked : List (Option Receipt)) (lane : ℕ) (read : Option Receipt) → IsCheckedBatch batch → lane < 8

@@ -16,7 +16,7 @@ use Rattle.rad_server.specs.Servers.{Server}
 use Rattle.rad_server.specs.declared.entry.Entry.{Entry}
 use Rattle.rad_round.proofs.ListLemmas.{there}
 use Rattle.rad_round.specs.Rounds.{HasArrival, HasEntry, HaveOwnTags, AreOutcomes, IsEntryOf, IsOutcome, Round}
-use Rattle.rad_round.specs.Works.{AreLogged, Answered, IsAnswered, IsIn, IsLane, IsLogged, IsOutcomeWith, IsPlaced, IsTheOne, all_of, batch_count, entry_count, numbers_of, somes, taken}
+use Rattle.rad_round.specs.Works.{Answered, IsAnswered, IsInLog, IsLane, IsLogged, IsOutcomeWith, all_of, batch_count, entry_count, numbers_of, somes, taken}
 use Rattle.rad_round.specs.declared.outcome.Outcome.{Outcome}
 use Rattle.rad_round.specs.declared.outcome.Outcome.TheVariants.{Dropped, Busy, NoMemory, Reply}
 use Rattle.rad_round.specs.declared.timed.Timed.{Timed}
@@ -24,7 +24,7 @@ use Rattle.rad_round.specs.declared.timed.Timed.{Timed}
 -- ---- lists
 
 -- what holds of all elements holds of the one at a place
-all_at : {A : Type 0} (P : A → Type 0) (xs : List A) (k : ℕ) (x : A) → All P xs → slice_get xs k ≡ Some x → P x
+pub all_at : {A : Type 0} (P : A → Type 0) (xs : List A) (k : ℕ) (x : A) → All P xs → slice_get xs k ≡ Some x → P x
 all_at P xs k x all at = subst P (get_or_from_slice_get xs k x x at) (all k x (slice_get_within xs k x at))
 
 module _ {A : Type 0} (p : A → Bool) where
@@ -79,7 +79,8 @@ count_map f p (x ∷ xs) =
 -- ---- elements that are there
 
 -- an element that is there is among those that are there
-in_somes : {A : Type 0} (xs : List (Option A)) (k : ℕ) (x : A) → slice_get xs k ≡ Some (Some x) → (j : ℕ) × (slice_get (somes xs) j ≡ Some x)
+in_somes : {A : Type 0} (xs : List (Option A)) (k : ℕ) (x : A) → slice_get xs k ≡ Some (Some x)
+    → (j : ℕ) × (slice_get (somes xs) j ≡ Some x)
 in_somes [] k x at = absurd (none-some (Some x) at)
 in_somes (None ∷ xs) zero x at = absurd (none-some x (same_Some None (Some x) at))
 in_somes (Some a ∷ xs) zero x at = (0, same_Some (Some a) (Some x) at)
@@ -106,32 +107,29 @@ times_of : (number : ℕ) (list : List Answered) → times number (numbers_of li
 times_of number list = count_map (λ answered. answered.number) (λ drawn. drawn == number) list
 
 -- no two places have batches of one number
-abbrev HaveOwnNumbers : List Answered → Type 0
+abbrev pub HaveOwnNumbers : List Answered → Type 0
 HaveOwnNumbers list = (place other : ℕ) (answered another : Answered) → slice_get list place ≡ Some answered
     → slice_get list other ≡ Some another → answered.number ≡ another.number → place ≡ other
 
-own_numbers : (list : List Answered) (count : ℕ) → ((number : ℕ) → times number (numbers_of list) ≡ once_below count number)
+pub own_numbers : (list : List Answered) (count : ℕ) → ((number : ℕ) → times number (numbers_of list) ≡ once_below count number)
     → HaveOwnNumbers list
 own_numbers list count once place other answered another at at_other same =
     only (λ each. each.number == another.number) list
     (omega (arith, times_of another.number list, once another.number, once_at_most count another.number))
     place other answered another at (eq-eqb answered.number another.number same) at_other (eq-eqb another.number another.number refl)
 
--- where each number is that of at most one batch, a batch of the list is the one of its number
-pub the_one : (list : List Answered) (count : ℕ) → ((number : ℕ) → times number (numbers_of list) ≡ once_below count number)
-    → (answered : Answered) → IsIn list answered → IsTheOne list answered
-the_one list count once answered is_in other other_in same =
-    let place : other_in.0 ≡ is_in.0 = own_numbers list count once other_in.0 is_in.0 other answered other_in.1 is_in.1 same in
-    same_Some other answered (sym other_in.1 ∙ ap (slice_get list) place ∙ is_in.1)
-
 -- how often a number is in all lists together
-pub times_all : (number : ℕ) (lists : List (List Answered)) → times number (numbers_of (all_of lists)) ≡ times_in number (map numbers_of lists)
+pub times_all : (number : ℕ) (lists : List (List Answered))
+    → times number (numbers_of (all_of lists)) ≡ times_in number (map numbers_of lists)
 times_all number [] = refl
 times_all number (list ∷ rest) =
-    ap (times number) (map-append (λ (answered : Answered). answered.number) list (all_of rest))
-    ∙ sum_by-append (λ drawn. cond (drawn == number) 1 0) (numbers_of list) (numbers_of (all_of rest))
-    ∙ ap (λ n. times number (numbers_of list) + n) (times_all number rest)
-    ∙ sym (sum_by-cons (times number) (numbers_of list) (map numbers_of rest))
+    omega (
+      arith,
+      ap (times number) (map-append (λ (answered : Answered). answered.number) (all_of rest) list),
+      sum_by-append (λ drawn. cond (drawn == number) 1 0) (numbers_of (all_of rest)) (numbers_of list),
+      times_all number rest,
+      sum_by-cons (times number) (numbers_of list) (map numbers_of rest),
+    )
 
 -- ---- takings
 
@@ -145,7 +143,8 @@ abbrev takings_of : List Answered → List (Taking Entry)
 takings_of [] = []
 takings_of (answered ∷ rest) = with_ticket answered.ticket (takings_of rest)
 
-entries_with : (ticket : Option (Taking Entry)) (ts : List (Taking Entry)) → entries_of (with_ticket ticket ts) ≡ taken ticket ++ entries_of ts
+entries_with : (ticket : Option (Taking Entry)) (ts : List (Taking Entry))
+    → entries_of (with_ticket ticket ts) ≡ taken ticket ++ entries_of ts
 entries_with None ts = refl
 entries_with (Some t) ts = refl
 
@@ -251,7 +250,8 @@ tagged_none tag first (None ∷ entries) tags outside =
     further (inl before) = inl (omega arith)
     further (inr behind) = inr (omega arith)
 tagged_none tag first (Some entry ∷ entries) tags outside =
-    count_no (λ (each : Entry). each.tag == tag) entry (somes entries) (ne_eqb entry.tag tag (λ same. apart outside (tags 0 entry refl) same))
+    count_no (λ (each : Entry). each.tag == tag) entry (somes entries)
+    (ne_eqb entry.tag tag (λ same. apart outside (tags 0 entry refl) same))
     ∙ tagged_none tag (first + 1) entries (later_tags first (Some entry) entries tags) (further outside)
   where
     further : (tag < first) ⊎ (first + suc (length entries) ≤ tag) → (tag < first + 1) ⊎ (first + 1 + length entries ≤ tag)
@@ -286,26 +286,31 @@ record HasTags (answered : Answered) : Type 0 where
 
 -- only the batch of a tag has an entry of it, and that one at most one
 tagged_in : (tag : ℕ) (answered : Answered) → HasTags answered → tagged tag (taken answered.ticket) ≤ cond (answered.number == tag / 8) 1 0
-tagged_in tag answered has = subst (λ list. tagged tag list ≤ cond (answered.number == tag / 8) 1 0) (sym has.taken_is) (pick (answered.number == tag / 8) refl)
+tagged_in tag answered has =
+    subst (λ list. tagged tag list ≤ cond (answered.number == tag / 8) 1 0) (sym has.taken_is) (pick (answered.number == tag / 8) refl)
   where
     pick : (same : Bool) → (answered.number == tag / 8) ≡ same → tagged tag (somes has.entries) ≤ cond same 1 0
     pick true same = tagged_once tag (answered.number * 8) has.entries has.tags
     pick false same =
-        let other : (answered.number < tag / 8) ⊎ (tag / 8 < answered.number) = apart (λ is. true≢false (sym (eq-eqb answered.number (tag / 8) is) ∙ same)) in
+        let other : (answered.number < tag / 8) ⊎ (tag / 8 < answered.number) =
+        apart (λ is. true≢false (sym (eq-eqb answered.number (tag / 8) is) ∙ same)) in
         omega (arith, tagged_none tag (answered.number * 8) has.entries has.tags (outside other))
       where
         apart : (answered.number ≡ tag / 8 → ⊥) → (answered.number < tag / 8) ⊎ (tag / 8 < answered.number)
         apart not = grind (arith, not)
 
-        outside : (answered.number < tag / 8) ⊎ (tag / 8 < answered.number) → (tag < answered.number * 8) ⊎ (answered.number * 8 + length has.entries ≤ tag)
+        outside : (answered.number < tag / 8) ⊎ (tag / 8 < answered.number)
+            → (tag < answered.number * 8) ⊎ (answered.number * 8 + length has.entries ≤ tag)
         outside (inl below) = inr (omega (arith, has.eight))
         outside (inr above) = inl (omega arith)
 
-takings_tagged : (tag : ℕ) (list : List Answered) → ((place : ℕ) (answered : Answered) → slice_get list place ≡ Some answered → HasTags answered)
+takings_tagged : (tag : ℕ) (list : List Answered)
+    → ((place : ℕ) (answered : Answered) → slice_get list place ≡ Some answered → HasTags answered)
     → tagged tag (entries_of (takings_of list)) ≤ count_by (λ answered. answered.number == tag / 8) list
 takings_tagged tag [] each = omega arith
 takings_tagged tag (answered ∷ rest) each =
-    let sum : tagged tag (entries_of (takings_of (answered ∷ rest))) ≡ tagged tag (taken answered.ticket) + tagged tag (entries_of (takings_of rest)) =
+    let sum : tagged tag (entries_of (takings_of (answered ∷ rest)))
+    ≡ tagged tag (taken answered.ticket) + tagged tag (entries_of (takings_of rest)) =
     ap (tagged tag) (entries_with answered.ticket (takings_of rest))
     ∙ sum_by-append (λ (entry : Entry). cond (entry.tag == tag) 1 0) (taken answered.ticket) (entries_of (takings_of rest)) in
     omega (
@@ -317,6 +322,11 @@ takings_tagged tag (answered ∷ rest) each =
     )
 
 -- ---- lanes
+
+-- the outcomes of a batch are at the places of their arrivals
+abbrev pub IsPlaced : List Outcome → Answered → Type 0
+IsPlaced outcomes answered = (lane : ℕ) (outcome : Outcome) → slice_get answered.outcomes lane ≡ Some (Some outcome)
+    → slice_get outcomes (answered.number * 8 + lane) ≡ Some outcome
 
 -- the entry of a lane is that of an arrival, with the lane's outcome
 record IsOfLane (clients : List Client) (arrivals : List Timed) (answered : Answered) (lane : ℕ) (entry : Entry) : Type 0 where
@@ -358,12 +368,11 @@ has_arrivals clients arrivals outcomes answered right placed =
     each : (lane : ℕ) (entry : Entry) → slice_get right.entries lane ≡ Some (Some entry) → HasArrival clients arrivals outcomes entry
     each lane entry at =
         let of = of_lane clients arrivals answered right lane entry at in
-        let within : lane < 8 = omega (arith, slice_get_within right.entries lane (Some entry) at, right.lanes.entry_each) in
         let tag : answered.number * 8 + lane ≡ entry.tag = sym of.entry_is.asked.has_tag in record {
           timed = of.timed;
           outcome = of.outcome;
           arrival = subst (λ n. slice_get arrivals n ≡ Some of.timed) tag of.arrival;
-          outcome_is = subst (λ n. slice_get outcomes n ≡ Some of.outcome) tag (placed lane of.outcome within of.outcome_at);
+          outcome_is = subst (λ n. slice_get outcomes n ≡ Some of.outcome) tag (placed lane of.outcome of.outcome_at);
           entry_of = subst (λ n. IsEntryOf clients n of.timed of.outcome entry) tag of.entry_is;
         }
 
@@ -386,16 +395,14 @@ by_entry clients Known number timed NoMemory entry has is = absurd is.sent
 by_entry clients Known number timed (Reply frame) entry has is = (entry, has, is)
 
 -- the history has the entries of a batch
-in_history : (history : List Entry) (log : List (Taking Entry)) (list : List Answered) (answered : Answered) → IsLogged history log
-    → AreLogged log list → IsIn list answered → (k : ℕ) (entry : Entry) → slice_get (taken answered.ticket) k ≡ Some entry
-    → HasEntry history entry
-in_history history log list answered logged are is_in k entry at = pick answered.ticket refl at
+in_history : (history : List Entry) (log : List (Taking Entry)) (answered : Answered) → IsLogged history log → IsInLog log answered
+    → (k : ℕ) (entry : Entry) → slice_get (taken answered.ticket) k ≡ Some entry → HasEntry history entry
+in_history history log answered logged in_log k entry at = pick answered.ticket in_log at
   where
-    pick : (ticket : Option (Taking Entry)) → answered.ticket ≡ ticket → slice_get (taken ticket) k ≡ Some entry → HasEntry history entry
-    pick None ticket_is at = absurd (none-some entry at)
-    pick (Some t) ticket_is at =
-        let place = are answered t is_in ticket_is in
-        let is = entry_in log place.0 t place.1 k entry at in
+    pick : (ticket : Option (Taking Entry)) → IfSome ticket (Has log) → slice_get (taken ticket) k ≡ Some entry → HasEntry history entry
+    pick None has at = absurd (none-some entry at)
+    pick (Some t) has at =
+        let is = entry_in log has.0 t has.1 k entry at in
         (is.0, subst (λ entries. slice_get entries is.0 ≡ Some entry) logged is.1)
 
 -- what lanes say of arrivals
@@ -426,7 +433,7 @@ lane_outcome clients arrivals outcomes Known answered right placed has lane time
     pick None entry at_outcome at_entry is = absurd (none-some timed (sym is.0 ∙ at))
     pick (Some outcome) entry at_outcome at_entry is = (
       outcome,
-      placed lane outcome within at_outcome,
+      placed lane outcome at_outcome,
       subst (λ each. IsOutcome clients Known (answered.number * 8 + lane) each outcome) (same_Some is.0 timed (sym is.1 ∙ at))
           (with_entry is.0 outcome entry at_entry is.2),
     )
@@ -444,16 +451,16 @@ batch_of list count number once within =
     below = omega arith
 
 outcomes_of : (clients : List Client) (arrivals : List Timed) (outcomes : List Outcome) (history : List Entry) (log : List (Taking Entry))
-    (list : List Answered) → IsLogged history log → All (IsAnswered clients arrivals) list → AreLogged log list
+    (list : List Answered) → IsLogged history log → All (IsAnswered clients arrivals) list → All (IsInLog log) list
     → ((number : ℕ) → times number (numbers_of list) ≡ once_below (batch_count arrivals) number)
-    → ((answered : Answered) → IsIn list answered → IsPlaced outcomes answered)
+    → ((place : ℕ) (answered : Answered) → slice_get list place ≡ Some answered → IsPlaced outcomes answered)
     → AreOutcomes clients arrivals outcomes history
 outcomes_of clients arrivals outcomes history log list logged right are once placed number timed at =
     let is = batch_of list (length arrivals) number once (slice_get_within arrivals number timed at) in
     let same : is.1.number * 8 + number % 8 ≡ number = omega (arith, is.3) in
     let outcome = lane_outcome clients arrivals outcomes (HasEntry history) is.1
-    (all_at (IsAnswered clients arrivals) list is.0 is.1 right is.2) (placed is.1 (is.0, is.2))
-    (in_history history log list is.1 logged are (is.0, is.2)) (number % 8) timed (omega arith)
+    (all_at (IsAnswered clients arrivals) list is.0 is.1 right is.2) (placed is.0 is.1 is.2)
+    (in_history history log is.1 logged (all_at (IsInLog log) list is.0 is.1 are is.2)) (number % 8) timed (omega arith)
     (subst (λ n. slice_get arrivals n ≡ Some timed) (sym same) at) in (
       outcome.0,
       subst (λ n. slice_get outcomes n ≡ Some outcome.0) same outcome.1,
@@ -466,9 +473,10 @@ outcomes_of clients arrivals outcomes history log list logged right are once pla
 -- as many entries as the history
 pub round_of : (opening : Server) (arrivals : List Timed) (outcomes : List Outcome) (history : List Entry) (after : Server)
     (log : List (Taking Entry)) (list : List Answered) → IsHistory opening history after → IsLogged history log
-    → All (IsAnswered opening.configuration.clients arrivals) list → AreLogged log list
+    → All (IsAnswered opening.configuration.clients arrivals) list → All (IsInLog log) list
     → ((number : ℕ) → times number (numbers_of list) ≡ once_below (batch_count arrivals) number)
-    → length history ≡ entry_count list → ((answered : Answered) → IsIn list answered → IsPlaced outcomes answered)
+    → length history ≡ entry_count list
+    → ((place : ℕ) (answered : Answered) → slice_get list place ≡ Some answered → IsPlaced outcomes answered)
     → length outcomes ≡ length arrivals → Round opening arrivals outcomes history after
 round_of opening arrivals outcomes history after log list run logged right are once total placed count =
     record { run = run; count = count; answered = answered; entries = entries; tags = tags }
@@ -480,7 +488,9 @@ round_of opening arrivals outcomes history after log list run logged right are o
     answered = outcomes_of opening.configuration.clients arrivals outcomes history log list logged right are once placed
 
     has : (place : ℕ) (t : Taking Entry) → slice_get (takings_of list) place ≡ Some t → Has log t
-    has place t at = let of = is_of list place t at in are of.answered t (of.place, of.at) of.ticket
+    has place t at =
+        let of = is_of list place t at in
+        subst (λ ticket. IfSome ticket (Has log)) of.ticket (all_at (IsInLog log) list of.place of.answered are of.at)
 
     same : IsPermutation (entries_of (takings_of list)) history
     same =
@@ -493,7 +503,8 @@ round_of opening arrivals outcomes history after log list run logged right are o
     entries =
         All-permutation (HasArrival opening.configuration.clients arrivals outcomes) (entries_of (takings_of list)) history same
         (takings_all (HasArrival opening.configuration.clients arrivals outcomes) list
-        (λ place each at. has_arrivals opening.configuration.clients arrivals outcomes each (right_at place each at) (placed each (place, at))))
+        (λ place each at.
+        has_arrivals opening.configuration.clients arrivals outcomes each (right_at place each at) (placed place each at)))
 
     few : (tag : ℕ) → tagged tag history ≤ 1
     few tag =

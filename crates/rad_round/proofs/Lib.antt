@@ -3,4 +3,3 @@ pub mod GatherLemmas
 pub mod HandInLemmas
 pub mod ListLemmas
 pub mod ShareLemmas
-pub mod WorkLemmas

@@ -1,10 +1,14 @@
 -- Lists: elements at their places.
-use Rattle.std.proofs.Common.{rules, ◌≡◌, ◌≢◌, ◌⊎◌, ◌<◌, ◌≤◌, ℕ, zero, suc, ◌+◌, List, [], ◌∷◌, ◌++◌, length, set, drop, take, Option, Some, None, IfSome, MatchOption, unwrap_or, slice_get, arith, inl, inr, refl, sym, ap, subst, ◌∙◌}
+use Rattle.std.proofs.Common.{◌≡◌, ◌≢◌, ◌⊎◌, ◌<◌, ℕ, zero, suc, List, [], ◌∷◌, ◌++◌, length, set, drop, take, Some, unwrap_or, slice_get, arith, inl, inr, refl, sym, ap, subst}
 use Rattle.std.proofs.lemmas.Option.{none-some}
 use lib.Lanes.{zip2}
 
 pub some_is : {A : Type 0} (x y : A) → Some x ≡ Some y → x ≡ y
 some_is x y is = ap (λ o. unwrap_or o x) is
+
+-- what relates one to another relates an equal one to it
+pub seen_as : {A B : Type 0} (P : A → B → Type 0) {a b : A} {c : B} → a ≡ b → P a c → P b c
+seen_as P {c = c} same is = subst (λ x. P x c) same is
 
 -- there is an element at each place within a list
 pub there : {A : Type 0} (xs : List A) (k : ℕ) → k < length xs → (x : A) × (slice_get xs k ≡ Some x)
@@ -51,75 +55,6 @@ pub get_set_same : {A : Type 0} (xs : List A) (i : ℕ) (x : A) → i < length x
 get_set_same [] i x within = absurd (omega (arith, within))
 get_set_same (a ∷ xs) zero x within = refl
 get_set_same (a ∷ xs) (suc i) x within = get_set_same xs i x (omega (arith, within))
-
--- an element of a list that another follows
-pub get_append : {A : Type 0} (xs ys : List A) (k : ℕ) (x : A) → slice_get xs k ≡ Some x → slice_get (xs ++ ys) k ≡ Some x
-get_append [] ys k x is = absurd (none-some x is)
-get_append (a ∷ xs) ys zero x is = is
-get_append (a ∷ xs) ys (suc k) x is = get_append xs ys k x is
-
--- an element of a list that follows another
-pub get_behind : {A : Type 0} (xs ys : List A) (k : ℕ) (x : A) → slice_get ys k ≡ Some x → slice_get (xs ++ ys) (length xs + k) ≡ Some x
-get_behind [] ys k x is = let none : 0 + k ≡ k = omega arith in subst (λ n. slice_get ys n ≡ Some x) (sym none) is
-get_behind (a ∷ xs) ys k x is =
-    let next : suc (length xs) + k ≡ suc (length xs + k) = omega arith in
-    subst (λ n. slice_get (a ∷ (xs ++ ys)) n ≡ Some x) (sym next) (get_behind xs ys k x is)
-
--- an element of two lists is one of the first or of the second
-pub get_either : {A : Type 0} (xs ys : List A) (k : ℕ) (x : A) → slice_get (xs ++ ys) k ≡ Some x
-    → (slice_get xs k ≡ Some x) ⊎ ((j : ℕ) × (k ≡ length xs + j) × (slice_get ys j ≡ Some x))
-get_either [] ys k x is = inr (k, omega arith, is)
-get_either (a ∷ xs) ys zero x is = inl is
-get_either (a ∷ xs) ys (suc k) x is = next (get_either xs ys k x is)
-  where
-    next : (slice_get xs k ≡ Some x) ⊎ ((j : ℕ) × (k ≡ length xs + j) × (slice_get ys j ≡ Some x))
-        → (slice_get xs k ≡ Some x) ⊎ ((j : ℕ) × (suc k ≡ suc (length xs) + j) × (slice_get ys j ≡ Some x))
-    next (inl first) = inl first
-    next (inr second) = inr (second.0, omega (arith, second.1), second.2)
-
-pub less_or_not : (a b : ℕ) → (a < b) ⊎ (b ≤ a)
-less_or_not a zero = inr (omega arith)
-less_or_not zero (suc b) = inl (omega arith)
-less_or_not (suc a) (suc b) = next (less_or_not a b)
-  where
-    next : (a < b) ⊎ (b ≤ a) → (suc a < suc b) ⊎ (suc b ≤ suc a)
-    next (inl less) = inl (omega (arith, less))
-    next (inr not_less) = inr (omega (arith, not_less))
-
--- the first element of what is left of a list
-first_left : {A : Type 0} (xs : List A) (k : ℕ) (x : A) (rest : List A) → drop k xs ≡ x ∷ rest
-    → (slice_get xs k ≡ Some x) × (drop (suc k) xs ≡ rest)
-first_left [] zero x rest is = absurd (none-some x (ap (λ list. slice_get list 0) is))
-first_left [] (suc k) x rest is = absurd (none-some x (ap (λ list. slice_get list 0) is))
-first_left (a ∷ xs) zero x rest is = (ap (λ list. slice_get list 0) is, ap (drop 1) is)
-first_left (a ∷ xs) (suc k) x rest is = first_left xs k x rest is
-
--- once nothing is left of a list, nothing is left later
-drop_past : {A : Type 0} (xs : List A) (k : ℕ) → length (drop k xs) ≡ 0 → drop (suc k) xs ≡ drop k xs
-drop_past [] zero none = refl
-drop_past [] (suc k) none = refl
-drop_past (a ∷ xs) zero none = absurd (omega (arith, none))
-drop_past (a ∷ xs) (suc k) none = drop_past xs k none
-
--- what holds of each element at its place holds of the next of those that an iterator has left
-pub next_left : {A S : Type 0} (items : S → List A) (P : ℕ → A → Type 0) (xs : List A) (before after : S) (k : ℕ) (next : Option A)
-    → items before ≡ drop k xs
-    → MatchOption next ((length (items before) ≡ 0) × (after ≡ before)) (λ x. items before ≡ x ∷ items after)
-    → ((i : ℕ) (x : A) → slice_get xs i ≡ Some x → P i x) → IfSome next (P k) × (items after ≡ drop (k + 1) xs)
-next_left {A = A} {S = S} items P xs before after k next is step each = pick next step
-  where
-    more : suc k ≡ k + 1
-    more = omega arith
-
-    pick : (next : Option A) → MatchOption next ((length (items before) ≡ 0) × (after ≡ before)) (λ x. items before ≡ x ∷ items after)
-        → IfSome next (P k) × (items after ≡ drop (k + 1) xs)
-    pick None step = (
-      search rules,
-      ap items step.1 ∙ is ∙ sym (drop_past xs k (ap length (sym is) ∙ step.0)) ∙ ap (λ n. drop n xs) more,
-    )
-    pick (Some x) step =
-        let found = first_left xs k x (items after) (sym is ∙ step) in
-        (each k x found.0, sym found.1 ∙ ap (λ n. drop n xs) more)
 
 -- an element of two lists that are joined element by element
 pub zip2_get : {A B C : Type 0} (f : A → B → C) (xs : List A) (ys : List B) (k : ℕ) (z : C) → slice_get (zip2 f xs ys) k ≡ Some z

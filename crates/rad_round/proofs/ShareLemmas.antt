@@ -1,28 +1,15 @@
 -- What is asked under the lock.
-use Rattle.std.proofs.Common.{◌≡◌, ◌≢◌, ◌⊎◌, ◌<◌, ℕ, zero, suc, ◌+◌, ◌*◌, List, [], ◌∷◌, ◌++◌, length, set, take, replicate, Option, Some, None, IfSome, slice_get, arith, inl, inr, refl, sym, ap, subst, ◌∙◌, length-append}
+use Rattle.std.proofs.Common.{◌≡◌, ◌≢◌, ◌⊎◌, ◌<◌, ℕ, zero, suc, ◌+◌, ◌*◌, List, [], ◌∷◌, ◌++◌, length, set, take, Option, Some, None, IfSome, slice_get, arith, inl, inr, refl, sym, ap, subst, ◌∙◌, length-append}
 use Rattle.std.proofs.Common.{Result, Ok, Err, IfOk}
 use Rattle.std.specs.Result.{result_ok}
 use Rattle.std.proofs.lemmas.List.{append_assoc}
-use Rattle.std.proofs.lemmas.Option.{none-some}
 use Rattle.rad_desk.specs.declared.receipt.Receipt.{Receipt}
 use Rattle.rad_server.specs.declared.entry.Entry.{Entry}
 use Rattle.rad_server.specs.Runs.{IsAsked}
 use Rattle.rad_server.specs.Steps.{IsSealable}
 use Rattle.rad_server.specs.declared.ask.Ask.{Ask}
 use Rattle.rad_round.specs.Works.{AreAsked, CheckedBatch, IsAskIn, IsAskedIn, IsAskedOf, Verdict, entries_in, entry_of, somes}
-use Rattle.rad_round.specs.declared.timed.Timed.{Timed}
-use Rattle.rad_round.proofs.ListLemmas.{get_set, some_is}
-
--- no lane is asked yet
-pub none_asked : (arrivals : List Timed) (first : ℕ) (verdicts : List Verdict) (asked : List (Option Receipt)) → asked ≡ replicate 8 None
-    → AreAsked arrivals first verdicts asked
-none_asked arrivals first verdicts asked are lane verdict receipt at there =
-    subst (λ r. IfSome r (IsAskedOf arrivals (first + lane) verdict)) (nothing 8 lane receipt (ap (λ l. slice_get l lane) (sym are) ∙ there)) tt
-  where
-    nothing : (count k : ℕ) (r : Option Receipt) → slice_get (replicate count None) k ≡ Some r → None ≡ r
-    nothing zero k r is = absurd (none-some r is)
-    nothing (suc count) zero r is = some_is None r is
-    nothing (suc count) (suc k) r is = nothing count k r is
+use Rattle.rad_round.proofs.ListLemmas.{get_set}
 
 -- one more lane is asked
 pub asked_more : (batch : CheckedBatch) (asked : List (Option Receipt)) (lane : ℕ) (receipt : Option Receipt)
@@ -99,14 +86,6 @@ count_more before now after asked lane receipt within was is =
       ap length (entries_more asked lane receipt within),
       length-append (entries_in (take lane asked)) (somes (entry_of receipt ∷ [])),
     )
-
--- the entries of all lanes
-pub all_entries : (asked : List (Option Receipt)) (lane : ℕ) → length asked ≡ lane → take lane asked ≡ asked
-all_entries asked lane is = subst (λ n. take n asked ≡ asked) is (whole asked)
-  where
-    whole : (xs : List (Option Receipt)) → take (length xs) xs ≡ xs
-    whole [] = refl
-    whole (x ∷ xs) = ap (λ l. x ∷ l) (whole xs)
 
 -- what holds of a result that is good holds where it is an option
 pub asked_ok : (P : Receipt → Type 0) {E : Type 0} (r : Result Receipt E) (o : Option Receipt) → o ≡ result_ok r → IfOk r P → IfSome o P

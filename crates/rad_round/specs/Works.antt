@@ -1,5 +1,5 @@
 -- Works: what the workers of a round know while they work, and once they are done. Arrivals, batches and lanes are counted from 0.
-use Rattle.std.specs.Prelude.{◌≡◌, ◌⊎◌, ℕ, ◌+◌, ◌*◌, ◌/◌, ◌<◌, ◌≤◌, List, [], ◌∷◌, ◌++◌, drop, map, take, Option, Some, None, IfSome, Result, Ok, Err, length, slice_get, All, sum_by}
+use Rattle.std.specs.Prelude.{◌≡◌, ℕ, ◌+◌, ◌*◌, ◌/◌, ◌<◌, ◌≤◌, List, [], ◌∷◌, ◌++◌, map, set, Option, Some, None, IfSome, Result, Ok, Err, length, slice_get, All, sum_by}
 use Rattle.std.specs.Option.{option_map}
 use Rattle.std.specs.Vec.{vec_capacity, vec_len}
 use Rattle.rad_auth.specs.Admission.{HoldsAdmitted, admission}
@@ -74,8 +74,8 @@ AreOctets verdicts octets = (lane : ℕ) (verdict : Verdict) (some : Option (Lis
     → slice_get octets lane ≡ Some some → IfSome some (HasOctets verdict)
 
 -- the requests of a batch are prepared, and these are their octets
-pub record IsReady (configuration : Configuration) (arrivals : List Timed) (number : ℕ) (verdicts : List Verdict) (prepared : List (Option Prepared))
-    (octets : List (Option (List ℕ))) : Type 0 where
+pub record IsReady (configuration : Configuration) (arrivals : List Timed) (number : ℕ) (verdicts : List Verdict)
+    (prepared : List (Option Prepared)) (octets : List (Option (List ℕ))) : Type 0 where
   pub checked : IsChecked configuration.clients arrivals number verdicts
   pub prepared_are : prepared ≡ map (prepared_in configuration) verdicts
   pub octet_lanes : length octets ≡ 8
@@ -195,29 +195,18 @@ abbrev pub IsLaneOf : List Client → List Timed → ℕ → Option Outcome → 
 IsLaneOf clients arrivals number outcome asked = (receipt : Option Receipt) → asked ≡ Some receipt
     → IsLane clients arrivals number outcome (entry_of receipt)
 
--- what each lane of a batch has that begins with the arrival of this number
-pub record AreLanes (clients : List Client) (arrivals : List Timed) (first : ℕ) (outcomes : List (Option Outcome)) (entries : List (Option Entry))
-    : Type 0 where
+-- what each lane of the batch of this number has
+pub record AreLanes (clients : List Client) (arrivals : List Timed) (number : ℕ) (outcomes : List (Option Outcome))
+    (entries : List (Option Entry)) : Type 0 where
   pub outcome_each : length outcomes ≡ 8
   pub entry_each : length entries ≡ 8
   pub each : (lane : ℕ) (outcome : Option Outcome) (entry : Option Entry) → slice_get outcomes lane ≡ Some outcome
-      → slice_get entries lane ≡ Some entry → IsLane clients arrivals (first + lane) outcome entry
-
--- the outcomes of a batch's lanes are put last, where these are the entries of the lanes
-pub record PutsLanes (batch : CheckedBatch) (entries : List (Option Entry)) (before after : List (Option Outcome)) : Type 0 where
-  pub outcomes : List (Option Outcome)
-  pub last : after ≡ before ++ outcomes
-  pub lanes : AreLanes batch.configuration.clients batch.arrivals (batch.number * 8) outcomes entries
+      → slice_get entries lane ≡ Some entry → IsLane clients arrivals (number * 8 + lane) outcome entry
 
 -- a batch that was answered: its number, the outcomes of its lanes, and what it appended to the history, if anything
 pub record Answered : Type 0 where
   pub number : ℕ
   pub outcomes : List (Option Outcome)
-  pub ticket : Option (Taking Entry)
-
--- a batch without its outcomes
-pub record Claimed : Type 0 where
-  pub number : ℕ
   pub ticket : Option (Taking Entry)
 
 -- the entries of a taking, if there is one
@@ -229,7 +218,7 @@ taken (Some taking) = taking.entries
 pub record IsAnswered (clients : List Client) (arrivals : List Timed) (answered : Answered) : Type 0 where
   pub entries : List (Option Entry)
   pub within : answered.number * 8 < arrivals_max
-  pub lanes : AreLanes clients arrivals (answered.number * 8) answered.outcomes entries
+  pub lanes : AreLanes clients arrivals answered.number answered.outcomes entries
   pub taken_is : taken answered.ticket ≡ somes entries
   pub numbered : IfSome answered.ticket (λ taking. taking.number ≡ answered.number)
 
@@ -242,19 +231,6 @@ abbrev pub numbers_of : List Answered → List ℕ
 numbers_of list = map (λ answered. answered.number) list
 
 -- ---- workers
-
--- what is put last when a batch is answered: the outcomes of its lanes, where its taking has their entries
-pub record Answers (batch : CheckedBatch) (ticket : Option (Taking Entry)) (before after : List (Option Outcome)) : Type 0 where
-  pub entries : List (Option Entry)
-  pub puts : PutsLanes batch entries before after
-  pub taken_is : taken ticket ≡ somes entries
-  pub numbered : IfSome ticket (λ taking. taking.number ≡ batch.number)
-
--- batches with the outcomes of their lanes, eight for each
-abbrev pub answers_of : List Claimed → List (Option Outcome) → List Answered
-answers_of [] lanes = []
-answers_of (claimed ∷ rest) lanes =
-    record { number = claimed.number; outcomes = take 8 lanes; ticket = claimed.ticket } ∷ answers_of rest (drop 8 lanes)
 
 -- a worker: its seat, which it gives away while it works; its share of the ledger; the batches that it has answered; and how many it
 -- has room for
@@ -312,56 +288,29 @@ IsLogged history log = entries_of log ≡ history
 
 -- ---- the end of a round
 
--- all batches of several lists
+-- all batches of several lists, those of the last list first
 abbrev pub all_of : List (List Answered) → List Answered
 all_of [] = []
-all_of (list ∷ rest) = list ++ all_of rest
+all_of (list ∷ rest) = all_of rest ++ list
 
--- a batch is one of a list
-abbrev pub IsIn : List Answered → Answered → Type 0
-IsIn list answered = (place : ℕ) × (slice_get list place ≡ Some answered)
+-- the outcome of a lane is put at a place; a lane without one leaves it as it is
+abbrev pub put_lane : Option Outcome → ℕ → List Outcome → List Outcome
+put_lane None place outcomes = outcomes
+put_lane (Some outcome) place outcomes = set outcomes place outcome
 
--- the outcomes of a batch are at the places of their arrivals
-abbrev pub IsPlaced : List Outcome → Answered → Type 0
-IsPlaced outcomes answered = (lane : ℕ) (outcome : Outcome) → lane < 8 → slice_get answered.outcomes lane ≡ Some (Some outcome)
-    → slice_get outcomes (answered.number * 8 + lane) ≡ Some outcome
+-- the outcomes of lanes are put at the places from this one on
+abbrev pub put_lanes : List (Option Outcome) → ℕ → List Outcome → List Outcome
+put_lanes [] place outcomes = outcomes
+put_lanes (lane ∷ lanes) place outcomes = put_lanes lanes (place + 1) (put_lane lane place outcomes)
 
--- whichever batch of a list has the number of this one, is this one
-abbrev pub IsTheOne : List Answered → Answered → Type 0
-IsTheOne list answered = (other : Answered) → IsIn list other → other.number ≡ answered.number → other ≡ answered
+-- the outcomes of batches are put at the places of their arrivals, those of the last batch first
+abbrev pub put_all : List Answered → List Outcome → List Outcome
+put_all [] outcomes = outcomes
+put_all (answered ∷ rest) outcomes = put_lanes answered.outcomes (answered.number * 8) (put_all rest outcomes)
 
--- the batches of a list are put among outcomes: each that is the one of its number is placed, and each other that was placed stays so
-pub record ArePut (list : List Answered) (before after : List Outcome) : Type 0 where
-  pub count : length after ≡ length before
-  pub put : (answered : Answered) → IsTheOne list answered → IsIn list answered → IsPlaced after answered
-  pub kept : (answered : Answered) → IsTheOne list answered → IsPlaced before answered → IsPlaced after answered
-
--- each lane that has an outcome has a place among so many, from this one on
-abbrev pub FitFrom : ℕ → List (Option Outcome) → ℕ → Type 0
-FitFrom first lanes count = (lane : ℕ) (outcome : Outcome) → slice_get lanes lane ≡ Some (Some outcome) → first + lane < count
-
--- the same of the lanes of a batch
-pub record FitsAmong (count : ℕ) (answered : Answered) : Type 0 where
-  pub within : answered.number * 8 < arrivals_max
-  pub lanes : FitFrom (answered.number * 8) answered.outcomes count
-
--- the last eight lanes have their places among so many, from this one on
-abbrev pub LastFit : ℕ → List (Option Outcome) → ℕ → Type 0
-LastFit first lanes count = (rest last : List (Option Outcome)) → lanes ≡ rest ++ last → length last ≡ 8 → FitFrom first last count
-
--- the outcomes of the last eight lanes are taken, and put at the places from this one on; all other places stay as they were
-pub record PutsLast (first : ℕ) (lanes : List (Option Outcome)) (before : List Outcome) (rest : List (Option Outcome)) (after : List Outcome)
-    : Type 0 where
-  pub last : List (Option Outcome)
-  pub eight : length last ≡ 8
-  pub taken : lanes ≡ rest ++ last
-  pub count : length after ≡ length before
-  pub put : (lane : ℕ) (outcome : Outcome) → slice_get last lane ≡ Some (Some outcome) → slice_get after (first + lane) ≡ Some outcome
-  pub others : (place : ℕ) → (place < first) ⊎ (first + 8 ≤ place) → slice_get after place ≡ slice_get before place
-
--- the batches of a list are in the log, as far as they appended something
-abbrev pub AreLogged : List (Taking Entry) → List Answered → Type 0
-AreLogged log list = (answered : Answered) (taking : Taking Entry) → IsIn list answered → answered.ticket ≡ Some taking → Has log taking
+-- what a batch appended, if it did, is in the log
+abbrev pub IsInLog : List (Taking Entry) → Answered → Type 0
+IsInLog log answered = IfSome answered.ticket (Has log)
 
 -- what workers hand in: their seats, the shares of all in one, and the outcomes of the round; and how many seats there is room for
 pub record HandedIn : Type 0 where
@@ -372,9 +321,9 @@ pub record HandedIn : Type 0 where
   pub room : ℕ
 
 -- So many workers have handed in: each its seat and a list of the batches that it had claimed. The batches are answered and logged, the
--- share counts their entries, and they are put among the outcomes, which were others before.
-pub record HaveHandedIn (claims : Claims) (clients : List Client) (arrivals : List Timed) (log : List (Taking Entry)) (before : List Outcome)
-    (count : ℕ) (handed : HandedIn) : Type 0 where
+-- share counts their entries, and their outcomes are put among those before.
+pub record HaveHandedIn (claims : Claims) (clients : List Client) (arrivals : List Timed) (log : List (Taking Entry))
+    (before : List Outcome) (count : ℕ) (handed : HandedIn) : Type 0 where
   pub lists : List (List Answered)
   pub seat_each : length handed.seats ≡ count
   pub part_each : handed.parts ≡ count
@@ -382,8 +331,8 @@ pub record HaveHandedIn (claims : Claims) (clients : List Client) (arrivals : Li
   pub claimed : map (λ seat. seat.claimed) handed.seats ≡ map numbers_of lists
   pub right : All (IsAnswered clients arrivals) (all_of lists)
   pub counted : handed.amount ≡ entry_count (all_of lists)
-  pub logged : AreLogged log (all_of lists)
-  pub put : ArePut (all_of lists) before handed.outcomes
+  pub logged : All (IsInLog log) (all_of lists)
+  pub put : handed.outcomes ≡ put_all (all_of lists) before
 
 -- one more worker hands in
 pub record TakesIn (claims : Claims) (clients : List Client) (arrivals : List Timed) (log : List (Taking Entry)) (before after : HandedIn)
@@ -396,8 +345,8 @@ pub record TakesIn (claims : Claims) (clients : List Client) (arrivals : List Ti
   pub claimed : seat.claimed ≡ numbers_of list
   pub right : All (IsAnswered clients arrivals) list
   pub counted : after.amount ≡ before.amount + entry_count list
-  pub logged : AreLogged log list
-  pub put : ArePut list before.outcomes after.outcomes
+  pub logged : All (IsInLog log) list
+  pub put : after.outcomes ≡ put_all list before.outcomes
   pub room : after.room ≡ before.room
 
 -- ---- memory

@@ -1,18 +1,17 @@
 //! Batches: up to eight arrivals, each in a lane, that are checked, asked and sealed side by side.
-ghost use Rattle.std.specs.Prelude.{◌≡◌, ◌+◌, ◌*◌, ◌<◌, ◌≤◌, length, map, replicate, slice_get, IfSome, None};
+ghost use Rattle.std.specs.Prelude.{◌≡◌, ◌+◌, ◌*◌, ◌<◌, length, map, replicate, slice_get, IfSome, None};
 ghost use Rattle.std.specs.Option.{option_map};
-ghost use Rattle.std.specs.Vec.{vec_capacity};
 ghost use Rattle.rad_auth.specs.Admission.{HoldsAdmitted};
 ghost use Rattle.rad_auth.specs.Sealing.{IsJob};
 ghost use Rattle.rad_server.specs.Steps.{IsSealable};
 ghost use Rattle.rad_round.specs.Rounds.{arrivals_max};
-ghost use Rattle.rad_round.specs.Works.{AreAskedOf, AreOctets, AreSealed, AreVerdicts, HasOctets, IsAskIn, IsJobIn, IsJobOf, IsLaneOf, IsReady, IsSealedIn, PutsLanes, batch_count, entry_of, unasked};
+ghost use Rattle.rad_round.specs.Works.{AreAskedOf, AreLanes, AreOctets, AreSealed, AreVerdicts, HasOctets, IsAskIn, IsJobIn, IsJobOf, IsLaneOf, IsReady, IsSealedIn, batch_count, entry_of, unasked};
 
 use crate::lanes::BATCH;
 use crate::leftovers::put_back;
 use crate::outcome::Outcome;
 use crate::timed::Timed;
-use rad_auth::{Arrival, Clients, Discard, Job, Request, admitted_is_answerable, check8, seal8};
+use rad_auth::{Arrival, Clients, Discard, Job, Request, check8, seal8};
 use rad_config::Config;
 use rad_desk::Receipt;
 use rad_packet::{Frame, Octets};
@@ -158,68 +157,77 @@ impl<'r, 'a> Batch<'r, 'a> {
         job_of(self.config.clients(), &verdicts[lane], &asked[lane])
     }
 
-    /// Appends the outcomes of the batch, once its replies are sealed. Frames that no reply takes are left.
-    pub fn put_outcomes(
+    /// The outcomes of the batch, once its replies are sealed. Frames that no reply takes are left.
+    pub fn outcomes(
         &self,
         asked: &[Option<Receipt>],
         frames: [Frame; BATCH],
         left: &mut Vec<Frame>,
-        outcomes: &mut Vec<Option<Outcome>>,
-    )
+    ) -> [Option<Outcome>; BATCH]
         requires asked { AreAskedOf self.now asked.now }
         requires sealed { AreSealed self.now.configuration.clients self.now.verdicts
             asked.now frames }
-        requires room { length outcomes.old.items + 8 ≤ vec_capacity outcomes.old }
-        ensures lanes { PutsLanes self.now (map entry_of asked.now)
-            outcomes.old.items outcomes.new.items }
-        ensures room { vec_capacity outcomes.new ≡ vec_capacity outcomes.old }
+        ensures { AreLanes self.now.configuration.clients self.now.arrivals self.now.number
+            result (map entry_of asked.now) }
     {
-        let mut frames = frames.into_iter();
-        for lane in 0..BATCH {
-            let Some(frame) = frames.next() else {
-                unreachable!()
-            };
-            let (outcome, rest) = self.outcome(asked, lane, frame);
-            outcomes.push_reserved(outcome);
-            put_back(left, rest);
-        }
+        let [a, b, c, d, e, f, g, h] = frames;
+        [
+            self.outcome(asked, 0, a, left),
+            self.outcome(asked, 1, b, left),
+            self.outcome(asked, 2, c, left),
+            self.outcome(asked, 3, d, left),
+            self.outcome(asked, 4, e, left),
+            self.outcome(asked, 5, f, left),
+            self.outcome(asked, 6, g, left),
+            self.outcome(asked, 7, h, left),
+        ]
     }
 
-    // The outcome in a lane, and its frame if no reply takes it.
+    // The outcome in a lane. Its frame is left if no reply takes it.
     fn outcome(
         &self,
         asked: &[Option<Receipt>],
         lane: usize,
         frame: Frame,
-    ) -> (Option<Outcome>, Option<Frame>)
+        left: &mut Vec<Frame>,
+    ) -> Option<Outcome>
         requires lane { lane < 8 }
         requires asked { AreAskedOf self.now asked.now }
         requires sealed { IsSealedIn self.now.configuration.clients self.now.verdicts
             asked.now lane frame }
         ensures { IsLaneOf self.now.configuration.clients self.now.arrivals
-            (self.now.number * 8 + lane) result.0 (slice_get asked.now lane) }
+            (self.now.number * 8 + lane) result (slice_get asked.now lane) }
     {
         let verdicts = self.verdicts;
         let Some(receipt) = &asked[lane] else {
-            return (unasked(&verdicts[lane]), Some(frame));
+            put_back(left, frame);
+            return unasked(&verdicts[lane]);
         };
         match &receipt.entry.answer {
-            Answer::Busy => (Some(Outcome::Busy), Some(frame)),
-            Answer::Send(_) => (Some(Outcome::Reply(frame)), None),
+            Answer::Busy => {
+                put_back(left, frame);
+                Some(Outcome::Busy)
+            }
+            Answer::Send(_) => Some(Outcome::Reply(frame)),
         }
     }
 
-    /// The same where nothing of the batch was asked.
-    pub fn put_unasked(&self, outcomes: &mut Vec<Option<Outcome>>)
-        requires room { length outcomes.old.items + 8 ≤ vec_capacity outcomes.old }
-        ensures lanes { PutsLanes self.now (replicate 8 None)
-            outcomes.old.items outcomes.new.items }
-        ensures room { vec_capacity outcomes.new ≡ vec_capacity outcomes.old }
+    /// The outcomes where nothing of the batch was asked.
+    pub fn outcomes_unasked(&self) -> [Option<Outcome>; BATCH]
+        ensures { AreLanes self.now.configuration.clients self.now.arrivals self.now.number
+            result (replicate 8 None) }
     {
-        let verdicts = self.verdicts;
-        for lane in 0..BATCH {
-            outcomes.push_reserved(unasked(&verdicts[lane]));
-        }
+        let [a, b, c, d, e, f, g, h] = self.verdicts;
+        [
+            unasked(a),
+            unasked(b),
+            unasked(c),
+            unasked(d),
+            unasked(e),
+            unasked(f),
+            unasked(g),
+            unasked(h),
+        ]
     }
 }
 
@@ -289,11 +297,5 @@ fn job_of<'a>(
     let Answer::Send(body) = &receipt.entry.answer else {
         return None;
     };
-    admitted_is_answerable(clients, request);
-    Some(Job {
-        body,
-        id: request.packet.identifier(),
-        request_authenticator: request.packet.authenticator(),
-        secret: clients.secret(request.client),
-    })
+    Some(Job::of(clients, request, body))
 }

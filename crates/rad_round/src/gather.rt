@@ -3,17 +3,17 @@ ghost use Rattle.std.specs.Prelude.{◌≡◌, ◌≤◌, ◌<◌, ◌*◌, [], 
 ghost use Rattle.std.specs.Vec.{vec_capacity};
 ghost use Rattle.rad_server.specs.Runs.{IsMarkedHistory};
 ghost use Rattle.rad_round.specs.Rounds.{Round, arrivals_max};
-ghost use Rattle.rad_round.specs.Works.{AreLogged, ArePut, FitsAmong, HasFinished, HaveHandedIn, LastFit, PutsLast, TakesIn, answers_of};
+ghost use Rattle.rad_round.specs.Works.{HasFinished, HaveHandedIn, IsAnswered, IsInLog, TakesIn, put_all, put_lane, put_lanes};
 
 use crate::done::{Done, Marked};
 use crate::lanes::BATCH;
 use crate::leftovers::Leftovers;
 use crate::outcome::Outcome;
 use crate::shared::{OpenRound, Setting};
-use crate::worker::{Claimed, Parts, Worker};
+use crate::worker::{Answered, Worker};
 use rad_claim::ClaimSeat;
 use rad_desk::{Opened, Unlocked};
-use rad_log::{Keeper, Log, Logged};
+use rad_log::{Keeper, Logged};
 use rad_packet::Frame;
 use rad_server::{Entry, Server};
 use std::marker::Model;
@@ -101,7 +101,6 @@ fn hand_in<L: Opened + Logged>(
         setting.now.arrivals.now) workers.items }
     requires none { (handed.old.seats ≡ []) × (handed.old.parts ≡ 0) × (handed.old.amount ≡ 0) }
     requires room { vec_len workers ≤ handed.old.room }
-    requires outcomes { length handed.old.outcomes ≡ length setting.now.arrivals.now }
     ensures unchanged { keeper.new ≡ keeper.old }
     ensures handed { HaveHandedIn setting.now.claims setting.now.config.now.clients
         setting.now.arrivals.now keeper.old handed.old.outcomes (vec_len workers) handed.new }
@@ -122,63 +121,84 @@ fn take_in<L: Opened + Logged>(
     requires finished { HasFinished setting.now.claims setting.now.config.now.clients
         setting.now.arrivals.now worker }
     requires room { length handed.old.seats < handed.old.room }
-    requires outcomes { length handed.old.outcomes ≡ length setting.now.arrivals.now }
     ensures unchanged { keeper.new ≡ keeper.old }
     ensures handed { TakesIn setting.now.claims setting.now.config.now.clients
         setting.now.arrivals.now keeper.old handed.old handed.new }
 {
-    let Parts {
+    let Worker {
         seat,
         share,
-        claimed,
-        outcomes,
+        answered,
         frames,
-    } = worker.into_parts();
+    } = worker;
     let Some(seat) = seat else { unreachable!() };
     handed.seats.push_reserved(seat);
     handed.share.merge(share);
     let places = handed.outcomes.as_mut_slice();
-    put_all(&setting.log, keeper, claimed, outcomes, places);
+    put_all(setting, keeper, answered, places);
     frames
 }
 
 // Puts the outcomes of batches at the places of their arrivals, and finds the takings of the batches in the log.
-fn put_all<L: Logged>(
-    log: &Log<Entry>,
+fn put_all<L: Opened + Logged>(
+    setting: &Setting<L>,
     keeper: &mut Keeper<Entry, L>,
-    mut claimed: Vec<Claimed<L>>,
-    mut lanes: Vec<Option<Outcome>>,
+    mut answered: Vec<Answered<L>>,
     places: &mut [Outcome],
 )
-    requires log { log.now ≡ L.table }
-    requires lanes { length lanes.items ≡ length claimed.items * 8 }
-    requires fit { All (FitsAmong (length places.old)) (answers_of claimed.items lanes.items) }
+    requires { All (IsAnswered setting.now.config.now.clients setting.now.arrivals.now)
+        answered.items }
     ensures unchanged { keeper.new ≡ keeper.old }
-    ensures logged { AreLogged keeper.old (answers_of claimed.items lanes.items) }
-    ensures put { ArePut (answers_of claimed.items lanes.items) places.old places.new }
+    ensures logged { All (IsInLog keeper.old) answered.items }
+    ensures put { places.new ≡ put_all answered.items places.old }
 {
-    while let Some(Claimed { number, ticket }) = claimed.pop() {
-        put_lanes(number * BATCH, &mut lanes, places);
-        if let Some(ticket) = ticket {
-            keeper.find(log, ticket);
-        }
+    while let Some(batch) = answered.pop() {
+        put_batch(setting, keeper, batch, places);
     }
 }
 
-// Takes the outcomes of the last eight lanes, and puts them at the places from this one on.
-fn put_lanes(first: usize, lanes: &mut Vec<Option<Outcome>>, places: &mut [Outcome])
-    requires first { first < arrivals_max }
-    requires eight { 8 ≤ length lanes.old.items }
-    requires fit { LastFit first lanes.old.items (length places.old) }
-    ensures { PutsLast first lanes.old.items places.old lanes.new.items places.new }
+// The same of one batch.
+fn put_batch<L: Opened + Logged>(
+    setting: &Setting<L>,
+    keeper: &mut Keeper<Entry, L>,
+    answered: Answered<L>,
+    places: &mut [Outcome],
+)
+    requires { IsAnswered setting.now.config.now.clients setting.now.arrivals.now answered }
+    ensures unchanged { keeper.new ≡ keeper.old }
+    ensures logged { IsInLog keeper.old answered }
+    ensures put { places.new ≡ put_lanes answered.outcomes (answered.number * 8) places.old }
 {
-    for done in 0..BATCH {
-        let lane = BATCH - 1 - done;
-        let Some(outcome) = lanes.pop() else {
-            unreachable!()
-        };
-        if let Some(outcome) = outcome {
-            places[first + lane] = outcome;
-        }
+    let first = answered.number * BATCH;
+    let outcomes = answered.outcomes;
+    put_lanes(outcomes, first, places);
+    let Some(ticket) = answered.ticket else {
+        return;
+    };
+    keeper.find(&setting.log, ticket);
+}
+
+// Puts the outcomes of a batch at the places from this one on.
+fn put_lanes(outcomes: [Option<Outcome>; BATCH], first: usize, places: &mut [Outcome])
+    requires { first < arrivals_max }
+    ensures { places.new ≡ put_lanes outcomes first places.old }
+{
+    let mut lanes = outcomes.into_iter();
+    let mut place = first;
+    while let Some(outcome) = lanes.next() {
+        put_lane(outcome, place, places);
+        place += 1;
+    }
+}
+
+// Puts the outcome of a lane, if it has one, at a place.
+fn put_lane(outcome: Option<Outcome>, place: usize, places: &mut [Outcome])
+    ensures { places.new ≡ put_lane outcome place places.old }
+{
+    let Some(outcome) = outcome else {
+        return;
+    };
+    if place < places.len() {
+        places[place] = outcome;
     }
 }

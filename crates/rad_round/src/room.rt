@@ -4,6 +4,7 @@ ghost use Rattle.rad_round.specs.Rounds.{arrivals_max, workers_max};
 ghost use Rattle.rad_round.specs.Works.{IsRoomFor};
 
 use crate::batch::batch_count;
+use crate::leftovers::Leftovers;
 use crate::outcome::Outcome;
 use crate::timed::Timed;
 use rad_claim::{ClaimSeat, Claims};
@@ -33,7 +34,12 @@ pub(crate) struct Room {
 
 impl Room {
     /// Room for these arrivals and so many workers.
-    pub fn new(alloc: Global, arrivals: &[Timed], workers: u64) -> Result<Room, AllocError>
+    pub fn new(
+        alloc: Global,
+        arrivals: &[Timed],
+        workers: u64,
+        leftovers: &mut Leftovers,
+    ) -> Result<Room, AllocError>
         requires workers { (1 ≤ workers) × (workers ≤ workers_max) }
         requires count { length arrivals.now ≤ arrivals_max }
         ensures { IfOk result (IsRoomFor arrivals.now workers) }
@@ -48,20 +54,9 @@ impl Room {
             claims,
             seats,
             returned: Vec::with_capacity(alloc, workers as usize)?,
-            history: Vec::with_capacity(alloc, arrivals.len())?,
+            history: leftovers.take_history(arrivals.len())?,
             marks: Vec::with_capacity(alloc, arrivals.len())?,
-            outcomes: outcomes_for(alloc, arrivals.len())?,
+            outcomes: leftovers.take_outcomes(arrivals.len())?,
         })
     }
-}
-
-// So many outcomes, which say nothing.
-fn outcomes_for(alloc: Global, count: usize) -> Result<Vec<Outcome>, AllocError>
-    ensures { IfOk result (λ outcomes. length outcomes.items ≡ count) }
-{
-    let mut outcomes = Vec::with_capacity(alloc, count)?;
-    for _i in 0..count {
-        outcomes.push(Outcome::NoMemory)?;
-    }
-    Ok(outcomes)
 }

@@ -155,12 +155,12 @@ impl<'c> Service<'c> {
         ensures fault { IfErr result (λ fault. fault ≡ RoundFault.NoMemory) }
     {
         let workers = workers.min(batch_count(arrivals).max(1));
-        let room = Room::new(self.alloc, arrivals, workers)?;
         let Service {
+            alloc,
             server: current,
             leftovers,
-            ..
         } = self;
+        let room = Room::new(*alloc, arrivals, workers, leftovers)?;
         let Some(server) = current.take() else {
             unreachable!()
         };
@@ -190,11 +190,10 @@ impl<'c> Service<'c> {
         server.pass(moment);
     }
 
-    /// Takes back what a round made, once its replies are sent. The frames serve the replies of later rounds.
+    /// Takes back what a round made, once its replies are sent. Its frames and lists serve later rounds.
     pub fn reuse(&mut self, done: Done)
         ensures { self.new ≡ self.old }
     {
-        let Done { outcomes, .. } = done;
-        self.leftovers.give_back(outcomes);
+        self.leftovers.give_back(done);
     }
 }

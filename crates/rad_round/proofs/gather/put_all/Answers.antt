@@ -1,59 +1,26 @@
-use Rattle.std.proofs.Common.{◌≡◌, None, ◌++◌, [], ◌∷◌, arith, ap, sym, ◌∙◌}
-use Rattle.std.proofs.lemmas.List.{nil_from_length}
-use Rattle.std.specs.Option.{option_to_list}
-use Rattle.rad_round.specs.Works.{Claimed}
-use Rattle.rad_round.proofs.HandInLemmas.{back_all, back_more, eight_left, fits_last, has_none, has_some, within_last}
+use Rattle.std.proofs.Common.{All, [], ◌∷◌, Some, ap, subst, sym, ◌∙◌}
+use Rattle.std.proofs.lemmas.List.Elements.{All-pop, All-push}
+use Rattle.rad_round.specs.Works.{IsAnswered, IsInLog, put_all}
+use Rattle.rad_round.proofs.HandInLemmas.{put_append}
 use Rattle.rad_round.proofs.gather.put_all.Goals as goal
 
-pub overflow_mul-number : goal.overflow_mul-number
-overflow_mul-number g c =
-    let rest = c.pop.new.self.items in
-    let last : Claimed = record { number = c.in-Some.field-0.number; ticket = c.in-Some.field-0.ticket } in
-    let popped : c.loop-number.claimed.items ≡ rest ++ last ∷ [] =
-    c.pop.ensures.items ∙ ap (λ popped. rest ++ option_to_list popped) (sym (rw c.in-Some.is at c.pop-in-loop-number.view_is)) in
-    let within = within_last c.loop-number.invariant.puts rest last popped in
-    omega (arith, within)
+pub put_batch-requires : goal.put_batch-requires
+put_batch-requires g c =
+    (All-pop (IsAnswered c.args.setting.now.config.now.clients c.args.setting.now.arrivals.now) c.loop-batch.answered.items
+    c.pop.new.self.items (Some c.in-Some.batch) c.in-Some.ensures.items c.loop-batch.invariant.right).1
 
-pub put_lanes-requires : goal.put_lanes-requires
-put_lanes-requires g c =
+pub loop-batch-preserved : goal.loop-batch-preserved
+loop-batch-preserved g c =
+    let i = c.loop-batch.invariant in
+    let items = c.in-Some.ensures.items in
     let rest = c.pop.new.self.items in
-    let last : Claimed = record { number = c.in-Some.field-0.number; ticket = c.in-Some.field-0.ticket } in
-    let popped : c.loop-number.claimed.items ≡ rest ++ last ∷ [] =
-    c.pop.ensures.items ∙ ap (λ popped. rest ++ option_to_list popped) (sym (rw c.in-Some.is at c.pop-in-loop-number.view_is)) in
-    let puts = c.loop-number.invariant.puts in record {
-      first = within_last puts rest last popped;
-      eight = eight_left puts rest last popped;
-      fit = fits_last puts rest last popped;
-    }
-
-pub loop-number-preserved-in-Some-ticket : goal.loop-number-preserved-in-Some-ticket
-loop-number-preserved-in-Some-ticket g c =
-    let rest = c.pop.new.self.items in
-    let last : Claimed = record { number = c.in-Some.field-0.number; ticket = c.in-Some.field-0.ticket } in
-    let popped : c.loop-number.claimed.items ≡ rest ++ last ∷ [] =
-    c.pop.ensures.items ∙ ap (λ popped. rest ++ option_to_list popped) (sym (rw c.in-Some.is at c.pop-in-loop-number.view_is)) in
+    let in_log = IsInLog c.args.keeper.now in
     record {
-      unchanged = c.find.ensures.unchanged ∙ c.loop-number.invariant.unchanged;
-      puts = back_more c.loop-number.invariant.puts rest last popped c.put_lanes.new.lanes.items c.put_lanes.new.places c.put_lanes.ensures
-          (has_some c.loop-number.invariant.unchanged c.in-Some-ticket.is c.find.ensures.found);
+      unchanged = c.put_batch.ensures.unchanged ∙ i.unchanged;
+      right = (All-pop (IsAnswered c.args.setting.now.config.now.clients c.args.setting.now.arrivals.now) c.loop-batch.answered.items rest
+          (Some c.in-Some.batch) items i.right).0;
+      logged = λ logged. i.logged (subst (All in_log) (sym items) (All-push in_log rest c.in-Some.batch logged
+          (subst (λ log. IsInLog log c.in-Some.batch) i.unchanged c.put_batch.ensures.logged)));
+      put = ap (put_all rest) c.put_batch.ensures.put ∙ sym (put_append rest (c.in-Some.batch ∷ []) c.loop-batch.places)
+          ∙ ap (λ list. put_all list c.loop-batch.places) (sym items) ∙ i.put;
     }
-
-pub loop-number-preserved : goal.loop-number-preserved
-loop-number-preserved g c =
-    let rest = c.pop.new.self.items in
-    let last : Claimed = record { number = c.in-Some.field-0.number; ticket = c.in-Some.field-0.ticket } in
-    let popped : c.loop-number.claimed.items ≡ rest ++ last ∷ [] =
-    c.pop.ensures.items ∙ ap (λ popped. rest ++ option_to_list popped) (sym (rw c.in-Some.is at c.pop-in-loop-number.view_is)) in
-    record {
-      unchanged = c.loop-number.invariant.unchanged;
-      puts = back_more c.loop-number.invariant.puts rest last popped c.put_lanes.new.lanes.items c.put_lanes.new.places c.put_lanes.ensures
-          (has_none c.args.keeper.now c.in_default-ticket.is);
-    }
-
-pub returns : goal.returns
-returns g c =
-    let popped : None ≡ c.pop.result = rw c.in_default.is at c.pop-in-loop-number.view_is in
-    let none = rw (sym popped) at c.pop.ensures.cases in
-    let all = back_all c.loop-number.invariant.puts
-    (nil_from_length c.loop-number.claimed.items (omega (arith, c.loop-number.claimed.ok.0, none.0))) in
-    record { unchanged = c.loop-number.invariant.unchanged; logged = all.0; put = all.1 }
