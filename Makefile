@@ -55,9 +55,11 @@ test:
 	@trials/install/run > /dev/null
 
 # Installs the executable of `make demo`, its man pages, two units for systemd, room for receive buffers, examples of configurations and
-# four documents, below PREFIX, which the installed texts name. Nothing in /etc is touched.
+# five documents, below PREFIX, which the installed texts name. A link to what isn't installed becomes text. Nothing in /etc is touched.
 to = $(DESTDIR)$(PREFIX)
-text = sed 's,/usr/local,$(PREFIX),g' $(1) | install -D -m 644 /dev/stdin "$(to)/$(2)"
+links = s,\]\((docs/|\.\./)*((\#|examples/rad|(README|SECURITY|OPERATING|FORMATS|TRYING)\.md)[^)]*)\),]<\2>,g; \
+	s,\[([^]]*)\]\([^)]*\),\1,g; s,\]<([^>]*)>,](\1),g
+text = sed -E '$(if $(filter %.md,$(1)),$(links); )s,/usr/local,$(PREFIX),g' $(1) | install -D -m 644 /dev/stdin "$(to)/$(2)"
 install:
 	@test -x "$(PROGRAM)" || { echo "$(PROGRAM) doesn't exist: run 'make demo' first." >&2; exit 1; }
 	install -D -m 755 "$(PROGRAM)" "$(to)/bin/radpool"
@@ -69,6 +71,7 @@ install:
 	$(call text,examples/radpool.toml,share/doc/radpool/examples/radpool.toml)
 	$(call text,examples/radpool.logrotate,share/doc/radpool/examples/radpool.logrotate)
 	$(call text,examples/radsecproxy.conf,share/doc/radpool/examples/radsecproxy.conf)
+	$(call text,README.md,share/doc/radpool/README.md)
 	$(call text,docs/OPERATING.md,share/doc/radpool/OPERATING.md)
 	$(call text,docs/FORMATS.md,share/doc/radpool/FORMATS.md)
 	$(call text,docs/TRYING.md,share/doc/radpool/TRYING.md)
@@ -78,7 +81,7 @@ install:
 installed = bin/radpool share/man/man8/radpool.8 share/man/man5/radpool.toml.5 lib/systemd/system/radpool.service \
 	lib/systemd/system/radpool.socket lib/sysctl.d/10-radpool.conf \
 	$(addprefix share/doc/radpool/examples/,radpool.toml radpool.logrotate radsecproxy.conf) \
-	$(addprefix share/doc/radpool/,OPERATING.md FORMATS.md TRYING.md SECURITY.md)
+	$(addprefix share/doc/radpool/,README.md OPERATING.md FORMATS.md TRYING.md SECURITY.md)
 uninstall:
 	rm -f $(foreach file,$(installed),"$(to)/$(file)")
 	@test ! -d "$(to)/share/doc/radpool" || find "$(to)/share/doc/radpool" -type d -empty -delete
