@@ -1,5 +1,5 @@
 //! The options of `serve`.
-ghost use Rattle.std.specs.Prelude.{◌≡◌, ◌≤◌, ◌↔◌, IfSome, IsSome};
+ghost use Rattle.std.specs.Prelude.{◌≡◌, ◌≤◌};
 ghost use Rattle.rad_shell.specs.Rounds.{workers_max};
 
 use crate::held::Expected;
@@ -76,15 +76,14 @@ impl Model for Workers {
 }
 
 impl Workers {
-    /// So many workers, if they are neither none nor too many.
-    pub fn new(count: u64) -> Option<Workers>
-        ensures count { IfSome result (λ workers. workers ≡ count) }
-        ensures given { IsSome result ↔ ((1 ≤ count) × (count ≤ workers_max)) }
+    /// So many workers, but at least one and at most `WORKERS_MAX`.
+    pub fn nearest(count: u64) -> Workers
+        ensures given { 1 ≤ count → count ≤ workers_max → result ≡ count }
+        ensures none { count ≡ 0 → result ≡ 1 }
+        ensures many { workers_max ≤ count → result ≡ workers_max }
     {
-        if count >= 1 && count <= WORKERS_MAX {
-            Some(Workers { count })
-        } else {
-            None
+        Workers {
+            count: count.max(1).min(WORKERS_MAX),
         }
     }
 

@@ -81,8 +81,8 @@ fn print_warnings<R: Eprint>(rt: &R, warnings: &str) {
     let _ = eprint!(rt; "{warnings}");
 }
 
-// What is alive at a `?` is dropped there, and each such drop is proved. So here, and below, a function makes one big value and
-// lends it to the next.
+// What is alive at a `?` is dropped there, and each such drop is proved. So each function from here on opens one thing and lends it
+// to the next: this one the server, which remembers nothing.
 fn serve_in_memory<R: Files + Net + Clock + Print + Eprint + Threads + Wait + Sync + AllocGlobal>(
     rt: &R,
     options: &Options,
@@ -98,6 +98,7 @@ fn serve_in_memory<R: Files + Net + Clock + Print + Eprint + Threads + Wait + Sy
     serve_life(rt, options, life, text, warnings)
 }
 
+// Opens the newest generation of a folder, if there is one, and tries the ports before anything is written.
 fn serve_over<
     R: Files + Net + Clock + Print + Eprint + Threads + Wait + Sync + AllocGlobal,
     S: Store + Drop + Send,
@@ -133,7 +134,7 @@ fn serve_over<
     }
 }
 
-// Serves over a folder without a generation.
+// Opens the server over a folder without a generation, and begins the first.
 fn serve_first<
     R: Files + Net + Clock + Print + Eprint + Threads + Wait + Sync + AllocGlobal,
     S: Store + Drop + Send,
@@ -151,7 +152,7 @@ fn serve_first<
     serve_life(rt, options, life, configured.text, warnings)
 }
 
-// Serves from the newest generation of a folder on.
+// Opens the server that the newest generation of a folder leads to, and begins the next.
 fn serve_next<
     R: Files + Net + Clock + Print + Eprint + Threads + Wait + Sync + AllocGlobal,
     S: Store + Drop + Send,
@@ -172,6 +173,7 @@ fn serve_next<
     serve_life(rt, options, life, configured.text, warnings)
 }
 
+// Opens what a recording begins with, if there are reports.
 fn serve_life<
     R: Files + Net + Clock + Print + Eprint + Threads + Wait + Sync + AllocGlobal,
     J: Journal + Drop + Send,
@@ -215,6 +217,7 @@ fn head_of(
     Ok(Some(head))
 }
 
+// Opens turns and ports without reports, and serves on this thread.
 fn serve_unwatched<
     R: Net + Clock + Print + Threads + Wait + Sync + AllocGlobal,
     J: Journal + Drop,
@@ -238,6 +241,7 @@ fn serve_unwatched<
     )
 }
 
+// Opens the watcher, and the channels to those who write.
 fn serve_reporting<
     R: Files + Net + Clock + Print + Eprint + Threads + Wait + Sync + AllocGlobal,
     J: Journal + Drop + Send,
@@ -272,6 +276,7 @@ fn serve_reporting<
     serve_reported(rt, life, reporter, writing, warnings)
 }
 
+// Opens turns and ports with reports, and hands the warnings to those who write.
 fn serve_reported<
     R: Files + Net + Clock + Print + Eprint + Threads + Wait + Sync + AllocGlobal,
     J: Journal + Drop + Send,

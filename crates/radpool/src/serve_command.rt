@@ -29,8 +29,6 @@ const NAME: &str = "radpool serve";
 const BAD_ADDRESS: &str =
     "invalid value for '--bind <ADDRESS>': expected a unicast IPv4 address, such as 192.0.2.1";
 
-const BAD_WORKERS: &str = "invalid value for '--workers <N>': expected 1 to 8";
-
 /// Where it listens unless an option says otherwise: 127.0.0.1, and the ports of RFC 2865 and RFC 2866.
 const LOOPBACK: u32 = 0x7F00_0001;
 
@@ -218,16 +216,12 @@ impl<'a> Serve<'a> {
         let Some(sockets) = self.sockets(are_held) else {
             return Err(unfit(serve_command(alloc)?, NAME, BAD_ADDRESS)?);
         };
-        // `clap` has checked the number already.
-        let Some(workers) = Workers::new(self.workers) else {
-            return Err(unfit(serve_command(alloc)?, NAME, BAD_WORKERS)?);
-        };
         Ok(Options {
             config: self.config.to_string(alloc)?,
             seed: self.seed.to_string(alloc)?,
             state: text_of(alloc, self.state)?,
             sockets,
-            workers,
+            workers: Workers::nearest(self.workers),
             rounds: self.rounds,
             reports: self.reports(alloc)?,
         })

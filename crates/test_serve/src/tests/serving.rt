@@ -58,7 +58,7 @@ pub(crate) fn options(alloc: Global, config: &str, seed: &str, auth: u16) -> Opt
             auth,
             acct: auth.saturating_add(1),
         },
-        workers: Workers::new(1)?,
+        workers: Workers::nearest(1),
         rounds: Some(1),
         reports: UNREPORTED,
     })
@@ -342,11 +342,4 @@ fn entries_that_are_too_many(rt: HostRuntime) {
         said.as_str() == "17 pools, and at most 16 are allowed",
         "its text",
     );
-}
-
-#[test]
-fn numbers_of_workers(rt: HostRuntime) {
-    for (count, fits) in [(0, false), (1, true), (8, true), (9, false)].iter() {
-        holds(&rt, Workers::new(*count).is_some() == *fits, "workers");
-    }
 }
