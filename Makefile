@@ -1,4 +1,4 @@
-.PHONY: commands deb demo install install-trial refused-memory state test try udp uninstall
+.PHONY: commands deb demo install install-trial refused-memory replay state test try udp uninstall
 
 PREFIX ?= /usr/local
 # How many checks the gate makes side by side: one a processor, where each has 4 GB. The toolchain guesses that each needs far more.
@@ -23,6 +23,10 @@ demo:
 commands: demo
 	trials/command/run crates/radpool/out/radpool
 
+# Compares what radpool answers to random transcripts with examples/expected. It needs Python 3.11.
+replay: demo
+	trials/replay/run
+
 # Proves and builds trial_refused_memory, and makes its runs and commands of radpool again and again, each time with another
 # allocation refused. It needs Python 3 and cc.
 refused-memory: demo
@@ -40,15 +44,18 @@ state: demo
 	trials/state/run
 
 # Proves everything from nothing, tries the must-fail edits, and runs the tests and the programs. The run of radpool is the
-# example, the list in docs/CLAUSES.md is the one that docs/definitions makes, and docs/INDEX.md names what there is. Then the executables are tried: radpool with many
-# command lines, over UDP and killed with a state, trial_refused_memory and commands of radpool with each of their allocations refused
-# in turn, and an installation.
+# example, for which examples/expected computes the same; the list in docs/CLAUSES.md is the one that docs/definitions makes, and
+# docs/INDEX.md names what there is. Then the executables are tried: radpool with many command lines and random transcripts, over
+# UDP and killed with a state, trial_refused_memory and commands of radpool with each of their allocations refused in turn, and an
+# installation.
 test:
 	@cmp examples/requests.txt crates/radpool/stdin
 	@cmp examples/requests.expected crates/radpool/stdout
+	@examples/expected < examples/requests.txt | cmp - examples/requests.expected
 	@docs/definitions --check
 	@RT_JOBS=$(LANES) rt ci
 	@trials/command/run > /dev/null
+	@trials/replay/run > /dev/null
 	@trials/refused_memory/run > /dev/null
 	@trials/udp/run
 	@trials/state/run
