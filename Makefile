@@ -54,12 +54,13 @@ test:
 	@examples/expected < examples/requests.txt | cmp - examples/requests.expected
 	@docs/definitions --check
 	@RT_JOBS=$(LANES) rt ci
-	@trials/command/run > /dev/null
-	@trials/replay/run > /dev/null
-	@trials/refused_memory/run > /dev/null
+	@$(MAKE) --no-print-directory -j $(LANES) tried/command tried/replay tried/refused_memory tried/install
 	@trials/udp/run
 	@trials/state/run
-	@trials/install/run > /dev/null
+
+# Those trials that don't measure time run side by side.
+tried/%:
+	@trials/$*/run > /dev/null
 
 # Installs the executable of `make demo`, its man pages, two units for systemd, room for receive buffers, examples of configurations and
 # five documents, below PREFIX, which the installed texts name. A link to what isn't installed becomes text. Nothing in /etc is touched.
