@@ -73,7 +73,8 @@ impl<'c, L: Opened> Desk<'c, L> {
     ) -> Result<(), AllocError>
         requires moment { moment ≤ moment_max }
         requires admitted { IsAdmitted L.opening.configuration.clients request.now }
-        ensures asked { OnOk result (AddsReceipt tag request.now moment draw.now pass.old pass.new) }
+        ensures asked { OnOk result
+            (AddsReceipt tag request.now moment draw.now pass.old pass.new) }
         ensures unchanged { OnErr result (pass.new ≡ pass.old) }
     {
         let octets = Octets::of(pass.alloc(), request.packet.octets())?;

@@ -38,8 +38,8 @@ impl<'c, L: Opened> Model for Locked<'c, L> {
     } };
 
     ghost invariant = { λ locked.
-        IsConsistent L.opening locked.history.items locked.marks.items locked.server locked.total.total
-        locked.rest.parts locked.rest.amount };
+        IsConsistent L.opening locked.history.items locked.marks.items locked.server
+        locked.total.total locked.rest.parts locked.rest.amount };
 }
 
 /// What lay under a lock that is open for good.

@@ -30,7 +30,11 @@ impl<'a> Model for Replay<'a> {
 
     ghost Value = { Replay };
 
-    ghost view = { λ replay. record { configuration = replay.server.configuration; state = replay.server.state; line = replay.line } };
+    ghost view = { λ replay. record {
+      configuration = replay.server.configuration;
+      state = replay.server.state;
+      line = replay.line;
+    } };
 }
 
 impl<'a> Replay<'a> {

@@ -46,7 +46,7 @@ pub(crate) fn run_round<'c, R: Threads + Wait + Sync, G: Gate + Sync>(
     run_in::<Brand, R, G>(rt, server, room, arrivals, gate, leftovers)
 }
 
-// The same, in a ledger and a log.
+// The same, where `L` stands for the round's own ledger and log: `run_round` gives it a brand that no other round has.
 fn run_in<'c, L: Opened + Logged + Send + Sync, R: Threads + Wait + Sync, G: Gate + Sync>(
     rt: &R,
     server: Server<'c>,

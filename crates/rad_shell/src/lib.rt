@@ -11,9 +11,9 @@
 mod memory_ports;
 mod ports;
 mod received;
+mod rounds;
 mod serve_fault;
 mod served;
-mod serving;
 mod turns;
 mod watch;
 
@@ -26,8 +26,8 @@ pub use rad_journal::{Journal, JournalFault, NoJournal};
 pub use rad_round::{
     ARRIVALS_MAX, Done, Gate, OpenGate, Outcome, RoundFault, Service, Timed, WORKERS_MAX,
 };
+pub use rounds::run_rounds;
 pub use serve_fault::ServeFault;
 pub use served::Served;
-pub use serving::run_rounds;
 pub use turns::Turns;
 pub use watch::{Turn, Unwatched, Watch};

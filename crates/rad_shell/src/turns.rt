@@ -147,7 +147,8 @@ impl<'a, D: Rng, G: Gate + Sync, W: Watch + Drop> Turns<'a, D, G, W> {
               random = D.stream self.new.random.now;
               passed = P.passed ports.new;
             })) × (J.is_clean journal.new → J.is_open journal.old → Outlives
-            (J.kept journal.old) served.tally result (J.kept journal.new) (J.may_leave journal.new)) }
+            (J.kept journal.old) served.tally result
+            (J.kept journal.new) (J.may_leave journal.new)) }
         ensures random { self.new.random.ghost_name ≡ self.old.random.ghost_name }
         ensures reported { P.reported ports.new ≡ P.reported ports.old + port_faults result }
         ensures fault { IfErr result

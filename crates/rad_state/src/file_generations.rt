@@ -141,8 +141,8 @@ impl<'c, S: Store + Drop, F: Folder<S> + Drop> Generations<StoreJournal<S>>
         S.recovers journal.store it.failed it.config.now base in_use
         (S.view journal.store).committed (S.stays journal.store is_open.0) };
 
-    ghost keeps_base = { λ it old new. in_use_keeps (F.has it.folder) it.number (S.recovers old.store)
-        (S.recovers new.store) it.config.now };
+    ghost keeps_base = { λ it old new. in_use_keeps (F.has it.folder) it.number
+        (S.recovers old.store) (S.recovers new.store) it.config.now };
 
     fn is_due(&self, journal: &StoreJournal<S>, clock: u64) -> bool {
         match journal.count() {

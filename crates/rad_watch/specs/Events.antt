@@ -2,7 +2,7 @@
 --
 -- A request is read by `parts_of` alone. So nothing else that stands in it can be told: no password, no answer to a challenge, no
 -- State and no authenticator.
-use Rattle.std.specs.Prelude.{ℕ, ◌==◌, ◌&&◌, not, if◌then◌else◌, Bool, true, false, List, Option, Some, None, codes, find, is_none, is_some, option_and_then, option_copied, option_map, slice_get, Result, Ok, Err}
+use Rattle.std.specs.Prelude.{ℕ, ◌==◌, ◌&&◌, not, if◌then◌else◌, Bool, true, false, List, Option, Some, None, codes, find, is_none, option_and_then, option_copied, option_map, slice_get, Result, Ok, Err}
 use Rattle.std.specs.Str.{bytes_eq}
 use Rattle.rad_packet.specs.Attributes.{first_value, first_integer}
 use Rattle.rad_packet.specs.Codes.{code_access_accept, code_access_challenge, code_access_reject, code_status_server}

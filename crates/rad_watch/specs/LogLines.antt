@@ -4,7 +4,7 @@
 -- repeat=1 count=N
 --
 -- A field of which nothing is known is left out.
-use Rattle.std.specs.Prelude.{ℕ, ◌+◌, Bool, if◌then◌else◌, List, [], ◌++◌, codes, decimal, Option, Some, None}
+use Rattle.std.specs.Prelude.{ℕ, ◌+◌, if◌then◌else◌, List, [], ◌++◌, codes, decimal, Option, Some, None}
 use Rattle.rad_replay.specs.DatagramTexts.{address_text, door_name}
 use Rattle.rad_watch.specs.Events.{Event}
 use Rattle.rad_watch.specs.Kinds.{kind_name}

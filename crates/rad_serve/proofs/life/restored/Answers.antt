@@ -1,4 +1,4 @@
-use Rattle.std.proofs.Common.{arith, ◌≡◌, List, [], Option, None, Some, refl, sym, ap, subst, ◌∙◌}
+use Rattle.std.proofs.Common.{arith, ◌≡◌, List, [], Option, None, Some, sym, ap, subst, ◌∙◌}
 use Rattle.sqlite_trees.specs.View.{IsClean}
 use Rattle.rad_server.specs.Servers.{Server}
 use Rattle.rad_journal.specs.Restores.{IsRestored}

@@ -1,4 +1,4 @@
-use Rattle.std.proofs.Common.{◌≡◌, ap, ◌∙◌}
+use Rattle.std.proofs.Common.{ap, ◌∙◌}
 use Rattle.rad_config.specs.Configurations.{Configuration}
 use Rattle.rad_server.specs.States.{State}
 use Rattle.rad_serve.proofs.previewing.taken_over.Goals as goal

@@ -1,6 +1,6 @@
 use Rattle.std.proofs.Common.{false, subst}
 use Rattle.rad_shell.specs.Serving.{IsServed}
-use Rattle.rad_shell.proofs.serving.run_rounds.Goals as goal
+use Rattle.rad_shell.proofs.rounds.run_rounds.Goals as goal
 
 pub returns-clause-served : goal.returns-clause-served
 returns-clause-served g c = (

@@ -1,4 +1,4 @@
-//! The loop over ports.
+//! Rounds over ports, for one call.
 ghost use Rattle.std.specs.Prelude.{◌≡◌, ◌≤◌, ◌+◌, false, IfErr};
 ghost use Rattle.rand_core.specs.Stream.{Stream};
 ghost use Rattle.rad_round.specs.Rounds.{workers_max};
