@@ -1,3 +1,4 @@
+//! Batches that are claimed from one thread and from two, and faults as they are printed.
 mod one_thread;
 mod texts;
 mod two_threads;

@@ -1,3 +1,4 @@
+//! A text is read as a configuration, or the fault is printed that it has.
 mod addresses;
 mod faults;
 mod groups;

@@ -1,3 +1,4 @@
+//! Places of a pool that are used and given back, and places beside plain lists of their uses.
 use rad_places::Places;
 use std::alloc::{AllocError, Global};
 use std::process::Abort;

@@ -1,3 +1,4 @@
+//! A test is a table of calls, which `play` makes in sessions that are opened for it.
 mod copies;
 mod found;
 mod granted;

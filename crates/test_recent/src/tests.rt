@@ -1,3 +1,4 @@
+//! Kept replies and challenges: tables of calls, and random calls that are made to plain lists too.
 mod challenge_pair;
 mod challenges;
 mod pairs;

@@ -1,3 +1,4 @@
+//! What `make` and `replay` write, and the lines that they read.
 mod make;
 mod replay;
 mod streams;

@@ -1,3 +1,4 @@
+//! Rows beside a plain list of them, over random calls.
 ghost use Rattle.std.specs.Prelude.{◌≤◌};
 
 mod entry;

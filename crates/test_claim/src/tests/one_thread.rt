@@ -1,3 +1,4 @@
+//! What seats are told in turn, and how closing ends.
 ghost use Rattle.rad_claim.specs.Claims.{IsSeatOf};
 
 use super::{Two, open_two};

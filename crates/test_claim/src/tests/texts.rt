@@ -1,3 +1,4 @@
+//! Faults as they are numbered and printed.
 use crate::tests::holds;
 use rad_claim::CloseFault;
 use std::alloc::Global;

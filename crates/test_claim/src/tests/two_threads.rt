@@ -1,3 +1,4 @@
+//! Two threads that claim at once.
 ghost use Rattle.std.specs.Prelude.{◌≡◌, true};
 ghost use Rattle.rad_claim.specs.Claims.{IsSeatOf, has_finished};
 

@@ -1,3 +1,4 @@
+//! Addresses of users' own: which there may be, and what they give.
 use super::reads_as;
 use crate::tests::holds;
 use rad_config::Config;

@@ -1,3 +1,4 @@
+//! Each fault as it is printed, and which of two is told.
 use super::{is_printed, read_as};
 use rad_config::ConfigFault;
 

@@ -1,3 +1,4 @@
+//! Groups, and what their users have of them.
 use super::{are_octets, read_as, reply_octets};
 use crate::tests::holds;
 use rad_config::Config;

@@ -1,3 +1,4 @@
+//! The values of keys: numbers in their ranges, texts of their lengths, and flags.
 use super::{read_as, reads_as};
 use std::alloc::AllocError;
 use std::process::Abort;

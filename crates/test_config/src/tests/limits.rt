@@ -1,3 +1,4 @@
+//! Lists that are as long as they may be, and longer ones.
 use super::{is_number, is_printed, outcome};
 use crate::tests::holds;
 use rad_config::Config;

@@ -1,3 +1,4 @@
+//! Addresses and networks of clients, and bounds of pools.
 use super::reads_as;
 use std::process::Abort;
 

@@ -1,3 +1,4 @@
+//! What the readers of a configuration give, and which configurations are the same.
 use super::{are_octets, is_number};
 use crate::tests::holds;
 use rad_config::{Config, Spans, Text, User};

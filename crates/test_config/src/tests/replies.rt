@@ -1,3 +1,4 @@
+//! Attributes that a user's reply lists.
 use super::{are_octets, read_as, reads_as, reply_octets};
 use rad_config::Config;
 use std::alloc::AllocError;

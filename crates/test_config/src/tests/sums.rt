@@ -1,3 +1,4 @@
+//! Whether an Access-Accept with all that it is given fits a packet.
 use super::reads_as;
 use std::alloc::AllocError;
 use std::process::Abort;

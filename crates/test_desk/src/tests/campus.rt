@@ -1,3 +1,5 @@
+//! The configuration of a desk.
+
 /// One client. `nemo` and `dory` share a pool of one address.
 pub(crate) const CAMPUS: &str = r#"
 window = 30

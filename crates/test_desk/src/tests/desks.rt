@@ -1,3 +1,4 @@
+//! How desks end that were asked: with their history, or with a mismatch.
 use super::asking::Ending::{Close, CloseLater, CloseWithOne, Settle, SettleWithNone};
 use super::asking::Way::{AtOnce, InTurn};
 use super::asking::{Asked, Ended, Ending, left_of};

@@ -1,3 +1,4 @@
+//! Mismatches as they are numbered and printed.
 use crate::tests::holds;
 use rad_desk::Mismatch;
 use std::alloc::Global;

@@ -1,3 +1,4 @@
+//! Commits to disks that fail at each call in turn.
 use super::disks::{File, failing};
 use super::entries::{Brief, COMMITS, commit, has};
 use super::holds;

@@ -1,3 +1,4 @@
+//! What a journal has after a crash, and what it doesn't keep.
 use super::entries::{commit, has};
 use super::holds;
 use super::stores::opened;

@@ -1,3 +1,4 @@
+//! Which answers are kept, and what is kept of them.
 use super::holds;
 use rad_auth::Door;
 use rad_journal::Kept;

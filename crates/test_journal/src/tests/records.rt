@@ -1,3 +1,4 @@
+//! Records beside entries: which entries have one, and which records are refused.
 use super::holds;
 use super::rows::row_with;
 use super::stores::{blank, with_row};

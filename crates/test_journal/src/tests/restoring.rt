@@ -1,3 +1,4 @@
+//! Servers that are restored from a journal, and journals that were altered.
 use super::disks::{File, failing};
 use super::holds;
 use super::stores::opened;

@@ -1,3 +1,4 @@
+//! Journals in files of which one octet is rotten.
 use super::disks::{File, rotten};
 use super::entries::{COMMITS, commit, has};
 use super::holds;

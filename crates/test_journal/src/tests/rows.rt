@@ -1,3 +1,4 @@
+//! Rows that are no entry's.
 use super::holds;
 use super::stores::{blank, with_row};
 use rad_journal::{JournalFault, StoreJournal};

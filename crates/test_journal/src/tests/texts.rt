@@ -1,3 +1,4 @@
+//! Faults as they are printed.
 use super::holds;
 use rad_journal::{JournalFault, RestoreFault};
 use std::test::Fail;

@@ -1,3 +1,4 @@
+//! A copy of sessions.
 use super::{CAMPUS, Call, NEMO, ONE, make};
 use crate::tests::holds;
 use rad_config::Config;

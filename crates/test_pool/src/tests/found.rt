@@ -1,3 +1,4 @@
+//! Which session is meant by a Class, or by an address and a name.
 use super::{CAMPUS, Call, DORY, NEMO, ONE, make};
 use crate::tests::holds;
 use rad_config::Config;

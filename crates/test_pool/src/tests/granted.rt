@@ -1,3 +1,4 @@
+//! Sessions that are granted, held and ended, and their addresses.
 use super::{BRUCE, Call, DORY, NEMO, ONE, Row, TWO, TWO_NEXT, play};
 use rad_pool::{Phase, Refusal};
 use std::test::Fail;

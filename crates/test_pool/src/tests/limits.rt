@@ -1,3 +1,4 @@
+//! As many sessions as there may be, and one more.
 use super::restored::{FIRST, fault_of};
 use super::{CAMPUS, Call, DORY, ONE, SOLO, ask, make};
 use crate::tests::holds;

@@ -1,3 +1,4 @@
+//! A user with an address of their own.
 use super::{BRUCE, CAMPUS, Call, Row, TWO, TWO_NEXT, make, play_over};
 use crate::tests::holds;
 use rad_config::Config;

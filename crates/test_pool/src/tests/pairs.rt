@@ -1,3 +1,4 @@
+//! Random calls to sessions and to a plain list of them.
 ghost use Rattle.std.specs.Prelude.{◌≤◌};
 ghost use Rattle.rad_config.specs.Spans.{moment_max};
 

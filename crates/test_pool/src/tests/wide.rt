@@ -1,3 +1,4 @@
+//! A pool of many addresses, which are given in turn and again.
 use super::{Call, ask, make};
 use crate::tests::holds;
 use rad_config::Config;

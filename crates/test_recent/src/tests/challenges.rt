@@ -1,3 +1,4 @@
+//! Challenges that are issued, answered, counted and put back.
 use super::CAMPUS;
 use crate::tests::holds;
 use rad_config::{Config, MOMENT_MAX};

@@ -1,3 +1,4 @@
+//! Random calls to kept replies and challenges, and to plain lists of them.
 ghost use Rattle.std.specs.Prelude.{◌≤◌};
 ghost use Rattle.rad_config.specs.Spans.{moment_max};
 

@@ -1,3 +1,4 @@
+//! Replies that are kept, repeated, counted and put back.
 ghost use Rattle.std.specs.Prelude.{◌≡◌};
 
 use super::CAMPUS;

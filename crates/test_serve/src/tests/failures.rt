@@ -1,3 +1,4 @@
+//! What the system's errors mean to a call that receives and to one that sends.
 use crate::tests::holds;
 use rad_serve::{Failure, receive_failure, send_failure};
 use std::io;

@@ -1,3 +1,4 @@
+//! What two ports receive and send, how long they wait, and ports that can't be bound.
 use super::LOOPBACK;
 use super::client::{client, gets, sends};
 use crate::tests::holds;

@@ -1,3 +1,4 @@
+//! Rounds over sockets.
 use super::LOOPBACK;
 use super::client::{CONFIGURATION, SHORT, client, gets, sends};
 use crate::tests::holds;

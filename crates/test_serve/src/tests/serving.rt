@@ -1,3 +1,4 @@
+//! How serving ends, and in which order its faults come.
 use super::LOOPBACK;
 use super::client::CONFIGURATION;
 use super::shelf::Shelf;

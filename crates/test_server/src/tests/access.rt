@@ -1,3 +1,4 @@
+//! Passwords that are right, and Access-Requests that are malformed.
 use super::Step::{Ask, Sessions};
 use super::requests::Asked::Access;
 use super::requests::Sent::{Chap, Hidden, Plain};

@@ -1,3 +1,4 @@
+//! Which of several reasons an Access-Request is refused for.
 use super::Step::{Ask, Challenges, Sessions};
 use super::requests::Asked::Access;
 use super::requests::Sent::{Hidden, Plain};

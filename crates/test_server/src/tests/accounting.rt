@@ -1,3 +1,4 @@
+//! Which session a report means, and what it changes.
 use super::Step::{Ask, Sessions};
 use super::requests::Asked::{Account, OtherAccount};
 use super::requests::Sent::Plain;

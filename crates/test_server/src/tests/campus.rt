@@ -1,3 +1,5 @@
+//! The configuration of a run, and another one.
+
 /// Two clients. `nemo` and `dory` share a pool of one address; `bruce` may have two sessions; `kay` is challenged; `many` and
 /// fifteen more may together have as many sessions as there are, and no address; `coral` has all that keys of their own tell in an
 /// Access-Accept, and `marlin` an address of its own in place of its group's pool, and replies of both; the rest have long

@@ -1,3 +1,4 @@
+//! Challenges and their answers.
 use super::Step::{Ask, Challenges, Sessions, Still};
 use super::requests::Asked::{Access, OtherAccess};
 use super::requests::Sent::{Hidden, Plain};

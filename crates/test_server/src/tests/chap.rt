@@ -1,3 +1,4 @@
+//! CHAP-Passwords, over the Request Authenticator and over a CHAP-Challenge.
 use super::Step::Ask;
 use super::requests::Asked::Access;
 use super::requests::Sent::{Chap, Hidden, Plain};

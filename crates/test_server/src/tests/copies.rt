@@ -1,3 +1,4 @@
+//! Which servers are the same.
 use super::Answered::Accept;
 use super::Step::{Copy, Open, Sessions};
 use super::campus::{CAMPUS, HAMLET};

@@ -1,3 +1,4 @@
+//! Tables that are full.
 use super::Answered::{Accept, Busy, Challenge};
 use super::Step::{Ask, AskFrom, Challenges, Fill, Replies, Sessions, Still};
 use super::requests::Asked::{Access, Account, OtherAccount, Status};

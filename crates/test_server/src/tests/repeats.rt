@@ -1,3 +1,4 @@
+//! Requests that come again, and the replies that are kept for them.
 use super::Answered::Accept;
 use super::Step::{Ask, AskFrom, Replies, Sessions, Still};
 use super::requests::Asked::{Access, Account, OtherOctets, Status};

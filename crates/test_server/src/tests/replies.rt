@@ -1,3 +1,4 @@
+//! What replies say, and the Proxy-States at their end.
 use super::Answered::{Accept, Reject, Response};
 use super::Step::Ask;
 use super::requests::Asked::{Access, Account, Status};

@@ -1,3 +1,4 @@
+//! An Accounting-On or an Accounting-Off, and the sessions that it ends.
 use super::Step::{Ask, Sessions};
 use super::requests::Asked::{Access, Account, NextAccount, OtherAccess, OtherAccount};
 use super::requests::Sent::{Hidden, Plain};

@@ -1,3 +1,4 @@
+//! Sessions and their addresses as time passes.
 use super::Step::{Ask, Sessions};
 use super::requests::Asked::{Access, Account};
 use super::requests::{BRUCE, DORY, DORY_AGAIN, EXAMPLE, FIRST_CLASS, NEMO, START, STOP, Sent};

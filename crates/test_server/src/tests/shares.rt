@@ -1,3 +1,4 @@
+//! The shares of clients and users in the tables.
 use super::Answered::{Busy, Challenge};
 use super::Step::{Ask, AskFrom, Fill, Still};
 use super::requests::Asked::{Access, Account, OtherAccess, OtherAccount};

@@ -1,3 +1,4 @@
+//! Sessions that are given up since no report of them comes.
 use super::Step::{Ask, Sessions};
 use super::requests::Asked::{Access, Account};
 use super::requests::Sent::Hidden;

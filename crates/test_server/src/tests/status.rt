@@ -1,3 +1,4 @@
+//! Status-Servers at both ports.
 use super::Answered::Accept;
 use super::Step::{Ask, Sessions};
 use super::requests::Asked::Status;

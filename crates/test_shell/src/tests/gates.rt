@@ -1,3 +1,4 @@
+//! Batches at the gates that they wait at.
 use super::datagrams::Sent;
 use super::datagrams::Sent::Octets;
 use super::serving::{begins_with_tags, first_round, has_len};

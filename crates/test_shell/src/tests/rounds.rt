@@ -1,3 +1,4 @@
+//! Rounds: their outcomes, their entries, and the sessions after them.
 use super::datagrams::Sent::{Access, Account, Octets, Strange};
 use super::datagrams::{
     ACCOUNTING_OFF, ACCOUNTING_ON, ANSWER, BY_CHAP, BY_CHAP_CHALLENGE, BY_EAP, INTERIM_UPDATE,

@@ -1,3 +1,4 @@
+//! Faults and sums as they are printed, and sums that are carried on.
 use crate::tests::holds;
 use rad_shell::{JournalFault, Mismatch, RoundFault, ServeFault, Served};
 use std::alloc::Global;

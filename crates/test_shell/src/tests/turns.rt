@@ -1,3 +1,4 @@
+//! Turns over ports in memory that are full, idle or failing, and over journals.
 use super::coming::{are_challenges, arrive_often, is_after, is_sum, random, sent_count, serve};
 use super::datagrams::Sent::Access;
 use super::datagrams::{Sent, starts};

@@ -1,3 +1,4 @@
+//! A crash before a snapshot is committed, and after.
 use super::holds;
 use super::servers::{TEXT, busy};
 use super::stores::{blank, has_tables, read_back, written};

@@ -1,3 +1,4 @@
+//! Snapshots that were changed by hand.
 use super::holds;
 use super::servers::{TEXT, busy};
 use super::stores::{gets, puts, read_back, takes, written};

@@ -1,3 +1,4 @@
+//! Servers that are written and read back.
 use super::holds;
 use super::servers::{SESSIONS, TEXT, WITHOUT_KAY, busy};
 use super::stores::{read_back, written};

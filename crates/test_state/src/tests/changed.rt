@@ -1,3 +1,4 @@
+//! Databases of which an octet was changed, and files that are no state.
 ghost use Rattle.std.specs.Prelude.{IfOk, IfSome, IsTrue};
 ghost use Rattle.sqlite_disk.specs.Memory.{memory_is_usable};
 ghost use Rattle.sqlite_store.specs.Unopened.{AreUsable};

@@ -1,3 +1,4 @@
+//! A crash at each call of the disk.
 ghost use Rattle.std.specs.Prelude.{IsTrue};
 
 use super::files::{begun_in, found_in};

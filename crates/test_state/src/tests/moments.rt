@@ -1,3 +1,4 @@
+//! The moment at which a server goes on.
 use super::generations::meta;
 use super::holds;
 use rad_state::{Clocks, Last, next_moment};

@@ -1,3 +1,4 @@
+//! Faults of opening as they are printed.
 use super::holds;
 use rad_state::OpenFault;
 use std::alloc::Global;
