@@ -1,8 +1,12 @@
-//! A configuration.
+//! Configurations.
 
-/// Two clients, three pools and thirteen users: `nemo` and `dory` share a pool of one address, `bruce` has two sessions, `kay` is
-/// challenged, and nine more share eight addresses.
-pub const CAMPUS: &str = r#"
+/// The text of a configuration, which `$more` continues: two clients, two pools and four users, of whom `nemo` and `dory` share a
+/// pool of one address, `bruce` has two sessions and two addresses, and `kay` is challenged and has no pool.
+#[macro_export]
+macro_rules! campus {
+    ($more:literal) => {
+        concat!(
+            r#"
 window = 30
 hold = 60
 
@@ -23,11 +27,6 @@ last = "10.0.0.1"
 name = "two"
 first = "10.0.2.1"
 last = "10.0.2.2"
-
-[[pool]]
-name = "eight"
-first = "10.0.1.1"
-last = "10.0.1.8"
 
 [[user]]
 name = "nemo"
@@ -52,6 +51,19 @@ name = "kay"
 password = "pw"
 challenge = "code?"
 answer = "4711"
+"#,
+            $more
+        )
+    };
+}
+
+/// The campus, and nine users more, who share eight addresses.
+pub const CAMPUS: &str = campus!(
+    r#"
+[[pool]]
+name = "eight"
+first = "10.0.1.1"
+last = "10.0.1.8"
 
 [[user]]
 name = "u1"
@@ -97,4 +109,5 @@ pool = "eight"
 name = "u9"
 password = "p"
 pool = "eight"
-"#;
+"#
+);

@@ -1,4 +1,4 @@
-//! What the crates of tests share: a configuration, clients, their datagrams and the admission of these, and random numbers.
+//! What the crates of tests share: configurations, clients, their datagrams and the admission of these, and random numbers.
 //!
 //! Only a test may abort, so each crate of tests has its own `holds`, which asserts.
 #![tactic(auto)]

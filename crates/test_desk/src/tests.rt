@@ -1,7 +1,6 @@
 //! A desk of two passes is opened over a server that remembers nothing yet. The octets of requests are those of RFC 2865 and
 //! RFC 5997.
 mod asking;
-mod campus;
 mod desks;
 mod requests;
 mod texts;

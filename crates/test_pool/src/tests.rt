@@ -17,6 +17,7 @@ use rad_pool::{Grant, Phase, Refusal, Session, Sessions};
 use std::alloc::Global;
 use std::process::Abort;
 use std::test::Fail;
+use test_common::campus;
 
 // Asserts once, of `what`.
 fn holds(rt: &impl Abort, is_so: bool, what: &str) {
@@ -24,48 +25,7 @@ fn holds(rt: &impl Abort, is_so: bool, what: &str) {
 }
 
 /// Two clients; users who share a pool of one address, one with two sessions and two addresses, and one without addresses.
-const CAMPUS: &str = r#"
-window = 30
-hold = 60
-
-[[client]]
-address = "192.168.1.16"
-secret = "xyzzy5461"
-
-[[client]]
-address = "192.168.1.20"
-secret = "second"
-
-[[pool]]
-name = "one"
-first = "10.0.0.1"
-last = "10.0.0.1"
-
-[[pool]]
-name = "two"
-first = "10.0.2.1"
-last = "10.0.2.2"
-
-[[user]]
-name = "nemo"
-password = "arctangent"
-pool = "one"
-
-[[user]]
-name = "dory"
-password = "reef"
-pool = "one"
-
-[[user]]
-name = "bruce"
-password = "shark"
-pool = "two"
-sessions = 2
-
-[[user]]
-name = "solo"
-password = "p"
-"#;
+const CAMPUS: &str = campus!("");
 
 const NEMO: u32 = 0;
 
@@ -73,7 +33,7 @@ const DORY: u32 = 1;
 
 const BRUCE: u32 = 2;
 
-const SOLO: u32 = 3;
+const KAY: u32 = 3;
 
 /// The address of the pool `one`, and those of the pool `two`.
 const ONE: u32 = 0x0A00_0001;

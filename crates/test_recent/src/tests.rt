@@ -1,4 +1,5 @@
 //! Kept replies and challenges: tables of calls, and random calls that are made to plain lists too.
+//! As `CAMPUS` says, replies live 30 seconds, and challenges 60.
 mod challenge_pair;
 mod challenges;
 mod pairs;
@@ -11,17 +12,3 @@ use std::process::Abort;
 fn holds(rt: &impl Abort, is_so: bool, what: &str) {
     assert!(rt; is_so, "{what}");
 }
-
-/// Replies live 30 seconds, and challenges 60.
-const CAMPUS: &str = r#"
-window = 30
-hold = 60
-
-[[client]]
-address = "192.168.1.16"
-secret = "xyzzy5461"
-
-[[user]]
-name = "nemo"
-password = "arctangent"
-"#;

@@ -2,7 +2,6 @@
 ghost use Rattle.std.specs.Prelude.{◌≡◌};
 ghost use Rattle.rad_desk.specs.Desks.{IsBlankOf};
 
-use super::campus::CAMPUS;
 use super::requests::{STATUS, admit};
 use rad_config::Config;
 use rad_desk::{Closed, Desk, Mismatch, Opened, Pass, Receipt, settle};
@@ -12,7 +11,7 @@ use std::marker::Brand;
 use std::sync::Wait;
 use std::sync::ledger::Blank;
 use std::thread::{Threads, join};
-use test_common::DRAW;
+use test_common::{CAMPUS, DRAW};
 
 /// A Status-Server, which changes the clock alone.
 const STATUS_0: Asked = Asked {

@@ -1,6 +1,6 @@
 //! As many sessions as there may be, and one more.
 use super::restored::{FIRST, fault_of};
-use super::{CAMPUS, Call, DORY, ONE, SOLO, ask, make};
+use super::{CAMPUS, Call, DORY, KAY, ONE, ask, make};
 use crate::tests::holds;
 use rad_config::Config;
 use rad_pool::{Grant, Refusal, RowFault, SESSIONS_MAX, Session, Sessions};
@@ -27,7 +27,7 @@ fn fill(sessions: &mut Sessions, config: &Config) -> bool {
             number: place as u64 + 1,
             address: None,
         };
-        let user = SOLO + 1 + (place / 4_096) as u32;
+        let user = KAY + 1 + (place / 4_096) as u32;
         is_right = is_right && ask(sessions, config, user, 0) == Some(Ok(grant));
     }
     is_right

@@ -1,5 +1,5 @@
 //! Accounting-On and Accounting-Off of a source.
-use super::{Asker, BRUCE, Call, DORY, HERE, NEMO, ONE, Row, SOLO, TWO, TWO_NEXT, play};
+use super::{Asker, BRUCE, Call, DORY, HERE, KAY, NEMO, ONE, Row, TWO, TWO_NEXT, play};
 use rad_pool::{Phase, Refusal};
 use std::test::Fail;
 
@@ -85,11 +85,11 @@ fn a_reset_leaves_other_sources(rt: HostRuntime) -> Result<(), Fail> {
 #[test]
 fn a_session_after_a_reset_is_not_ended(rt: HostRuntime) -> Result<(), Fail> {
     const ROWS: &[Row] = &[
-        (0, Call::Grant(SOLO, 1, None), "one is open"),
-        (0, Call::Refuse(SOLO, Refusal::SessionLimit), "no more"),
+        (0, Call::Grant(KAY, 1, None), "one is open"),
+        (0, Call::Refuse(KAY, Refusal::SessionLimit), "no more"),
         (1_000, Call::Reset(HERE.source), "a reset"),
-        (1_000, Call::Grant(SOLO, 2, None), "free at once"),
-        (1_000, Call::Refuse(SOLO, Refusal::SessionLimit), "no more"),
+        (1_000, Call::Grant(KAY, 2, None), "free at once"),
+        (1_000, Call::Refuse(KAY, Refusal::SessionLimit), "no more"),
         (
             1_000,
             Call::Rows(&[(1, Phase::Ended), (2, Phase::Pending)]),

@@ -1,6 +1,6 @@
 //! Rows that are put back.
 use super::pairs::TABLE;
-use super::{BRUCE, CAMPUS, DORY, HERE, NEMO, ONE, SOLO, TWO, ask, expire};
+use super::{BRUCE, CAMPUS, DORY, HERE, KAY, NEMO, ONE, TWO, ask, expire};
 use crate::tests::holds;
 use rad_config::Config;
 use rad_pool::{Phase, RowFault, Session, Sessions};
@@ -37,7 +37,7 @@ const NEXT: Session = Session {
 /// One that has ended, of a user who has one grant.
 const ENDED: Session = Session {
     number: 5,
-    user: SOLO,
+    user: KAY,
     address: None,
     phase: Phase::Ended,
     ..FIRST

@@ -1,11 +1,11 @@
 //! Challenges that are issued, answered, counted and put back.
-use super::CAMPUS;
 use crate::tests::holds;
 use rad_config::{Config, MOMENT_MAX};
 use rad_recent::{Challenge, Challenges, IssueFault, Party, RowFault, state_value};
 use std::alloc::Global;
 use std::process::Abort;
 use std::test::Fail;
+use test_common::CAMPUS;
 
 /// A call, and what it must return or leave. The 16 octets of a draw are equal.
 #[derive(Clone, Copy)]

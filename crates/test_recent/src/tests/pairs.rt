@@ -2,13 +2,12 @@
 ghost use Rattle.std.specs.Prelude.{◌≤◌};
 ghost use Rattle.rad_config.specs.Spans.{moment_max};
 
-use super::CAMPUS;
 use super::challenge_pair::ChallengePair;
 use super::reply_pair::ReplyPair;
 use crate::tests::holds;
 use rad_config::Config;
 use std::alloc::Global;
-use test_common::next_draw;
+use test_common::{CAMPUS, next_draw};
 
 /// How many replies are kept at first, keys there are, and calls are made: few replies, and as many as there may be.
 const REPLY_RUNS: [(u64, u64, u64); 2] = [(0, 300, 6_000), (65_530, 131_072, 800)];

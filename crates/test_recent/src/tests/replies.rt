@@ -1,7 +1,6 @@
 //! Replies that are kept, repeated, counted and put back.
 ghost use Rattle.std.specs.Prelude.{◌≡◌};
 
-use super::CAMPUS;
 use crate::tests::holds;
 use rad_auth::Door;
 use rad_config::{Config, MOMENT_MAX};
@@ -10,6 +9,7 @@ use rad_recent::{KeepFault, Kept, Key, Recent, RowFault};
 use std::alloc::Global;
 use std::process::Abort;
 use std::test::Fail;
+use test_common::CAMPUS;
 
 /// The octets of requests.
 const FIRST: &[u8] = b"\x01\x07\x00\x14sixteen octets..";

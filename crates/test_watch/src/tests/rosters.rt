@@ -5,23 +5,7 @@ use rad_config::Config;
 use rad_server::Server;
 use rad_watch::{Now, Roster};
 use std::alloc::Global;
-use test_common::{CLIENT, DRAW, PORT, RFC_REQUEST, admit};
-
-/// The client and the user of RFC 2865, section 7.1.
-const CONFIGURATION: &str = r#"
-hold = 60
-[[client]]
-address = "192.168.1.16"
-secret = "xyzzy5461"
-[[pool]]
-name = "one"
-first = "10.0.0.1"
-last = "10.0.0.1"
-[[user]]
-name = "nemo"
-password = "arctangent"
-pool = "one"
-"#;
+use test_common::{CAMPUS, CLIENT, DRAW, PORT, RFC_REQUEST, admit};
 
 /// When the session is granted: 2026-11-26, 10:00:00.250 in UTC.
 const GRANTED: u64 = 1_795_687_200_250;
@@ -34,7 +18,7 @@ const HEAD: &str = "number\tphase\tuser\taddress\tclient\tsource\tsince\tseen\n"
 const NEMO: &str =
     "1\tpending\tnemo\t10.0.0.1\t1\t192.168.1.16\t2026-11-26T10:00:00.250Z\t2026-11-26T10:00:00.250Z\n";
 
-/// Milliseconds since the grant, and the lines after the head line.
+/// Milliseconds since the grant, and the lines after the head line. The session is held for 60 seconds.
 const ROWS: &[(u64, &str)] = &[(0, NEMO), (59_999, NEMO), (60_000, ""), (1 << 62, "")];
 
 #[test]
@@ -45,7 +29,7 @@ fn a_session_is_told_while_it_is_live(rt: HostRuntime) {
 }
 
 fn tells(alloc: Global, since: u64, lines: &str) -> bool {
-    match Config::read(alloc, CONFIGURATION) {
+    match Config::read(alloc, CAMPUS) {
         Ok(config) => tells_with(alloc, &config, since, lines),
         Err(_) => false,
     }
