@@ -93,11 +93,15 @@ fn play_with_stale(rt: &impl Abort, alloc: Global, rows: &[Row]) -> Result<(), F
 
 fn play_over(rt: &impl Abort, alloc: Global, config: &Config, rows: &[Row]) -> Result<(), Fail> {
     let mut sessions = Sessions::open(alloc, config)?;
+    play_in(rt, &mut sessions, config, rows);
+    Ok(())
+}
+
+fn play_in(rt: &impl Abort, sessions: &mut Sessions, config: &Config, rows: &[Row]) {
     for row in rows.iter() {
         let (now, call, what) = *row;
-        holds(rt, make(&mut sessions, config, now, &call), what);
+        holds(rt, make(sessions, config, now, &call), what);
     }
-    Ok(())
 }
 
 // Makes a call, and returns whether it returned what it must.

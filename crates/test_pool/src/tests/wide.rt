@@ -1,5 +1,5 @@
 //! A pool of many addresses, which are given in turn and again.
-use super::{Call, ask, make};
+use super::{Call, Row, ask, play_in};
 use crate::tests::holds;
 use rad_config::Config;
 use rad_pool::{Grant, Refusal, Sessions};
@@ -29,6 +29,25 @@ const FIRST: u32 = 0x0A01_0000;
 
 #[test]
 fn addresses_are_given_in_turn_and_again(rt: HostRuntime) -> Result<(), Fail> {
+    const ROWS: &[Row] = &[
+        (0, Call::Stop(100), "a Stop"),
+        (
+            29_999,
+            Call::Grant(0, 4_097, Some(0x0A01_1000)),
+            "the ended session still has its address",
+        ),
+        (
+            30_000,
+            Call::Refuse(0, Refusal::SessionLimit),
+            "its address is free again, but the user has no session left",
+        ),
+        (30_000, Call::Stop(101), "another Stop"),
+        (
+            30_000,
+            Call::Grant(0, 4_098, Some(FIRST + 99)),
+            "its address is given again",
+        ),
+    ];
     let config = Config::read(rt.alloc(), WIDE)?;
     let mut sessions = Sessions::open(rt.alloc(), &config)?;
     holds(
@@ -36,26 +55,7 @@ fn addresses_are_given_in_turn_and_again(rt: HostRuntime) -> Result<(), Fail> {
         are_in_turn(&mut sessions, &config),
         "each session has the next number and address",
     );
-    sessions.stop(100);
-    let next = Call::Grant(0, 4_097, Some(0x0A01_1000));
-    holds(
-        &rt,
-        make(&mut sessions, &config, 29_999, &next),
-        "the ended session still has its address",
-    );
-    let refused = Call::Refuse(0, Refusal::SessionLimit);
-    holds(
-        &rt,
-        make(&mut sessions, &config, 30_000, &refused),
-        "its address is free again, but the user has no session left",
-    );
-    sessions.stop(101);
-    let again = Call::Grant(0, 4_098, Some(FIRST + 99));
-    holds(
-        &rt,
-        make(&mut sessions, &config, 30_000, &again),
-        "its address is given again",
-    );
+    play_in(&rt, &mut sessions, &config, ROWS);
     Ok(())
 }
 
