@@ -13,8 +13,12 @@ use rad_server::{Server, StateRow};
 use std::alloc::{AllocError, Global};
 use test_common::{CLIENT, PORT, SECOND_CLIENT};
 
-/// Two clients; `nemo` with a pool of one address, `many` with many sessions and none, `kay` with challenges.
-pub(crate) const TEXT: &str = r#"
+// The text of a configuration, which `$more` continues: two clients; `nemo` with a pool of one address, and `many` with many sessions
+// and none.
+macro_rules! text {
+    ($more:literal) => {
+        concat!(
+            r#"
 window = 30
 hold = 60
 
@@ -40,42 +44,25 @@ pool = "one"
 name = "many"
 password = "p"
 sessions = 4096
+"#,
+            $more
+        )
+    };
+}
 
+/// These, and `kay` with challenges.
+pub(crate) const TEXT: &str = text!(
+    r#"
 [[user]]
 name = "kay"
 password = "pw"
 challenge = "code?"
 answer = "4711"
-"#;
+"#
+);
 
 /// The same without `kay`.
-pub(crate) const WITHOUT_KAY: &str = r#"
-window = 30
-hold = 60
-
-[[client]]
-address = "192.168.1.16"
-secret = "xyzzy5461"
-
-[[client]]
-address = "192.168.1.20"
-secret = "second"
-
-[[pool]]
-name = "one"
-first = "10.0.0.1"
-last = "10.0.0.1"
-
-[[user]]
-name = "nemo"
-password = "arctangent"
-pool = "one"
-
-[[user]]
-name = "many"
-password = "p"
-sessions = 4096
-"#;
+pub(crate) const WITHOUT_KAY: &str = text!("");
 
 /// How many sessions a server has that remembers rows of each kind.
 pub(crate) const SESSIONS: u64 = 301;
