@@ -33,6 +33,15 @@ enum Wanted {
     Refused(SnapshotTable, u32, RowFault),
 }
 
+/// The trees of a snapshot, as `blank` has them in a store.
+const SESSION: u32 = 4;
+
+const REPLY: u32 = 5;
+
+const CHALLENGE: u32 = 6;
+
+const SNAPSHOT: u32 = 7;
+
 /// A change, what is reported then, and what it is.
 type Case = (Change, Wanted, &'static str);
 
@@ -114,85 +123,93 @@ fn reports(alloc: Global, config: &Config, change: Change, wanted: Wanted) -> bo
 fn rows_at_fault_are_refused(rt: HostRuntime) -> Result<(), Fail> {
     const SESSIONS: SnapshotTable = SnapshotTable::Sessions;
     const CASES: &[Case] = &[
-        (Change::Without(4, 3), Wanted::Damaged, "a session left out"),
         (
-            Change::Without(5, 1),
+            Change::Without(SESSION, 3),
+            Wanted::Damaged,
+            "a session left out",
+        ),
+        (
+            Change::Without(REPLY, 1),
             Wanted::Damaged,
             "the first reply left out",
         ),
-        (Change::Without(7, 1), Wanted::Damaged, "no row of numbers"),
         (
-            Change::Exchanged(4, 2, 5),
+            Change::Without(SNAPSHOT, 1),
+            Wanted::Damaged,
+            "no row of numbers",
+        ),
+        (
+            Change::Exchanged(SESSION, 2, 5),
             Wanted::Refused(SESSIONS, 3, RowFault::Number),
             "two sessions exchanged",
         ),
         (
-            Change::Doubled(4, 2, 3),
+            Change::Doubled(SESSION, 2, 3),
             Wanted::Refused(SESSIONS, 3, RowFault::Number),
             "a session twice",
         ),
         (
-            Change::Doubled(5, 2, 3),
+            Change::Doubled(REPLY, 2, 3),
             Wanted::Refused(SnapshotTable::Replies, 3, RowFault::Key),
             "a reply twice",
         ),
         (
-            Change::Doubled(7, 1, 2),
+            Change::Doubled(SNAPSHOT, 1, 2),
             Wanted::Damaged,
             "two rows of numbers",
         ),
         (
-            Change::With(4, 4, 1, ValueRef::Blob(&[7])),
+            Change::With(SESSION, 4, 1, ValueRef::Blob(&[7])),
             Wanted::Damaged,
             "a blob for a number",
         ),
         (
-            Change::With(4, 4, 2, ValueRef::Int(2)),
+            Change::With(SESSION, 4, 2, ValueRef::Int(2)),
             Wanted::Refused(SESSIONS, 4, RowFault::Client),
             "a client that isn't there",
         ),
         (
-            Change::With(4, 4, 6, ValueRef::Int(3)),
+            Change::With(SESSION, 4, 6, ValueRef::Int(3)),
             Wanted::Damaged,
             "a fourth phase",
         ),
         (
-            Change::With(5, 1, 3, ValueRef::Int(65_536)),
+            Change::With(REPLY, 1, 3, ValueRef::Int(65_536)),
             Wanted::Damaged,
             "a port of 17 bits",
         ),
         (
-            Change::With(5, 1, 5, ValueRef::Int(256)),
+            Change::With(REPLY, 1, 5, ValueRef::Int(256)),
             Wanted::Damaged,
             "an Identifier of 9 bits",
         ),
         (
-            Change::With(5, 1, 8, ValueRef::Blob(&[80, 18, 0])),
+            Change::With(REPLY, 1, 8, ValueRef::Blob(&[80, 18, 0])),
             Wanted::Damaged,
             "octets that are no attributes",
         ),
         (
-            Change::With(4, 1, 5, ValueRef::Null),
+            Change::With(SESSION, 1, 5, ValueRef::Null),
             Wanted::Refused(SnapshotTable::Replies, 1, RowFault::Session),
             "an address lost",
         ),
         (
-            Change::With(6, 2, 2, ValueRef::Blob(&[1; 15])),
+            Change::With(CHALLENGE, 2, 2, ValueRef::Blob(&[1; 15])),
             Wanted::Damaged,
             "a draw of 15 octets",
         ),
         (
-            Change::With(7, 1, 1, ValueRef::Int(8_000)),
+            Change::With(SNAPSHOT, 1, 1, ValueRef::Int(8_000)),
             Wanted::Refused(SESSIONS, 1, RowFault::Moments),
             "a clock before a session was seen",
         ),
         (
-            Change::With(7, 1, 1, ValueRef::Int(i64::MAX)),
+            Change::With(SNAPSHOT, 1, 1, ValueRef::Int(i64::MAX)),
             Wanted::Refused(SnapshotTable::Numbers, 1, RowFault::Moments),
             "a clock beyond the last moment",
         ),
         (
-            Change::With(7, 1, 2, ValueRef::Int(2)),
+            Change::With(SNAPSHOT, 1, 2, ValueRef::Int(2)),
             Wanted::Refused(SnapshotTable::Numbers, 1, RowFault::Number),
             "a last number below a session's",
         ),
