@@ -1,59 +1,15 @@
 //! The configuration of a run, and another one.
+use test_common::campus;
 
-/// Two clients. `nemo` and `dory` share a pool of one address; `bruce` may have two sessions; `kay` is challenged; `many` and
-/// fifteen more may together have as many sessions as there are, and no address; `coral` has all that keys of their own tell in an
-/// Access-Accept, and `marlin` an address of its own in place of its group's pool, and replies of both; the rest have long
-/// passwords.
-pub(crate) const CAMPUS: &str = r#"
-window = 30
-hold = 60
-
-[[client]]
-address = "192.168.1.16"
-secret = "xyzzy5461"
-
-[[client]]
-address = "192.168.1.20"
-secret = "second"
-
-[[pool]]
-name = "one"
-first = "10.0.0.1"
-last = "10.0.0.1"
-
-[[pool]]
-name = "two"
-first = "10.0.2.1"
-last = "10.0.2.2"
-
+/// The campus, and users more: `many` and fifteen more may together have as many sessions as there are, and no address; `coral` has
+/// all that keys of their own tell in an Access-Accept, and `marlin` an address of its own in place of its group's pool, and
+/// replies of both; the rest have long passwords.
+pub(crate) const CAMPUS: &str = campus!(
+    r#"
 [[pool]]
 name = "eight"
 first = "10.0.1.1"
 last = "10.0.1.8"
-
-[[user]]
-name = "nemo"
-password = "arctangent"
-pool = "one"
-service = 2
-protocol = 1
-
-[[user]]
-name = "dory"
-password = "reef"
-pool = "one"
-
-[[user]]
-name = "bruce"
-password = "shark"
-pool = "two"
-sessions = 2
-
-[[user]]
-name = "kay"
-password = "pw"
-challenge = "code?"
-answer = "4711"
 
 [[user]]
 name = "many"
@@ -169,7 +125,8 @@ group = "gold"
 address = "10.0.3.7"
 message = "hi"
 reply = [{ vendor = 9, attribute = 1, value = "x" }]
-"#;
+"#
+);
 
 /// Another configuration: the first client alone.
 pub(crate) const HAMLET: &str = r#"
