@@ -12,8 +12,12 @@ use rad_config::Config;
 use std::test::Fail;
 use test_common::PORT;
 
-/// The first client may have 655 kept replies and 10 challenges. `nemo` may have two sessions in the table.
-const SHARED: &str = r#"
+// The text of a configuration, which `$more` continues at its last user, `kay`: the first client may have 655 kept replies and 10
+// challenges, and `nemo` two sessions in the table.
+macro_rules! shares {
+    ($more:literal) => {
+        concat!(
+            r#"
 window = 30
 hold = 60
 
@@ -25,40 +29,28 @@ share = 1
 [[client]]
 address = "192.168.1.20"
 secret = "second"
-
-[[user]]
-name = "kay"
-password = "pw"
-challenge = "code?"
-answer = "4711"
 
 [[user]]
 name = "nemo"
 password = "arctangent"
 grants = 2
-"#;
-
-/// `kay` may have two challenges, and the first client ten.
-const LIMITED: &str = r#"
-window = 30
-hold = 60
-
-[[client]]
-address = "192.168.1.16"
-secret = "xyzzy5461"
-share = 1
-
-[[client]]
-address = "192.168.1.20"
-secret = "second"
 
 [[user]]
 name = "kay"
 password = "pw"
 challenge = "code?"
 answer = "4711"
-challenges = 2
-"#;
+"#,
+            $more
+        )
+    };
+}
+
+/// `kay` may have as many challenges as there are.
+const SHARED: &str = shares!("");
+
+/// `kay` may have two challenges.
+const LIMITED: &str = shares!("challenges = 2\n");
 
 /// kay's log-in.
 const LOGIN: &[Sent] = &[KAY, Hidden(b"pw")];
