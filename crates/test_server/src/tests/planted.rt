@@ -304,24 +304,32 @@ const LIMITED_CHALLENGE: Challenge = Challenge {
 fn no_more_rows_are_put_back_than_allowed(rt: HostRuntime) -> Result<(), Fail> {
     let config = Config::read(rt.alloc(), LIMITED)?;
     let mut server = Server::open(rt.alloc(), &config)?;
+    replies_are_limited(&rt, rt.alloc(), &mut server)?;
+    challenges_are_limited(&rt, &mut server);
+    Ok(())
+}
+
+// As many replies are put back as the client's share allows, and no more.
+fn replies_are_limited(rt: &impl Abort, alloc: Global, server: &mut Server) -> Result<(), Fail> {
     for place in 0..655 {
-        let row = reply_at(rt.alloc(), place)?;
-        holds(&rt, server.restore(row).is_ok(), "a reply of the share");
+        let row = reply_at(alloc, place)?;
+        holds(rt, server.restore(row).is_ok(), "a reply of the share");
     }
-    let beyond = server.restore(reply_at(rt.alloc(), 655)?);
-    holds(&rt, beyond == Err(RowFault::Share), "one more reply");
+    let beyond = server.restore(reply_at(alloc, 655)?);
+    holds(rt, beyond == Err(RowFault::Share), "one more reply");
+    Ok(())
+}
+
+// One challenge of the user is put back, and no more.
+fn challenges_are_limited(rt: &impl Abort, server: &mut Server) {
     let first = server.restore(StateRow::Challenge(LIMITED_CHALLENGE));
-    holds(&rt, first.is_ok(), "the user's challenge");
-    let second = StateRow::Challenge(Challenge {
+    holds(rt, first.is_ok(), "the user's challenge");
+    let second = server.restore(StateRow::Challenge(Challenge {
         number: 3,
         ..LIMITED_CHALLENGE
-    });
-    holds(
-        &rt,
-        server.restore(second) == Err(RowFault::Share),
-        "one more challenge",
-    );
-    Ok(())
+    }));
+    let is_refused = second == Err(RowFault::Share);
+    holds(rt, is_refused, "one more challenge");
 }
 
 // A reply to a request from the port of a place.
