@@ -11,6 +11,7 @@ mod doors;
 mod example;
 mod lanes;
 mod lengths;
+mod message_authenticator_places;
 mod message_authenticators;
 mod mutants;
 mod networks;
