@@ -130,14 +130,7 @@ fn is_each(outcomes: &[Outcome], wanted: &[Wanted]) -> bool {
 /// Whether these are the tags of the entries of a round.
 pub(crate) fn are_tags(done: &Option<Done>, wanted: &[u64]) -> bool {
     match done {
-        Some(done) => {
-            done.history.len() == wanted.len()
-                && done
-                    .history
-                    .iter()
-                    .zip(wanted)
-                    .all(|(entry, tag)| entry.tag == *tag)
-        }
+        Some(done) => done.history.len() == wanted.len() && has_tags(done, wanted),
         None => false,
     }
 }
@@ -145,16 +138,17 @@ pub(crate) fn are_tags(done: &Option<Done>, wanted: &[u64]) -> bool {
 /// Whether the first entries of a round have these tags.
 pub(crate) fn begins_with_tags(done: &Option<Done>, wanted: &[u64]) -> bool {
     match done {
-        Some(done) => {
-            done.history.len() >= wanted.len()
-                && done
-                    .history
-                    .iter()
-                    .zip(wanted)
-                    .all(|(entry, tag)| entry.tag == *tag)
-        }
+        Some(done) => done.history.len() >= wanted.len() && has_tags(done, wanted),
         None => false,
     }
+}
+
+// Whether the entries have these tags, as far as there are both.
+fn has_tags(done: &Done, wanted: &[u64]) -> bool {
+    done.history
+        .iter()
+        .zip(wanted)
+        .all(|(entry, tag)| entry.tag == *tag)
 }
 
 /// Whether a round has so many outcomes, each of which is as it must be, and so many entries.
