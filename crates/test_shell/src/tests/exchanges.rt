@@ -11,7 +11,7 @@ use test_common::{CLIENT, RFC_REQUEST, SECOND_CLIENT};
 /// A datagram and its reply: address and port of the client, port of the server, octets of both.
 type Exchange = (u32, u16, Door, &'static [u8], &'static [u8]);
 
-/// A Start of each client. They and their Accounting-Responses were made with Python's `hashlib`.
+/// nemo's log-in, and a Start of each client. The Starts and their Accounting-Responses were made with Python's `hashlib`.
 const EXCHANGES: &[Exchange] = &[
     (CLIENT, 1700, Door::Auth, RFC_REQUEST, NEMO_ACCEPTED),
     (
