@@ -17,10 +17,15 @@ fn a_copy_is_the_same_until_one_changes(rt: HostRuntime) -> Result<(), Fail> {
 // Whether sessions with one that is granted are the same as a copy of them, and not once it has a Start.
 fn differs_by_a_start(alloc: Global, config: &Config) -> Result<bool, AllocError> {
     let mut sessions = Sessions::open(alloc, config)?;
-    sessions.room()?;
     let is_granted = make(&mut sessions, config, 0, &Call::Grant(NEMO, 1, Some(ONE)));
     let copy = sessions.copy()?;
-    let is_same = copy.same(&sessions);
+    let differs = starts_alone(&mut sessions, &copy);
+    Ok(is_granted & differs)
+}
+
+// Whether the first session starts in sessions that are the same as their copy, and not in the copy.
+fn starts_alone(sessions: &mut Sessions, copy: &Sessions) -> bool {
+    let is_same = copy.same(sessions);
     sessions.start(1, 0);
-    Ok(is_granted && is_same && !copy.same(&sessions))
+    is_same && !copy.same(sessions)
 }
