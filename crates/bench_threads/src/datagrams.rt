@@ -5,7 +5,6 @@ ghost use Rattle.rad_shell.specs.Rounds.{AreMoments, arrivals_max};
 
 use crate::lots::{Load, Lot, REFUSED_EACH, ROUND_MAX};
 use crate::messages::{AUTHENTICATOR, Message, USERS};
-use crate::requests::DRAW;
 use rad_auth::{Arrival, Clients, sign_request};
 use rad_config::MOMENT_MAX;
 use rad_packet::{Frame, Octets, code};
@@ -169,7 +168,7 @@ fn timed<'a>(round: Round, lane: u64, octets: &'a [u8]) -> Timed<'a>
             octets,
         },
         moment: round.moment.min(MOMENT_MAX),
-        draw: *DRAW,
+        draw: [0; 16],
     }
 }
 

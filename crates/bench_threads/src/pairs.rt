@@ -3,7 +3,6 @@ ghost use Rattle.std.specs.Prelude.{◌≤◌, length};
 ghost use Rattle.rad_shell.specs.Rounds.{AreMoments, arrivals_max};
 
 use crate::alone::answer_alone;
-use crate::asks::nanoseconds_since;
 use crate::datagrams::{Replies, Round, Stage, arrivals, sign_all};
 use crate::lots::Lot;
 use rad_config::Config;
@@ -249,4 +248,9 @@ fn count_replies(done: &Done) -> Replies {
         }
     }
     replies
+}
+
+// None if the clock fails.
+fn nanoseconds_since<R: Clock>(rt: &R, start: Instant) -> Option<u64> {
+    u64::try_from(start.elapsed(rt).ok()?.as_nanos()).ok()
 }
