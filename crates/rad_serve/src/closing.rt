@@ -1,9 +1,8 @@
 //! The end of a state under the rules of this program.
 ghost use Rattle.std.specs.Prelude.{◌<◌, ℕ};
 
-use crate::life::{Configured, Numbered, meta_of, newest_whole, over};
+use crate::life::{Configured, Numbered, before_of, newest_whole, over};
 use crate::serve_error::ServeError;
-use rad_config::read_configuration;
 use rad_state::{Folder, State};
 use sqlite_trees::store::Store;
 use std::alloc::AllocGlobal;
@@ -24,17 +23,15 @@ pub fn close_state<R: Files + Clock + Eprint + AllocGlobal, S: Store + Drop, F: 
     let Some((number, newest)) = newest_whole(rt.alloc(), &mut folder)? else {
         return Ok(None);
     };
-    let meta = meta_of(rt.alloc(), &newest)?;
-    let text = meta.configuration.octets();
-    let config = read_configuration(rt.alloc(), text).map_err(ServeError::OtherConfig)?;
+    let before = before_of(rt.alloc(), &newest)?;
     let numbered = Numbered {
         folder,
         files_max: u32::MAX,
         number,
     };
     let given = Configured {
-        text,
-        config: &config,
+        text: before.meta.configuration.octets(),
+        config: &before.config,
         seed,
     };
     begin_over(rt, numbered, newest, given)?;

@@ -58,6 +58,13 @@ pub(crate) struct Numbered<F> {
     pub number: u32,
 }
 
+/// The meta of a generation, and the configuration under which its entries were answered.
+#[derive(Drop)]
+pub(crate) struct Before {
+    pub meta: Meta,
+    pub config: Config,
+}
+
 /// A server to which a generation leads, the journal of the generation, and the beginning of the life that goes on from it.
 #[derive(Drop)]
 pub(crate) struct Led<'c, S: Store> {
@@ -195,16 +202,13 @@ pub(crate) fn over<
         × IsSome lives.0.keeping.journal.count) }
     ensures later { IfOk result (λ lives. moment_of newest.last ≤ lives.0.moments.first) }
 {
-    let meta = meta_of(rt.alloc(), &newest)?;
-    let config = read_configuration(rt.alloc(), meta.configuration.octets()).map_err(
-        ServeError::OtherConfig,
-    )?;
+    let before = before_of(rt.alloc(), &newest)?;
     let (_, key) = random_of(given.seed, numbered.number);
     let Led {
         server,
         journal,
         beginning,
-    } = led_to(rt, newest, &meta, &config, key)?;
+    } = led_to(rt, newest, &before, key)?;
     let life = begin(rt.alloc(), numbered, beginning, &server, given, lines)?;
     Ok((life, journal))
 }
@@ -213,12 +217,11 @@ pub(crate) fn over<
 pub(crate) fn led_to<'c, R: Files + Clock + Eprint + AllocGlobal, S: Store + Drop>(
     rt: &R,
     newest: State<S>,
-    meta: &Meta,
-    config: &'c Config,
+    before: &'c Before,
     key: HashKey,
 ) -> Result<Led<'c, S>, ServeError>
-    requires meta { newest.found ≡ Some meta.now }
-    requires text { configuration_of_octets meta.now.configuration ≡ Ok config.now }
+    requires meta { newest.found ≡ Some before.now.meta }
+    requires text { configuration_of_octets before.now.meta.configuration ≡ Ok before.now.config }
     ensures led { IfOk result (λ led. IsClean (S.view led.journal.store)
         → (left : Generation) → Holds (S.view newest.store).committed left
         → IsLedTo left led.server) }
@@ -227,15 +230,15 @@ pub(crate) fn led_to<'c, R: Files + Clock + Eprint + AllocGlobal, S: Store + Dro
     let clocks = clocks(rt).ok_or(ServeError::Clocks)?;
     // Read with the clocks: moments that began later would lag behind those of the next life.
     let now = Moments::from(rt, 0);
-    let last = times_of(newest.last(), meta.wall);
-    let (mut server, journal) = restored(rt, newest, config, key)?;
+    let last = times_of(newest.last(), before.meta.wall);
+    let (mut server, journal) = restored(rt, newest, &before.config, key)?;
     server.state_is_lawful();
     let last = Last {
         moment: last.moment.max(server.clock()),
         ..last
     };
     let moments = Moments {
-        first: next_moment(meta, last, &clocks),
+        first: next_moment(&before.meta, last, &clocks),
         ..now
     };
     server.pass(moments.first);
@@ -262,8 +265,24 @@ fn times_of(last: Option<Last>, wall: i64) -> Last
     }
 }
 
-/// A copy of the meta of a state.
-pub(crate) fn meta_of<S: Store + Drop>(alloc: Global, state: &State<S>) -> Result<Meta, ServeError>
+/// The meta of a state, and its configuration.
+pub(crate) fn before_of<S: Store + Drop>(
+    alloc: Global,
+    state: &State<S>,
+) -> Result<Before, ServeError>
+    ensures meta { IfOk result (λ before. state.now.found ≡ Some before.meta) }
+    ensures text { IfOk result (λ before.
+        configuration_of_octets before.meta.configuration ≡ Ok before.config) }
+{
+    let meta = meta_of(alloc, state)?;
+    match read_configuration(alloc, meta.configuration.octets()) {
+        Ok(config) => Ok(Before { meta, config }),
+        Err(fault) => Err(ServeError::OtherConfig(fault)),
+    }
+}
+
+// A copy of the meta of a state.
+fn meta_of<S: Store + Drop>(alloc: Global, state: &State<S>) -> Result<Meta, ServeError>
     ensures { IfOk result (λ meta. state.now.found ≡ Some meta) }
 {
     let Some(meta) = state.found() else {

@@ -5,11 +5,11 @@ ghost use Rattle.rad_serve.specs.Lives.{GoesOn};
 ghost use Rattle.rad_state.specs.Generations.{Generation, Holds};
 
 use crate::given::random_of;
-use crate::life::{Led, led_to, meta_of, newest_whole};
+use crate::life::{Led, before_of, led_to, newest_whole};
 use crate::restored::push_restored;
 use crate::serve_error::ServeError;
 use rad_carry::{Carried, carry};
-use rad_config::{Config, read_configuration};
+use rad_config::Config;
 use rad_journal::StoreJournal;
 use rad_server::HashKey;
 use rad_state::{Folder, State};
@@ -50,16 +50,13 @@ fn taken_over<'c, R: Files + Clock + Eprint + AllocGlobal, S: Store + Drop>(
         → (left : Generation) → Holds (S.view newest.store).committed left
         → GoesOn left config.now taken.0.server) }
 {
-    let meta = meta_of(rt.alloc(), &newest)?;
-    let before = read_configuration(rt.alloc(), meta.configuration.octets()).map_err(
-        ServeError::OtherConfig,
-    )?;
+    let before = before_of(rt.alloc(), &newest)?;
     let Led {
         server,
         journal,
         ..
-    } = led_to(rt, newest, &meta, &before, key)?;
+    } = led_to(rt, newest, &before, key)?;
     let carried = carry(rt.alloc(), &server, config, key)?;
-    push_restored(lines, "", before.users(), &carried)?;
+    push_restored(lines, "", before.config.users(), &carried)?;
     Ok((carried, journal))
 }

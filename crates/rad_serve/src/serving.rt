@@ -261,6 +261,7 @@ fn serve_reporting<
     let (files, files_end) = bounded(rt.alloc(), TEXTS_MAX)?;
     let progress = Progress::new();
     let warned = lines.clone()?;
+    let told = lines.clone()?;
     let mut reporter = Reporter::new(rt, moments, watcher, (lines, files), &progress, reports);
     if let Some(head) = head {
         reporter.record_after(head);
@@ -273,7 +274,7 @@ fn serve_reporting<
         config,
         progress: &progress,
     };
-    serve_reported(rt, life, reporter, writing, warnings)
+    serve_reported(rt, life, reporter, writing, told, warnings)
 }
 
 // Opens turns and ports with reports, and hands the warnings to those who write.
@@ -286,6 +287,7 @@ fn serve_reported<
     life: Life<K, J>,
     reporter: Reporter<R>,
     writing: Writing,
+    told: Sender<Vec<u8>>,
     warnings: &mut String,
 ) -> Result<(), ServeError> {
     let Life {
@@ -310,7 +312,7 @@ fn serve_reported<
         service: &mut service,
         turns,
         ports,
-        lines: writing.warned.clone()?,
+        lines: told,
         progress: writing.progress,
     };
     serve_beside(rt, rt, serving, keeping, writing)

@@ -249,13 +249,26 @@ const REFUSED: &[(Planted, RowFault, &str)] = &[
 #[test]
 fn rows_that_cannot_be_are_refused(rt: HostRuntime) -> Result<(), Fail> {
     let config = Config::read(rt.alloc(), CAMPUS)?;
-    let mut server = Server::open(rt.alloc(), &config)?;
+    rows_of(&rt, rt.alloc(), &config)
+}
+
+// Puts rows back into a server of a configuration.
+fn rows_of(rt: &impl Abort, alloc: Global, config: &Config) -> Result<(), Fail> {
+    let mut server = Server::open(alloc, config)?;
     server.pass(10);
+    each_is_taken_or_refused(rt, alloc, &mut server)
+}
+
+fn each_is_taken_or_refused(
+    rt: &impl Abort,
+    alloc: Global,
+    server: &mut Server,
+) -> Result<(), Fail> {
     for planted in TAKEN.iter() {
-        let taken = server.restore(planted.row(rt.alloc())?);
-        holds(&rt, taken.is_ok(), "a row that could be");
+        let taken = server.restore(planted.row(alloc)?);
+        holds(rt, taken.is_ok(), "a row that could be");
     }
-    each_is_refused(&rt, rt.alloc(), &mut server)
+    each_is_refused(rt, alloc, server)
 }
 
 // Each row is refused for its rule, and leaves the server as it was.
@@ -303,10 +316,14 @@ const LIMITED_CHALLENGE: Challenge = Challenge {
 #[test]
 fn no_more_rows_are_put_back_than_allowed(rt: HostRuntime) -> Result<(), Fail> {
     let config = Config::read(rt.alloc(), LIMITED)?;
-    let mut server = Server::open(rt.alloc(), &config)?;
-    replies_are_limited(&rt, rt.alloc(), &mut server)?;
-    challenges_are_limited(&rt, &mut server);
-    Ok(())
+    limits_of(&rt, rt.alloc(), &config)
+}
+
+// Puts rows back into a server of a configuration that limits them.
+fn limits_of(rt: &impl Abort, alloc: Global, config: &Config) -> Result<(), Fail> {
+    let mut server = Server::open(alloc, config)?;
+    challenges_are_limited(rt, &mut server);
+    replies_are_limited(rt, alloc, &mut server)
 }
 
 // As many replies are put back as the client's share allows, and no more.

@@ -9,6 +9,7 @@ use super::{Filling, holds};
 use rad_auth::Door;
 use rad_config::Config;
 use rad_packet::attribute::{FRAMED_IP_ADDRESS, STATE};
+use std::alloc::Global;
 use std::test::Fail;
 use test_common::{PORT, next_draw};
 
@@ -62,14 +63,24 @@ const WALK: &[Asked] = &[
 #[test]
 fn a_rebuilt_server_answers_alike(rt: HostRuntime) -> Result<(), Fail> {
     let config = Config::read(rt.alloc(), CAMPUS)?;
-    let mut run = Run::open(rt.alloc(), &config)?;
-    let mut twin = Run::open(rt.alloc(), &config)?;
+    let walk = walk(rt.alloc(), &config);
     holds(
         &rt,
-        walks(&mut run, &mut twin, 1_500),
+        walk == Some(true),
         "a walk of a server and of one that is rebuilt",
     );
     Ok(())
+}
+
+// Whether a server answers alike on a walk with one that is rebuilt; none if memory is refused.
+fn walk(alloc: Global, config: &Config) -> Option<bool> {
+    let mut run = Run::open(alloc, config).ok()?;
+    walk_beside(&mut run, alloc, config)
+}
+
+fn walk_beside(run: &mut Run, alloc: Global, config: &Config) -> Option<bool> {
+    let mut twin = Run::open(alloc, config).ok()?;
+    Some(walks(run, &mut twin, 1_500))
 }
 
 // Whether two runs answer alike on a walk of so many requests, where the second is rebuilt after each.
