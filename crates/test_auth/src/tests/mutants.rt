@@ -10,6 +10,7 @@ use rad_auth::Discard::{
     Short, Truncated, WrongCode,
 };
 use rad_auth::{Arrival, Clients, Discard, check8};
+use std::alloc::Global;
 use std::process::Abort;
 
 // What is done to a request at an octet.
@@ -191,10 +192,13 @@ fn are_admitted_alone(rows: &[Client]) -> bool {
 
 #[test]
 fn requests_of_the_example_are_admitted(rt: HostRuntime) {
-    have_verdicts(&rt, &clients_of(&rt, rt.alloc(), CLIENTS), EXAMPLE);
-    have_verdicts(&rt, &clients_of(&rt, rt.alloc(), STRICT_CLIENTS), EXAMPLE);
-    let is_so = are_admitted_alone(CLIENTS) && are_admitted_alone(STRICT_CLIENTS);
-    holds(&rt, is_so, "each alone");
+    are_admitted(&rt, rt.alloc(), CLIENTS);
+    are_admitted(&rt, rt.alloc(), STRICT_CLIENTS);
+}
+
+fn are_admitted(rt: &impl Abort, alloc: Global, rows: &[Client]) {
+    holds(rt, are_admitted_alone(rows), "each alone");
+    have_verdicts(rt, &clients_of(rt, alloc, rows), EXAMPLE);
 }
 
 // How many changes have a discard, or none, where the second client's Access-Requests need no Message-Authenticator, and where they

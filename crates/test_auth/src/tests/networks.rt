@@ -97,6 +97,10 @@ fn a_prefix_of_zero_holds_every_source(rt: HostRuntime) {
 
 #[test]
 fn a_network_is_doubled_by_address_and_prefix(rt: HostRuntime) {
+    are_added_once(&rt, &mut Clients::new(rt.alloc()));
+}
+
+fn are_added_once(rt: &impl Abort, clients: &mut Clients) {
     // A name, a network, and whether it is added after the others.
     const ROWS: &[(&str, Network, bool)] = &[
         ("10.0.0.0/8", WIDE, true),
@@ -109,15 +113,14 @@ fn a_network_is_doubled_by_address_and_prefix(rt: HostRuntime) {
         ("0.0.0.0/0 again", ALL, false),
         ("0.0.0.0/1", (0, 1), true),
     ];
-    let mut clients = Clients::new(rt.alloc());
     for (name, network, is_added) in ROWS.iter() {
-        let added = add_network(&rt, &mut clients, *network, SECRET, false);
+        let added = add_network(rt, clients, *network, SECRET, false);
         let want = if *is_added {
             Ok(())
         } else {
             Err(ClientFault::Doubled)
         };
-        holds(&rt, added == want, name);
+        holds(rt, added == want, name);
     }
 }
 

@@ -102,12 +102,17 @@ fn walks(run: &mut Run, twin: &mut Run, count: u32) -> bool {
 #[test]
 fn full_tables_are_rebuilt(rt: HostRuntime) -> Result<(), Fail> {
     let config = Config::read(rt.alloc(), CAMPUS)?;
-    let mut run = Run::open(rt.alloc(), &config)?;
-    holds(
-        &rt,
-        run.fills(0, Filling::Challenges, 1_024),
-        "each challenge is sent",
-    );
-    holds(&rt, run.is_rebuilt(), "a table that is full");
+    let rebuilt = rebuild_full(rt.alloc(), &config);
+    holds(&rt, rebuilt == Some(true), "a table that is full");
     Ok(())
+}
+
+// Whether a server with as many challenges as it may have is rebuilt; none if memory is refused.
+fn rebuild_full(alloc: Global, config: &Config) -> Option<bool> {
+    let mut run = Run::open(alloc, config).ok()?;
+    Some(fills_and_is_rebuilt(&mut run))
+}
+
+fn fills_and_is_rebuilt(run: &mut Run) -> bool {
+    run.fills(0, Filling::Challenges, 1_024) && run.is_rebuilt()
 }
