@@ -63,33 +63,68 @@ const REJECT: u8 = 3;
 #[test]
 fn a_later_life_goes_on(rt: HostRuntime) -> Result<(), Fail> {
     let config = Config::read(rt.alloc(), CAMPUS)?;
+    let right = is_right(&rt, &config);
     holds(
         &rt,
-        is_right(&rt, &config) == Some(true),
+        right == Some(true),
         "a log-in, in the next life its repeat and another one, and in the last one nothing",
     );
     Ok(())
 }
 
-#[tactic(auto, using(crate::proofs::LifeLemmas::leaves_nothing))]
+// Each function from here on opens one thing and lends it to the next; none if memory is refused.
 fn is_right<R: Threads + Wait + Sync + AllocGlobal>(rt: &R, config: &Config) -> Option<bool> {
+    let options = options(rt.alloc(), "", "", 0)?;
+    is_right_with(rt, config, &options)
+}
+
+fn is_right_with<R: Threads + Wait + Sync + AllocGlobal>(
+    rt: &R,
+    config: &Config,
+    options: &Options,
+) -> Option<bool> {
+    let mut ports = MemoryPorts::new(rt.alloc());
+    is_right_over(rt, config, options, &mut ports)
+}
+
+fn is_right_over<R: Threads + Wait + Sync + AllocGlobal>(
+    rt: &R,
+    config: &Config,
+    options: &Options,
+    ports: &mut MemoryPorts,
+) -> Option<bool> {
     let alloc = rt.alloc();
-    let options = options(alloc, "", "", 0)?;
-    let mut ports = MemoryPorts::new(alloc);
-    log_in(alloc, &mut ports, 1, 0).ok()?;
-    log_in(alloc, &mut ports, 2, 0).ok()?;
-    log_in(alloc, &mut ports, 2, 1).ok()?;
+    log_in(alloc, ports, 1, 0).ok()?;
+    log_in(alloc, ports, 2, 0).ok()?;
+    log_in(alloc, ports, 2, 1).ok()?;
     let mut keeping = Keeping {
         generations: OneGeneration { config },
         journal: begun(alloc).ok()?,
     };
-    let mut random = ChaCha20Rng::from_seed([7; 32]);
-    let mut turns = Turns::open(alloc, &mut random, &OpenGate, Unwatched).ok()?;
-    if !is_unused(&ports) {
+    is_right_in(rt, options, ports, &mut keeping)
+}
+
+#[tactic(auto, using(crate::proofs::LifeLemmas::leaves_nothing))]
+fn is_right_in<R: Threads + Wait + Sync + AllocGlobal>(
+    rt: &R,
+    options: &Options,
+    ports: &mut MemoryPorts,
+    keeping: &mut Keeping<OneGeneration, StoreJournal<MemStore>>,
+) -> Option<bool>
+    requires { kept_in (memory_view keeping.old.journal.store) ≡ [] }
+{
+    if !is_unused(ports) {
         return None;
     }
-    live_thrice(rt, &options, &mut turns, &mut ports, &mut keeping);
-    Some(ports.turns() == 3 && are_replies(&ports))
+    let mut random = ChaCha20Rng::from_seed([7; 32]);
+    let mut turns = Turns::open(rt.alloc(), &mut random, &OpenGate, Unwatched).ok()?;
+    live_thrice(rt, options, &mut turns, ports, keeping);
+    Some(have_replies(ports))
+}
+
+// Whether there were three turns with the right replies.
+fn have_replies(ports: &MemoryPorts) -> bool {
+    ports.turns() == 3 && are_replies(ports)
 }
 
 // Lets nemo's log-in come in a turn, with an Identifier.

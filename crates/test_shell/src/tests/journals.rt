@@ -6,7 +6,8 @@ ghost use Rattle.rad_journal.specs.Records.{records_of};
 use super::coming::{arrive, is_sum, random, sent_count};
 use super::watching::UNSEEN;
 use rad_journal::Kept;
-use rad_shell::{Journal, JournalFault, MemoryPorts, OpenGate, ServeFault, Service, Turns};
+use rad_shell::{Journal, JournalFault, MemoryPorts, OpenGate, ServeFault, Service, Turns, Watch};
+use rand_core::Rng;
 use std::alloc::Global;
 use std::sync::Wait;
 use std::thread::Threads;
@@ -69,31 +70,42 @@ pub(crate) fn keeps_what_is_fresh<R: Threads + Wait + Sync>(
     service: &mut Service,
 ) -> bool {
     let mut ports = MemoryPorts::new(alloc);
-    let mut journal = Counting { room: 9 };
     let mut random = random();
     let Ok(mut turns) = Turns::open(alloc, &mut random, &OpenGate, UNSEEN) else {
         return false;
     };
-    arrive(alloc, &mut ports, CLIENT, 0, RFC_REQUEST).is_ok()
-        && arrive(alloc, &mut ports, CLIENT, 0, RFC_REQUEST).is_ok()
+    keeps_one(rt, alloc, service, &mut ports, &mut turns)
+}
+
+// Whether it is so in these turns, over these ports.
+fn keeps_one<R: Threads + Wait + Sync, D: Rng, W: Watch + Drop>(
+    rt: &R,
+    alloc: Global,
+    service: &mut Service,
+    ports: &mut MemoryPorts,
+    turns: &mut Turns<D, OpenGate, W>,
+) -> bool {
+    let mut journal = Counting { room: 9 };
+    arrive(alloc, ports, CLIENT, 0, RFC_REQUEST).is_ok()
+        && arrive(alloc, ports, CLIENT, 0, RFC_REQUEST).is_ok()
         && is_sum(
-            turns.run_keeping(rt, service, &mut ports, &mut journal, 1, 1),
+            turns.run_keeping(rt, service, ports, &mut journal, 1, 1),
             1,
             2,
             2,
             0,
         )
         && journal.room == 8
-        && arrive(alloc, &mut ports, CLIENT, 0, RFC_REQUEST).is_ok()
+        && arrive(alloc, ports, CLIENT, 0, RFC_REQUEST).is_ok()
         && is_sum(
-            turns.run_keeping(rt, service, &mut ports, &mut journal, 1, 1),
+            turns.run_keeping(rt, service, ports, &mut journal, 1, 1),
             1,
             1,
             1,
             0,
         )
         && journal.room == 8
-        && sent_count(&ports) == 3
+        && sent_count(ports) == 3
 }
 
 /// Whether nothing is sent of a turn that a journal has no room for.
@@ -103,13 +115,23 @@ pub(crate) fn sends_nothing_unkept<R: Threads + Wait + Sync>(
     service: &mut Service,
 ) -> bool {
     let mut ports = MemoryPorts::new(alloc);
-    let mut journal = Counting { room: 0 };
     let mut random = random();
     let Ok(mut turns) = Turns::open(alloc, &mut random, &OpenGate, UNSEEN) else {
         return false;
     };
-    arrive(alloc, &mut ports, CLIENT, 0, RFC_REQUEST).is_ok()
-        && turns.run_keeping(rt, service, &mut ports, &mut journal, 1, 1)
+    sends_nothing(rt, alloc, service, &mut ports, &mut turns)
+}
+
+fn sends_nothing<R: Threads + Wait + Sync, D: Rng, W: Watch + Drop>(
+    rt: &R,
+    alloc: Global,
+    service: &mut Service,
+    ports: &mut MemoryPorts,
+    turns: &mut Turns<D, OpenGate, W>,
+) -> bool {
+    let mut journal = Counting { room: 0 };
+    arrive(alloc, ports, CLIENT, 0, RFC_REQUEST).is_ok()
+        && turns.run_keeping(rt, service, ports, &mut journal, 1, 1)
             == Err(ServeFault::Journal(JournalFault::Full))
-        && sent_count(&ports) == 0
+        && sent_count(ports) == 0
 }

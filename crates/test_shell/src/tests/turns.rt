@@ -383,10 +383,22 @@ fn is_as_after<R: Threads + Wait + Sync>(
     let Ok(mut other) = Service::open(alloc, service.server().config()) else {
         return false;
     };
+    let is_served = comes_and_is_served(rt, alloc, &mut other, asked);
+    let is_same = other.server().same(service.server());
+    (is_served, is_same) == (true, true)
+}
+
+// Whether a service answers all that was asked in one turn.
+fn comes_and_is_served<R: Threads + Wait + Sync>(
+    rt: &R,
+    alloc: Global,
+    service: &mut Service,
+    asked: &[Sent],
+) -> bool {
     let mut ports = MemoryPorts::new(alloc);
     let have_come = all_come(alloc, &mut ports, asked);
-    let ended = serve(rt, &mut other, &mut ports, &mut random(), 1);
-    have_come && ended.is_ok() && other.server().same(service.server())
+    let ended = serve(rt, service, &mut ports, &mut random(), 1);
+    (have_come, ended.is_ok()) == (true, true)
 }
 
 // How many datagrams a turn has dropped that ends so: those before the receive that failed.
