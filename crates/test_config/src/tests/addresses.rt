@@ -125,8 +125,7 @@ fn is_given(
 
 #[test]
 fn an_address_stands_in_place_of_a_pool(rt: HostRuntime) -> Result<(), Fail> {
-    // What is said of a user, and the address, the pool and the sessions.
-    const ROWS: &[(&str, Option<u32>, Option<u32>, u32)] = &[
+    const ROWS: &[Given] = &[
         ("", None, None, 1),
         ("address = \"10.0.0.9\"", Some(0x0A00_0009), None, 1),
         ("group = \"g\"", None, Some(1), 5),
@@ -138,10 +137,19 @@ fn an_address_stands_in_place_of_a_pool(rt: HostRuntime) -> Result<(), Fail> {
             1,
         ),
     ];
-    for (own, address, pool, sessions) in ROWS.iter() {
-        let config = config_with(&rt, own)?;
-        is_given(&rt, &config, *address, *pool, *sessions, own);
+    for row in ROWS.iter() {
+        gives(&rt, row)?;
     }
+    Ok(())
+}
+
+// What is said of a user, and the address, the pool and the sessions.
+type Given = (&'static str, Option<u32>, Option<u32>, u32);
+
+fn gives<R: Abort + AllocGlobal>(rt: &R, row: &Given) -> Result<(), Fail> {
+    let (own, address, pool, sessions) = *row;
+    let config = config_with(rt, own)?;
+    is_given(rt, &config, address, pool, sessions, own);
     Ok(())
 }
 
@@ -153,10 +161,23 @@ fn is_compared<R: Abort + AllocGlobal>(
     want: bool,
 ) -> Result<(), Fail> {
     let one = config_with(rt, own)?;
+    is_compared_with(rt, &one, other, want)
+}
+
+fn is_compared_with<R: Abort + AllocGlobal>(
+    rt: &R,
+    one: &Config,
+    other: &str,
+    want: bool,
+) -> Result<(), Fail> {
     let two = config_with(rt, other)?;
-    holds(rt, one.same(&two) == want, own);
-    holds(rt, two.same(&one) == want, other);
+    are_compared(rt, one, &two, want, other);
     Ok(())
+}
+
+fn are_compared(rt: &impl Abort, one: &Config, two: &Config, want: bool, what: &str) {
+    holds(rt, one.same(two) == want, what);
+    holds(rt, two.same(one) == want, what);
 }
 
 #[test]

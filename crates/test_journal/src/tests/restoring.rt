@@ -149,12 +149,15 @@ fn keeps_the_turn<J: Journal + Drop>(
 
 #[test]
 fn what_is_fresh_of_a_turn_is_restored(rt: HostRuntime) -> Result<(), Fail> {
-    let alloc = rt.alloc();
-    let config = Config::read(alloc, CAMPUS)?;
-    let mut server = Server::open(alloc, &config)?;
-    let is_right = keeps_the_turn(alloc, opened(alloc)?, &mut server) == Ok(true);
-    holds(&rt, is_right, "two logins, and the same server");
+    let config = Config::read(rt.alloc(), CAMPUS)?;
+    let is_right = is_restored(rt.alloc(), &config);
+    holds(&rt, is_right == Ok(true), "two logins, and the same server");
     Ok(())
+}
+
+fn is_restored(alloc: Global, config: &Config) -> Result<bool, RestoreFault> {
+    let mut server = Server::open(alloc, config)?;
+    keeps_the_turn(alloc, opened(alloc)?, &mut server)
 }
 
 // ---- crashes

@@ -4,6 +4,7 @@ use crate::tests::holds;
 use rad_config::Config;
 use rad_pool::{Refusal, Sessions};
 use std::alloc::{AllocError, Global};
+use std::process::Abort;
 use std::test::Fail;
 
 /// A fifth user, whose own address comes after those of the pool `two`.
@@ -40,16 +41,25 @@ const ROWS: &[Row] = &[
 
 #[test]
 fn a_user_has_an_address_of_their_own(rt: HostRuntime) -> Result<(), Fail> {
-    let text = format!(in rt.alloc(); "{CAMPUS}{ENTRY}")?;
-    let config = Config::read(rt.alloc(), &text)?;
-    play_over(&rt, rt.alloc(), &config, ROWS)?;
-    let is_found = is_found(rt.alloc(), &config);
-    holds(&rt, is_found == Ok(true), "a session is meant by it");
+    let config = own_config(rt.alloc())?;
+    plays(&rt, rt.alloc(), &config)
+}
+
+fn own_config(alloc: Global) -> Result<Config, Fail> {
+    let text = format!(in alloc; "{CAMPUS}{ENTRY}")?;
+    Ok(Config::read(alloc, &text)?)
+}
+
+fn plays(rt: &impl Abort, alloc: Global, config: &Config) -> Result<(), Fail> {
+    play_over(rt, alloc, config, ROWS)?;
+    let is_found = is_found(alloc, config);
+    holds(rt, is_found == Ok(true), "a session is meant by it");
     Ok(())
 }
 
 fn is_found(alloc: Global, config: &Config) -> Result<bool, AllocError> {
     let mut sessions = Sessions::open(alloc, config)?;
     let is_granted = make(&mut sessions, config, 0, &Call::Grant(MARLIN, 1, Some(OWN)));
-    Ok(is_granted && sessions.find(0, None, Some(OWN), None) == Some(1))
+    let found = sessions.find(0, None, Some(OWN), None);
+    Ok((is_granted, found) == (true, Some(1)))
 }

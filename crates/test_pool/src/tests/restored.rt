@@ -4,7 +4,7 @@ use super::{BRUCE, CAMPUS, DORY, HERE, KAY, NEMO, ONE, TWO, ask, expire};
 use crate::tests::holds;
 use rad_config::Config;
 use rad_pool::{Phase, RowFault, Session, Sessions};
-use std::alloc::Global;
+use std::alloc::{AllocError, Global};
 use std::test::Fail;
 use test_common::next_draw;
 
@@ -95,14 +95,30 @@ const ROWS: &[Row] = &[
 
 #[test]
 fn each_rule_refuses_a_row(rt: HostRuntime) -> Result<(), Fail> {
-    let text = format!(in rt.alloc(); "{CAMPUS}grants = 1\n")?;
-    let config = Config::read(rt.alloc(), &text)?;
-    let mut sessions = Sessions::open(rt.alloc(), &config)?;
-    for (row, wanted) in ROWS.iter() {
-        let fault = fault_of(&mut sessions, &config, *row);
-        holds(&rt, fault == *wanted, "a row and its fault");
-    }
+    let config = limited(rt.alloc())?;
+    let have_faults = have_faults(rt.alloc(), &config);
+    holds(&rt, have_faults == Ok(true), "each row and its fault");
     Ok(())
+}
+
+// The campus, whose last user has one grant.
+fn limited(alloc: Global) -> Result<Config, Fail> {
+    let text = format!(in alloc; "{CAMPUS}grants = 1\n")?;
+    Ok(Config::read(alloc, &text)?)
+}
+
+fn have_faults(alloc: Global, config: &Config) -> Result<bool, AllocError> {
+    let mut sessions = Sessions::open(alloc, config)?;
+    Ok(each_has_its_fault(&mut sessions, config))
+}
+
+fn each_has_its_fault(sessions: &mut Sessions, config: &Config) -> bool {
+    for (row, wanted) in ROWS.iter() {
+        if fault_of(sessions, config, *row) != *wanted {
+            return false;
+        }
+    }
+    true
 }
 
 /// Why a row isn't put back, if it isn't.
@@ -113,15 +129,19 @@ pub fn fault_of(sessions: &mut Sessions, config: &Config, row: Session) -> Optio
 #[test]
 fn a_table_is_put_back_row_by_row(rt: HostRuntime) -> Result<(), Fail> {
     let config = Config::read(rt.alloc(), TABLE)?;
-    let mut sessions = Sessions::open(rt.alloc(), &config)?;
-    let clock = walk(&mut sessions, &config);
-    let same = is_put_back(rt.alloc(), &sessions, &config, clock);
+    let same = walks_and_is_put_back(rt.alloc(), &config);
     holds(
         &rt,
         same == Some(true),
         "the same rows and the same last number",
     );
     Ok(())
+}
+
+fn walks_and_is_put_back(alloc: Global, config: &Config) -> Option<bool> {
+    let mut sessions = Sessions::open(alloc, config).ok()?;
+    let clock = walk(&mut sessions, config);
+    is_put_back(alloc, &sessions, config, clock)
 }
 
 // Calls that are drawn, at moments that rise. At the end the newest session goes. Returns the last moment.
@@ -151,6 +171,15 @@ fn step(sessions: &mut Sessions, config: &Config, draw: u64, now: u64) {
 // Whether the rows of a table and its last number, put back into another, give the same table. None if one is refused.
 fn is_put_back(alloc: Global, sessions: &Sessions, config: &Config, clock: u64) -> Option<bool> {
     let mut table = Sessions::open(alloc, config).ok()?;
+    put_back(&mut table, sessions, config, clock)
+}
+
+fn put_back(
+    table: &mut Sessions,
+    sessions: &Sessions,
+    config: &Config,
+    clock: u64,
+) -> Option<bool> {
     for row in sessions.rows() {
         table.restore(config, row, clock).ok()?;
     }

@@ -4,6 +4,7 @@ use crate::tests::holds;
 use rad_config::Config;
 use rad_pool::{Grant, Refusal, Sessions};
 use std::alloc::Global;
+use std::process::Abort;
 use std::test::Fail;
 
 /// One user, with as many sessions as a user may have, of a pool that has more addresses.
@@ -49,13 +50,18 @@ fn addresses_are_given_in_turn_and_again(rt: HostRuntime) -> Result<(), Fail> {
         ),
     ];
     let config = Config::read(rt.alloc(), WIDE)?;
-    let mut sessions = Sessions::open(rt.alloc(), &config)?;
+    play_in_turn(&rt, rt.alloc(), &config, ROWS)
+}
+
+fn play_in_turn(rt: &impl Abort, alloc: Global, config: &Config, rows: &[Row]) -> Result<(), Fail> {
+    let mut sessions = Sessions::open(alloc, config)?;
+    let are_in_turn = are_in_turn(&mut sessions, config);
     holds(
-        &rt,
-        are_in_turn(&mut sessions, &config),
+        rt,
+        are_in_turn,
         "each session has the next number and address",
     );
-    play_in(&rt, &mut sessions, &config, ROWS);
+    play_in(rt, &mut sessions, config, rows);
     Ok(())
 }
 

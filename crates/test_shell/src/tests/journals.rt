@@ -71,10 +71,10 @@ pub(crate) fn keeps_what_is_fresh<R: Threads + Wait + Sync>(
 ) -> bool {
     let mut ports = MemoryPorts::new(alloc);
     let mut random = random();
-    let Ok(mut turns) = Turns::open(alloc, &mut random, &OpenGate, UNSEEN) else {
-        return false;
-    };
-    keeps_one(rt, alloc, service, &mut ports, &mut turns)
+    match Turns::open(alloc, &mut random, &OpenGate, UNSEEN) {
+        Ok(mut turns) => keeps_one(rt, alloc, service, &mut ports, &mut turns),
+        Err(_) => false,
+    }
 }
 
 // Whether it is so in these turns, over these ports.
