@@ -130,7 +130,8 @@ def lines_of(state, number):
     """What a generation's transcript has before its lines, and these, which must be those of its rows. The files stay as they are."""
     before = sums(state)
     head, _, text = transcript_of(state, number).partition(b"\n---\n")
-    judge(sums(state) == before, "the files of a state whose transcript was printed are as they were")
+    after = sums(state)
+    judge(after == before, f"the files of a state whose transcript was printed are as they were: {after}, not {before}")
     lines = text.decode().splitlines()
     copy = copied(state, number)
     if begins_with_some(copy):
