@@ -25,9 +25,16 @@ pool = "one"
 "#;
 
 pub(crate) fn judge_carry(alloc: Global) -> Verdict {
-    match (Config::read(alloc, CAMPUS), Config::read(alloc, HALVED)) {
-        (Ok(old), Ok(new)) => judge_between(alloc, &old, &new),
-        _ => Verdict::Unready,
+    match Config::read(alloc, CAMPUS) {
+        Ok(old) => judge_halved(alloc, &old),
+        Err(_) => Verdict::Unready,
+    }
+}
+
+fn judge_halved(alloc: Global, old: &Config) -> Verdict {
+    match Config::read(alloc, HALVED) {
+        Ok(new) => judge_between(alloc, old, &new),
+        Err(_) => Verdict::Unready,
     }
 }
 

@@ -27,12 +27,22 @@ fn moment(call: u64, pace: u64, draw: u64) -> u64
 
 // Whether so many random calls answer as on a plain list, also where an allocation is refused, and the table is then rebuilt.
 fn replies_agree(alloc: Global, filled: u64, keys: u64, calls: u64) -> bool {
-    let Ok(config) = Config::read(alloc, CAMPUS) else {
-        return false;
-    };
-    let Some(mut pair) = ReplyPair::open(alloc, &config) else {
-        return false;
-    };
+    match Config::read(alloc, CAMPUS) {
+        Ok(config) => replies_agree_under(alloc, &config, filled, keys, calls),
+        Err(_) => false,
+    }
+}
+
+fn replies_agree_under(alloc: Global, config: &Config, filled: u64, keys: u64, calls: u64) -> bool {
+    match ReplyPair::open(alloc, config) {
+        Some(mut pair) => {
+            replies_agree_in(&mut pair, filled, keys, calls) && pair.is_rebuilt(alloc, config)
+        }
+        None => false,
+    }
+}
+
+fn replies_agree_in(pair: &mut ReplyPair, filled: u64, keys: u64, calls: u64) -> bool {
     if !pair.fill(filled) {
         return false;
     }
@@ -45,17 +55,27 @@ fn replies_agree(alloc: Global, filled: u64, keys: u64, calls: u64) -> bool {
             return false;
         }
     }
-    pair.has_same_rows() && pair.is_rebuilt(alloc, &config)
+    pair.has_same_rows()
 }
 
-// Whether so many random calls answer as on a plain list, also where an allocation is refused, and the table is then rebuilt.
+// The same of challenges.
 fn challenges_agree(alloc: Global, pace: u64, calls: u64) -> bool {
-    let Ok(config) = Config::read(alloc, CAMPUS) else {
-        return false;
-    };
-    let Some(mut pair) = ChallengePair::open(alloc, &config) else {
-        return false;
-    };
+    match Config::read(alloc, CAMPUS) {
+        Ok(config) => challenges_agree_under(alloc, &config, pace, calls),
+        Err(_) => false,
+    }
+}
+
+fn challenges_agree_under(alloc: Global, config: &Config, pace: u64, calls: u64) -> bool {
+    match ChallengePair::open(alloc, config) {
+        Some(mut pair) => {
+            challenges_agree_in(&mut pair, pace, calls) && pair.is_rebuilt(alloc, config)
+        }
+        None => false,
+    }
+}
+
+fn challenges_agree_in(pair: &mut ChallengePair, pace: u64, calls: u64) -> bool {
     let mut draw = pace;
     for call in 0..calls {
         draw = next_draw(draw);
@@ -64,7 +84,7 @@ fn challenges_agree(alloc: Global, pace: u64, calls: u64) -> bool {
             return false;
         }
     }
-    pair.has_same_rows() && pair.is_rebuilt(alloc, &config)
+    pair.has_same_rows()
 }
 
 #[test]
