@@ -137,9 +137,23 @@ fn read(alloc: Global, head: &str, rest: &str) -> Option<Config> {
 // Whether so many random calls answer as on a plain list, also where an allocation is refused.
 fn agree_for(alloc: Global, heads: (&str, &str), pace: u64, calls: u64) -> Option<bool> {
     let config = read(alloc, heads.0, TABLE)?;
-    let other = read(alloc, heads.1, OTHER)?;
-    let mut pair = Pair::open(alloc, &config)?;
-    Some(agree(&mut pair, &config, &other, pace, calls))
+    agree_beside(alloc, &config, heads.1, pace, calls)
+}
+
+fn agree_beside(alloc: Global, config: &Config, head: &str, pace: u64, calls: u64) -> Option<bool> {
+    let other = read(alloc, head, OTHER)?;
+    agree_between(alloc, config, &other, pace, calls)
+}
+
+fn agree_between(
+    alloc: Global,
+    config: &Config,
+    other: &Config,
+    pace: u64,
+    calls: u64,
+) -> Option<bool> {
+    let mut pair = Pair::open(alloc, config)?;
+    Some(agree(&mut pair, config, other, pace, calls))
 }
 
 fn agree_at_each_pace(alloc: Global, heads: (&str, &str)) -> bool {
