@@ -92,7 +92,7 @@ fn bound_socket(descriptor: RawFd) -> Option<(UdpSocket, SocketAddrV4)> {
     if own < 0 {
         return None;
     }
-    // SAFETY: whatever the descriptor is, `duplicate` has just opened this one, and nothing else knows it, so nothing else closes it.
+    // SAFETY: `duplicate` has just opened this descriptor, and nothing else knows it: the socket alone owns and closes it.
     let socket = unsafe { net::UdpSocket::from_raw_fd(own) };
     let SocketAddr::V4(bound) = socket.local_addr().ok()? else {
         return None;

@@ -11,7 +11,7 @@ const RECEIVE_BUFFER: i32 = 4_000_000;
 pub(crate) fn ask_for_room(socket: &UdpSocket) {
     let mut value = [0; 16];
     value[..4].copy_from_slice(&RECEIVE_BUFFER.to_ne_bytes());
-    // SAFETY: it reads at most 4 octets, which `value` has.
+    // SAFETY: the system reads the 4 octets that the length says, of the 16 of `value`, and keeps no pointer to them.
     let _status = unsafe { setsockopt(socket.as_raw_fd(), SOL_SOCKET, SO_RCVBUF, &value, 4) };
 }
 
@@ -20,7 +20,7 @@ pub(crate) fn ask_for_room(socket: &UdpSocket) {
 pub(crate) fn has_room(socket: &UdpSocket) -> bool {
     let mut value = [0; 16];
     let mut len = 16;
-    // SAFETY: it writes at most `len` octets, for which `value` has room.
+    // SAFETY: the system writes at most the 16 octets that `len` says, which `value` has, and keeps no pointer to either.
     let _status = unsafe {
         getsockopt(
             socket.as_raw_fd(),
