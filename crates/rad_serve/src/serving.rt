@@ -98,7 +98,7 @@ fn serve_in_memory<R: Files + Net + Clock + Print + Eprint + Threads + Wait + Sy
     serve_life(rt, options, life, text, warnings)
 }
 
-// Opens the newest generation of a folder, if there is one, and tries the ports before anything is written.
+// Opens the newest generation of a folder, if there is one, and tries the ports before its entries are restored.
 fn serve_over<
     R: Files + Net + Clock + Print + Eprint + Threads + Wait + Sync + AllocGlobal,
     S: Store + Drop + Send,
