@@ -34,8 +34,8 @@ impl Model for ClaimSeat {
       ended = seat.ended;
     } };
 
-    ghost invariant = { λ seat.
-        HasDrawn seat.batches seat.token.me seat.claimed.items (vec_capacity seat.claimed) seat.ended };
+    ghost invariant = { λ seat. HasDrawn
+        seat.batches seat.token.me seat.claimed.items (vec_capacity seat.claimed) seat.ended };
 }
 
 impl ClaimSeat {
@@ -68,8 +68,8 @@ impl ClaimSeat {
         ensures table { result.table_id ≡ self.table }
         ensures view { result.me ≡ (lent (drawn_by self.claimed self.ended), []) }
         ensures ordered { IsOrdered self }
-        ensures lists { map (λ list. list.items) lists.new.items
-            ≡ put_last (vec_capacity lists.old) (map (λ list. list.items) lists.old.items) self.claimed }
+        ensures lists { map (λ list. list.items) lists.new.items ≡ put_last
+            (vec_capacity lists.old) (map (λ list. list.items) lists.old.items) self.claimed }
         ensures room { vec_capacity lists.new ≡ vec_capacity lists.old }
     {
         let ClaimSeat { token, claimed, .. } = self;

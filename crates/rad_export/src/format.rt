@@ -45,7 +45,8 @@ impl Format {
     ///
     /// What a column can't hold is taken for NULL. Without memory the text is unchanged.
     pub fn push_line(self, text: &mut Vec<u8>, generation: u32, row: &Row) -> Result<(), AllocError>
-        ensures appended { OnOk result (AppendsLine self generation row.now text.old.items text.new.items) }
+        ensures appended { OnOk result
+            (AppendsLine self generation row.now text.old.items text.new.items) }
         ensures unchanged { OnErr result (text.new.items ≡ text.old.items) }
     {
         let alloc = *text.allocator();

@@ -38,8 +38,8 @@ fn write_members(
     row: &Row,
     columns: &[Column],
 ) -> Result<(), AllocError>
-    ensures tokens { OnOk result (out.new.tokens ≡ out.old.tokens
-        ++ flat_map (λ c. member (name_of c) (shown_of (option_copied time.entry) row.now c)) columns.now) }
+    ensures tokens { OnOk result (out.new.tokens ≡ out.old.tokens ++ flat_map
+        (λ c. member (name_of c) (shown_of (option_copied time.entry) row.now c)) columns.now) }
     ensures before { OnOk result (out.new.before ≡ out.old.before) }
 {
     for Column(at, name, kind) in columns {

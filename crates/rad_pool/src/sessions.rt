@@ -319,7 +319,8 @@ impl Sessions {
 
 // Whether a user who has so many sessions may have no more.
 fn is_limited(user: &User, live: UserCounts) -> bool
-    ensures { result ≡ (nat_le user.now.sessions live.open_count || is_reached user.now.grants live.total) }
+    ensures { result
+        ≡ (nat_le user.now.sessions live.open_count || is_reached user.now.grants live.total) }
 {
     u64::from(user.sessions) <= live.open_count || users::has_all_grants(user, live.total)
 }

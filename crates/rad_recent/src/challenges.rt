@@ -57,7 +57,8 @@ impl Model for Challenges {
 impl Challenges {
     /// No challenge waits yet. The configuration says how long challenges will wait.
     pub fn open(alloc: Global, config: &Config) -> Result<Challenges, AllocError>
-        ensures { IfOk result (λ challenges. challenges.table ≡ opening (spans_of config.now).hold) }
+        ensures { IfOk result (λ challenges. challenges.table
+            ≡ opening (spans_of config.now).hold) }
     {
         Ok(Challenges {
             rows: Rows::open(alloc, config.spans().hold),

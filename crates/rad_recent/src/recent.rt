@@ -65,7 +65,8 @@ impl Recent {
 
     /// No reply is kept yet. The configuration says how long replies will be kept.
     pub fn open(alloc: Global, config: &Config) -> Result<Recent, AllocError>
-        ensures table { IfOk result (λ recent. recent.table ≡ opening (spans_of config.now).window) }
+        ensures table { IfOk result (λ recent. recent.table
+            ≡ opening (spans_of config.now).window) }
         ensures ready { IfOk result (λ recent. recent.ready ≡ None) }
     {
         Recent::open_keyed(alloc, config, HashKey::KNOWN)
@@ -73,7 +74,8 @@ impl Recent {
 
     /// The same table, with a key for the hash of its index. Contracts don't see the key.
     pub fn open_keyed(alloc: Global, config: &Config, key: HashKey) -> Result<Recent, AllocError>
-        ensures table { IfOk result (λ recent. recent.table ≡ opening (spans_of config.now).window) }
+        ensures table { IfOk result (λ recent. recent.table
+            ≡ opening (spans_of config.now).window) }
         ensures ready { IfOk result (λ recent. recent.ready ≡ None) }
     {
         let clients = clients::none(alloc, config.clients().len())?;

@@ -33,7 +33,8 @@ impl<T: Row<S>, S: Copy> Model for Block<T, S> {
       capacity = vec_capacity block.rows;
     } };
 
-    ghost invariant = { λ block. All (LivesUntil T.is_live block.spans block.bound) block.rows.items };
+    ghost invariant = { λ block.
+        All (LivesUntil T.is_live block.spans block.bound) block.rows.items };
 }
 
 impl<T: Row<S>, S: Copy> Block<T, S> {
