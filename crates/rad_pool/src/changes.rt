@@ -21,7 +21,7 @@ pub(crate) fn add(rows: &mut Rows<Session, Spans>, counts: &mut Counts, session:
     ensures last { rows.new.last ≡ rows.old.last + 1 }
     ensures spans { rows.new.spans ≡ rows.old.spans }
 {
-    let _last = rows.last();
+    rows.numbers_rise();
     counts.come(&session);
     rows.push(session);
 }
@@ -35,7 +35,7 @@ pub(crate) fn stop(rows: &mut Rows<Session, Spans>, counts: &mut Counts, number:
     ensures spans { rows.new.spans ≡ rows.old.spans }
     ensures room { rows.new.has_room ≡ rows.old.has_room }
 {
-    let _last = rows.last();
+    rows.numbers_rise();
     counts.end(rows.change(number, &Report::Stop));
 }
 
@@ -70,7 +70,7 @@ fn end_linked(rows: &mut Rows<Session, Spans>, counts: &mut Counts, source: u32)
         let Some(number) = newest_open(rows, counts, source) else {
             return;
         };
-        let _last = rows.last();
+        rows.numbers_rise();
         stop(rows, counts, number);
     }
 }

@@ -14,7 +14,7 @@ use rad_rows::Rows;
 pub(crate) fn find(rows: &Rows<Session, Spans>, client: u32, number: u64) -> Option<u64>
     ensures { result ≡ meant client (Some number) None None rows.now.rows }
 {
-    let _last = rows.last();
+    rows.numbers_rise();
     match rows.get(number) {
         Some(session) => number_for(session, client),
         None => None,

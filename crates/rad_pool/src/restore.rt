@@ -126,7 +126,7 @@ pub(crate) fn restore(
     ensures same_last { OnErr result (rows.new.last ≡ rows.old.last) }
     ensures spans { rows.new.spans ≡ rows.old.spans }
 {
-    let _last = rows.last();
+    rows.numbers_rise();
     counts.room()?;
     rows.restore(session)?;
     counts.come(&session);

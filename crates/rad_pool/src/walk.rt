@@ -41,7 +41,7 @@ pub(crate) fn count(rows: &Rows<Session, Spans>, user: u32) -> UserCounts
     ensures counts { CountsUser user rows.now.rows result }
     ensures user { result.user ≡ user }
 {
-    let _len = rows.len();
+    rows.numbers_rise();
     let (mut open_count, mut total): (u64, u64) = (0, 0);
     for row in rows.iter() {
         if row.user == user {

@@ -46,7 +46,7 @@ pub(crate) fn find(
     ensures { result ≡ find (has_state state.now client)
         (filter (is_challenge_live rows.now.spans now) rows.now.rows) }
 {
-    let _last = rows.last();
+    rows.numbers_rise();
     let Some(number) = number_of(state) else {
         return None;
     };
@@ -73,7 +73,7 @@ pub(crate) fn remove(
     ensures spans { rows.new.spans ≡ rows.old.spans }
     ensures room { rows.new.has_room ≡ rows.old.has_room }
 {
-    let _last = rows.last();
+    rows.numbers_rise();
     if let Some(challenge) = found {
         rows.remove(challenge.number);
     }

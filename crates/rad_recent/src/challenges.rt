@@ -106,7 +106,7 @@ impl Challenges {
         ensures { result ≡ waiting_with party (cut_challenges now self.now.table) }
     {
         let rows = &self.rows;
-        let _len = rows.len();
+        rows.numbers_rise();
         let mut count: u64 = 0;
         for challenge in rows.iter() {
             if now < challenge.ends(&rows.spans()) && challenge.is_with(party) {
@@ -120,7 +120,7 @@ impl Challenges {
     pub fn len_with(&self, party: Party) -> u64
         ensures { result ≡ waiting_with party self.now.table }
     {
-        let _len = self.rows.len();
+        self.rows.numbers_rise();
         let mut count: u64 = 0;
         for challenge in self.rows.iter() {
             if challenge.is_with(party) {

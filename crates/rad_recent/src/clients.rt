@@ -89,7 +89,7 @@ pub(crate) fn count(rows: &Rows<Numbered, u64>, counts: &[u64], client: u32) -> 
 fn walk(rows: &Rows<Numbered, u64>, client: u32) -> u64
     ensures { result ≡ count_by (is_of client) (replies_of rows.now.rows) }
 {
-    let _len = rows.len();
+    rows.numbers_rise();
     let mut count: u64 = 0;
     for row in rows.iter() {
         if is_client(client, row.kept.client) {

@@ -27,7 +27,7 @@ pub(crate) fn find<'a>(
         ≡ find (is_reply_to key.now octets.now)
         (filter (is_reply_live rows.now.spans now) (replies_of rows.now.rows)) }
 {
-    let _last = rows.last();
+    rows.numbers_rise();
     let Some(number) = index::find(&index.map, key) else {
         return None;
     };
@@ -47,7 +47,7 @@ pub(crate) fn client_of(rows: &Rows<Numbered, u64>, index: &Index, key: &Key) ->
         (filter (λ reply. not (same_key key.now reply.key)) (replies_of rows.now.rows))
         + one_of client result ≡ count_by (is_of client) (replies_of rows.now.rows) }
 {
-    let _last = rows.last();
+    rows.numbers_rise();
     let Some(number) = index::find(&index.map, key) else {
         return None;
     };
@@ -127,6 +127,7 @@ pub(crate) fn push(rows: &mut Rows<Numbered, u64>, index: &mut Index, kept: Kept
     ensures spans { rows.new.spans ≡ rows.old.spans }
     ensures ready { index.new.ready ≡ None }
 {
+    rows.numbers_rise();
     let number = rows.last() + 1;
     if let Some(before) = index::note(&mut index.map, kept.key, number) {
         rows.remove(before);

@@ -45,7 +45,7 @@ pub(crate) fn count_of(
     ensures { result ≡ count_by (is_of client) (filter (λ reply. not (same_key key.now reply.key))
         (filter (is_reply_live rows.now.spans now) (replies_of rows.now.rows))) }
 {
-    let _last = rows.last();
+    rows.numbers_rise();
     let held = clients::count_live(rows, &notes.clients, now, client);
     let Some(number) = index::find(&notes.index.map, key) else {
         return held;
@@ -74,7 +74,7 @@ fn count(rows: &Rows<Numbered, u64>, map: &NumberMap, now: u64, key: &Key) -> us
     ensures { result ≡ length (filter (λ reply. not (same_key key.now reply.key))
         (filter (is_reply_live rows.now.spans now) (replies_of rows.now.rows))) }
 {
-    let _last = rows.last();
+    rows.numbers_rise();
     let live = rows.count_live(now);
     let Some(number) = index::find(map, key) else {
         return live;

@@ -103,7 +103,7 @@ impl Recent {
         ensures settled { cut_replies now self.new.table ≡ self.new.table }
         ensures ready { self.new.ready ≡ self.old.ready }
     {
-        let _last = self.rows.last();
+        self.rows.numbers_rise();
         self.rows.expire(&mut self.notes, now);
     }
 
@@ -178,7 +178,7 @@ impl Recent {
     {
         let Recent { rows, notes } = self;
         let Notes { index, clients } = notes;
-        let _last = rows.last();
+        rows.numbers_rise();
         clients::remove_one(clients, indexed::client_of(rows, index, &reply.key));
         clients::add_one(clients, reply.client);
         indexed::push(rows, index, reply);

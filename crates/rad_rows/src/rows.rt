@@ -1,5 +1,5 @@
 //! The table of rows.
-ghost use Rattle.std.specs.Prelude.{◌≡◌, ◌≤◌, ◌<◌, ◌+◌, ◌++◌, ◌∷◌, ◌↔◌, [], IfOk, IsOk, IsTrue, OnErr, OnOk, false, filter, find, length, map, option_copied, true};
+ghost use Rattle.std.specs.Prelude.{◌≡◌, ◌≤◌, ◌<◌, ◌+◌, ◌++◌, ◌∷◌, ◌↔◌, ◌^◌, [], IfOk, IsOk, IsTrue, OnErr, OnOk, false, filter, find, length, map, option_copied, true};
 ghost use Rattle.rad_rows.specs.Entries.{key_of};
 ghost use Rattle.rad_rows.specs.Rows.{AreSame, IsRising, Tells, change_row, has_number, has_other, moment_max};
 
@@ -87,14 +87,22 @@ impl<T: Row<S>, S: Copy> Rows<T, S> {
         self.count
     }
 
-    /// The last number that was given, or 0. There are no more rows than that.
+    /// The last number that was given, or 0.
     pub fn last(&self) -> u64
-        ensures last { result ≡ self.now.last }
-        // Numbers rise from row to row, the first is 1 or more, and none is above the last that was given.
-        ensures rising { IsRising T.number self.now.last self.now.rows }
-        ensures few { length self.now.rows ≤ self.now.last }
+        ensures { result ≡ self.now.last }
     {
         self.last
+    }
+
+    /// Numbers rise from row to row, the first is 1 or more, and none is above the last that was given.
+    ///
+    /// The call costs nothing: it does nothing at run time.
+    pub fn numbers_rise(&self)
+        ensures rising { IsRising T.number self.now.last self.now.rows }
+        ensures few { length self.now.rows ≤ self.now.last }
+        ensures fits { self.now.last < 2 ^ 64 }
+    {
+        let _last = self.last;
     }
 
     /// How long rows live.

@@ -10,4 +10,4 @@ returns-in_default-get c = λ client. all_vacant c.args.index.now.map.entries c.
 
 pub returns : goal.returns
 returns c = λ client.
-    all_found c.args.index.now.map.entries c.args.key.now c.args.rows.now.rows c.requires client c.in-Some.number c.in-Some-get.row.now (sym c.in-Some.ensures) c.last-last.ensures.rising.rising (sym c.in-Some-get.ensures)
+    all_found c.args.index.now.map.entries c.args.key.now c.args.rows.now.rows c.requires client c.in-Some.number c.in-Some-get.row.now (sym c.in-Some.ensures) c.numbers_rise.ensures.rising.rising (sym c.in-Some-get.ensures)

@@ -12,7 +12,7 @@ returns-in_default-get c =
 pub returns-then-not-is_reply_to : goal.returns-then-not-is_reply_to
 returns-then-not-is_reply_to c =
     look_false c.args.rows.now.spans c.args.now c.args.key.now c.args.octets.now c.args.index.now.map.entries c.in-Some.number c.args.rows.now.rows (sym c.in-Some.ensures) c.requires.indexed
-    c.in-Some-get.row.now c.last-last.ensures.rising.rising (sym c.in-Some-get.ensures)
+    c.in-Some-get.row.now c.numbers_rise.ensures.rising.rising (sym c.in-Some-get.ensures)
     (sym (ap (λ w. wanted w c.args.now c.args.key.now c.args.octets.now c.in-Some-get.row.now) c.spans.ensures) ∙ sym c.is_reply_to.ensures ∙ c.if-not-is_reply_to.true)
 
 pub returns : goal.returns

@@ -30,8 +30,8 @@ left c =
 pub returns-clause-holds : goal.returns-clause-holds
 returns-clause-holds c =
     holds_pushed (record { number = c.last-number.result + 1; kept = c.args.kept }) c.args.rows.now c.match-note.rows c.push.new.self
-    c.args.index.now (record { map = c.note.new.map; ready = None }) (left c).0 c.last-number.ensures.rising.given
-    (ap (λ l. l + 1) c.last-number.ensures.last) (c.push.ensures.last ∙ ap (λ l. l + 1) (left c).1)
+    c.args.index.now (record { map = c.note.new.map; ready = None }) (left c).0 c.numbers_rise.ensures.rising.given
+    (ap (λ l. l + 1) c.last-number.ensures) (c.push.ensures.last ∙ ap (λ l. l + 1) (left c).1)
     c.push.ensures.rows c.note.ensures.noted refl c.requires.holds
 
 pub returns-clause-rows : goal.returns-clause-rows

@@ -17,7 +17,7 @@ pub returns-then-not-is_live : goal.returns-then-not-is_live
 returns-then-not-is_live c =
     c.count_live-live.ensures
     ∙ sym (count_dead (is_reply_live c.args.rows.now.spans c.args.now) c.args.map.now.entries c.args.key.now c.args.rows.now.rows c.requires.indexed c.in-Some.number (sym c.in-Some.ensures)
-    c.in-Some-get.row.now c.last-last.ensures.rising.rising (sym c.in-Some-get.ensures)
+    c.in-Some-get.row.now c.numbers_rise.ensures.rising.rising (sym c.in-Some-get.ensures)
     (sym (ap (λ w. is_reply_live w c.args.now c.in-Some-get.row.now.kept) c.spans.ensures) ∙ sym c.is_live.ensures ∙ c.if-not-is_live.true))
 
 pub overflow_sub-result : goal.overflow_sub-result
@@ -26,7 +26,7 @@ overflow_sub-result c =
       arith,
       c.count_live-live.ensures,
       count_live (is_reply_live c.args.rows.now.spans c.args.now) c.args.map.now.entries c.args.key.now c.args.rows.now.rows c.requires.indexed c.in-Some.number (sym c.in-Some.ensures)
-          c.in-Some-get.row.now c.last-last.ensures.rising.rising (sym c.in-Some-get.ensures)
+          c.in-Some-get.row.now c.numbers_rise.ensures.rising.rising (sym c.in-Some-get.ensures)
           (sym (ap (λ w. is_reply_live w c.args.now c.in-Some-get.row.now.kept) c.spans.ensures) ∙ sym c.is_live.ensures ∙ c.if-not-is_live.false),
     )
 
@@ -36,6 +36,6 @@ returns c =
       arith,
       c.count_live-live.ensures,
       count_live (is_reply_live c.args.rows.now.spans c.args.now) c.args.map.now.entries c.args.key.now c.args.rows.now.rows c.requires.indexed c.in-Some.number (sym c.in-Some.ensures)
-          c.in-Some-get.row.now c.last-last.ensures.rising.rising (sym c.in-Some-get.ensures)
+          c.in-Some-get.row.now c.numbers_rise.ensures.rising.rising (sym c.in-Some-get.ensures)
           (sym (ap (λ w. is_reply_live w c.args.now c.in-Some-get.row.now.kept) c.spans.ensures) ∙ sym c.is_live.ensures ∙ c.if-not-is_live.false),
     )

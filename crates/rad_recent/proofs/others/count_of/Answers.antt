@@ -16,7 +16,7 @@ pub returns-then-not-is_live_of : goal.returns-then-not-is_live_of
 returns-then-not-is_live_of c =
     c.count_live-held.ensures
     ∙ sym (live_other c.args.notes.now.index.map.entries c.args.key.now c.args.rows.now.rows c.requires.indexed c.args.rows.now.spans c.args.now c.args.client c.in-Some.number c.in-Some-get.row.now (sym c.in-Some.ensures)
-    c.last-last.ensures.rising.rising (sym c.in-Some-get.ensures)
+    c.numbers_rise.ensures.rising.rising (sym c.in-Some-get.ensures)
     (sym (ap (λ w. is_live_of w c.args.now c.args.client c.in-Some-get.row.now) c.spans.ensures) ∙ sym c.is_live_of.ensures ∙ c.if-not-is_live_of.true))
 
 pub overflow_sub-result : goal.overflow_sub-result
@@ -25,7 +25,7 @@ overflow_sub-result c =
       arith,
       c.count_live-held.ensures,
       live_own c.args.notes.now.index.map.entries c.args.key.now c.args.rows.now.rows c.requires.indexed c.args.rows.now.spans c.args.now c.args.client c.in-Some.number c.in-Some-get.row.now (sym c.in-Some.ensures)
-          c.last-last.ensures.rising.rising (sym c.in-Some-get.ensures)
+          c.numbers_rise.ensures.rising.rising (sym c.in-Some-get.ensures)
           (sym (ap (λ w. is_live_of w c.args.now c.args.client c.in-Some-get.row.now) c.spans.ensures) ∙ sym c.is_live_of.ensures ∙ c.if-not-is_live_of.false),
     )
 
@@ -35,6 +35,6 @@ returns c =
       arith,
       c.count_live-held.ensures,
       live_own c.args.notes.now.index.map.entries c.args.key.now c.args.rows.now.rows c.requires.indexed c.args.rows.now.spans c.args.now c.args.client c.in-Some.number c.in-Some-get.row.now (sym c.in-Some.ensures)
-          c.last-last.ensures.rising.rising (sym c.in-Some-get.ensures)
+          c.numbers_rise.ensures.rising.rising (sym c.in-Some-get.ensures)
           (sym (ap (λ w. is_live_of w c.args.now c.args.client c.in-Some-get.row.now) c.spans.ensures) ∙ sym c.is_live_of.ensures ∙ c.if-not-is_live_of.false),
     )

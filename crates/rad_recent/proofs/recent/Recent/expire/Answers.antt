@@ -5,7 +5,7 @@ use Rattle.rad_recent.proofs.recent.Recent.expire.Goals as goal
 pub invariant_of-self : goal.invariant_of-self
 invariant_of-self c = record {
   index = holds_expired c.args.now c.self.inside.rows c.expire.new.self c.self.inside.notes c.expire.new.tally
-      c.last-last.ensures.rising.rising c.expire.ensures.rows c.expire.ensures.last c.expire.ensures.room c.expire.ensures.told
+      c.numbers_rise.ensures.rising.rising c.expire.ensures.rows c.expire.ensures.last c.expire.ensures.room c.expire.ensures.told
       c.self.invariant.index;
   clients = clients_left c.self.inside.rows.spans c.args.now c.self.inside.rows.rows c.expire.new.self.rows
       c.self.inside.notes c.expire.new.tally c.self.invariant.clients c.expire.ensures.rows c.expire.ensures.told;

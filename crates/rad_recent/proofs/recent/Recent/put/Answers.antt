@@ -20,6 +20,6 @@ invariant_of-self c =
       index = c.push.ensures.holds;
       clients = subst (CountsClients c.push.new.rows.rows) (sym new_is)
           (clients_put c.self.inside.rows.rows c.push.new.rows.rows c.args.reply c.client_of.result counts.items left new
-          c.self.invariant.clients (omega (arith, c.last-last.ensures.few, c.self.invariant.index.next (ap is_some ready)))
+          c.self.invariant.clients (omega (arith, c.numbers_rise.ensures.few, c.self.invariant.index.next (ap is_some ready)))
           c.client_of.ensures (rw c.deref_mut.ensures.value at c.remove_one.ensures) gains c.push.ensures.rows);
     }

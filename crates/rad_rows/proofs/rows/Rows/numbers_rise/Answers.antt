@@ -1,7 +1,7 @@
 use Rattle.std.proofs.Common.{◌≤◌, length, subst}
 use Rattle.rad_rows.specs.Entries.{all_rows}
 use Rattle.rad_rows.proofs.OrderLemmas.{no_more}
-use Rattle.rad_rows.proofs.rows.Rows.last.Goals as goal
+use Rattle.rad_rows.proofs.rows.Rows.numbers_rise.Goals as goal
 
 pub returns-clause-few : goal.returns-clause-few
 returns-clause-few g c =
