@@ -19,15 +19,15 @@ unfinished me claimed None none view = view ∙ ap (λ (numbers : List ℕ). (le
 unfinished me claimed (Some number) none view = absurd cc
 
 -- it draws a batch
-pub claimed_more : (batches number room : ℕ) (before after : Me (Unit {0}) View) (claimed : List ℕ) (ended : Option ℕ)
-    → HasDrawn batches before claimed room ended
+pub claimed_more : (batches number capacity : ℕ) (before after : Me (Unit {0}) View) (claimed : List ℕ) (ended : Option ℕ)
+    → HasDrawn batches before claimed capacity ended
     → ended ≡ None → number < batches → All (λ had. had < number) claimed → after ≡ (lent (claimed ++ number ∷ []), [])
-    → HasDrawn batches after (claimed ++ number ∷ []) room ended
-claimed_more batches number room before after claimed (Some other) seat none batch new drew = absurd cc
-claimed_more batches number room before after claimed None seat none batch new drew = record {
+    → HasDrawn batches after (claimed ++ number ∷ []) capacity ended
+claimed_more batches number capacity before after claimed (Some other) seat none batch new drew = absurd cc
+claimed_more batches number capacity before after claimed None seat none batch new drew = record {
   view = drew ∙ ap (λ (numbers : List ℕ). (lent numbers, [])) (sym (append-nil (claimed ++ number ∷ [])));
   below = All-push (λ had. had < batches) claimed number seat.below batch;
   rises = all_pairs_push (λ had later. had < later) claimed number seat.rises (λ place default inside. new place default inside);
   end = tt;
-  room_is = seat.room_is;
+  capacity_is = seat.capacity_is;
 }

@@ -101,13 +101,13 @@ abbrev pub drawn_by : List ℕ → Option ℕ → List ℕ
 drawn_by claimed ended = claimed ++ option_to_list ended
 
 -- what a seat keeps: its view has the numbers that it has drawn, its batches rise, what it drew after them is no batch, and it has
--- room for all batches
-pub record HasDrawn (batches : ℕ) (me : Me (Unit {0}) View) (claimed : List ℕ) (room : ℕ) (ended : Option ℕ) : Type 0 where
+-- memory for all batches
+pub record HasDrawn (batches : ℕ) (me : Me (Unit {0}) View) (claimed : List ℕ) (capacity : ℕ) (ended : Option ℕ) : Type 0 where
   pub view : me ≡ (lent (drawn_by claimed ended), [])
   pub below : All (λ batch. batch < batches) claimed
   pub rises : Rises claimed
   pub end : MatchOption ended (Unit {0}) (λ number. batches ≤ number)
-  pub room_is : batches ≤ room
+  pub capacity_is : batches ≤ capacity
 
 -- what of this can be seen without its view
 pub record IsOrdered (seat : ClaimSeat) : Type 0 where
@@ -115,22 +115,22 @@ pub record IsOrdered (seat : ClaimSeat) : Type 0 where
   pub rises : Rises seat.claimed
   pub end : MatchOption seat.ended (Unit {0}) (λ number. seat.batches ≤ number)
 
--- lists with one more, if there is room
+-- lists with one more, if there is memory
 abbrev pub put_last : ℕ → List (List ℕ) → List ℕ → List (List ℕ)
-put_last room lists list = take room (lists ++ list ∷ [])
+put_last capacity lists list = take capacity (lists ++ list ∷ [])
 
 -- all numbers that seats have drawn, a list for each
 abbrev pub drawn_lists : List ClaimSeat → List (List ℕ)
 drawn_lists seats = map (λ seat. drawn_by seat.claimed seat.ended) seats
 
--- while seats are taken back, one view stands for all that are back, and there is a list for each, as far as there is room
-pub record AreBack (back : List ClaimSeat) (me : Me (Unit {0}) View) (room : ℕ) (lists : List (List ℕ)) : Type 0 where
+-- while seats are taken back, one view stands for all that are back, and there is a list for each, as far as there is memory
+pub record AreBack (back : List ClaimSeat) (me : Me (Unit {0}) View) (capacity : ℕ) (lists : List (List ℕ)) : Type 0 where
   pub view : me ≡ (record { drawn = drawn_lists back }, [])
-  pub lists_is : lists ≡ take room (map (λ seat. seat.claimed) back)
+  pub lists_is : lists ≡ take capacity (map (λ seat. seat.claimed) back)
   pub ordered : All IsOrdered back
 
--- what claims keep: a table with one word, the limits, and room for the list of each seat
-pub record AreOpen (table : TableId) (size : Size) (batches seats lists room : ℕ) : Type 0 where
+-- what claims keep: a table with one word, the limits, and memory for the list of each seat
+pub record AreOpen (table : TableId) (size : Size) (batches seats lists capacity : ℕ) : Type 0 where
   pub word : table.words ≡ 1
   pub slots : table.slots ≡ 0
   pub size_is : size ≡ record { batches = batches; seats = seats }
@@ -138,4 +138,4 @@ pub record AreOpen (table : TableId) (size : Size) (batches seats lists room : �
   pub some : 1 ≤ seats
   pub few_seats : seats ≤ seats_max
   pub empty : lists ≡ 0
-  pub room_is : seats ≤ room
+  pub capacity_is : seats ≤ capacity

@@ -25,7 +25,7 @@ pub struct Claims {
     table: Table<(), View, Size, Draws, Global>,
     batches: u64,
     seats: u64,
-    // Empty, with room for the list of each seat, so that closing needs no memory.
+    // Empty, with memory for the list of each seat, so that closing takes none.
     lists: Vec<Vec<u64>>,
 }
 

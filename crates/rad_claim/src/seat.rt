@@ -15,7 +15,7 @@ pub struct ClaimSeat {
     pub(crate) token: Seat<(), View>,
     /// How many batches there are.
     pub(crate) batches: u64,
-    /// There is room for all batches, so that a claim needs no memory.
+    /// There is memory for all batches, so that a claim takes none.
     pub(crate) claimed: Vec<u64>,
     /// The number that was drawn after those batches and is none. Then nothing more is drawn.
     pub(crate) ended: Option<u64>,
@@ -63,14 +63,14 @@ impl ClaimSeat {
         self.ended.is_some()
     }
 
-    /// Its token. Its batches are put last in the lists, if there is room.
+    /// Its token. Its batches are put last in the lists, if there is memory.
     pub(crate) fn leave(self, lists: &mut Vec<Vec<u64>>) -> Seat<(), View>
         ensures table { result.table_id ≡ self.table }
         ensures view { result.me ≡ (lent (drawn_by self.claimed self.ended), []) }
         ensures ordered { IsOrdered self }
         ensures lists { map (λ list. list.items) lists.new.items ≡ put_last
             (vec_capacity lists.old) (map (λ list. list.items) lists.old.items) self.claimed }
-        ensures room { vec_capacity lists.new ≡ vec_capacity lists.old }
+        ensures capacity { vec_capacity lists.new ≡ vec_capacity lists.old }
     {
         let ClaimSeat { token, claimed, .. } = self;
         put(lists, claimed);
@@ -78,11 +78,11 @@ impl ClaimSeat {
     }
 }
 
-// Puts a list last, if there is room.
+// Puts a list last, if there is memory.
 fn put(lists: &mut Vec<Vec<u64>>, list: Vec<u64>)
     ensures lists { map (λ list. list.items) lists.new.items
         ≡ put_last (vec_capacity lists.old) (map (λ list. list.items) lists.old.items) list.items }
-    ensures room { vec_capacity lists.new ≡ vec_capacity lists.old }
+    ensures capacity { vec_capacity lists.new ≡ vec_capacity lists.old }
 {
     // There is: no more seats come back than were lent. But that is known only once all have.
     if lists.len() < lists.capacity() {

@@ -66,7 +66,7 @@ fn append<S: Store>(
 ) -> Result<u32, JournalFault>
     requires sound { IsClean (S.view store.old)
         → IsSound (S.view store.old) (S.recovers store.old) true (Some count) }
-    requires room { count + length entries.now < 2 ^ 32 - 1 }
+    requires few { count + length entries.now < 2 ^ 32 - 1 }
     ensures clean { doubt (S.view store.old).is_clean ≤ doubt (S.view store.new).is_clean }
     ensures sound { IfOk result (λ n. IsClean (S.view store.new)
         → IsSound (S.view store.new) (S.recovers store.new) true (Some n)) }
@@ -94,7 +94,7 @@ fn write<S: Store>(
     requires shapes { IsClean (S.view store.old) → HasTables (S.view store.old) }
     requires counted { IsClean (S.view store.old)
         → IsCounted ((S.view store.old).trees table) count }
-    requires room { count + length entries.now < 2 ^ 32 - 1 }
+    requires few { count + length entries.now < 2 ^ 32 - 1 }
     ensures schema { KeepsSchema (S.view store.old) (S.view store.new) }
     ensures clean { doubt (S.view store.old).is_clean ≤ doubt (S.view store.new).is_clean }
     ensures outcomes { (db : Trees) → S.recovers store.new db → S.recovers store.old db }
@@ -127,7 +127,7 @@ fn put_all<S: Store>(
     requires shape { IsClean (S.view store.old) → (S.view store.old).shape table ≡ Table }
     requires counted { IsClean (S.view store.old)
         → IsCounted ((S.view store.old).trees table) count }
-    requires room { count + length entries.now < 2 ^ 32 - 1 }
+    requires few { count + length entries.now < 2 ^ 32 - 1 }
     ensures schema { KeepsSchema (S.view store.old) (S.view store.new) }
     ensures clean { doubt (S.view store.old).is_clean ≤ doubt (S.view store.new).is_clean }
     ensures outcomes { (db : Trees) → S.recovers store.new db → S.recovers store.old db }

@@ -15,7 +15,7 @@ use sqlite_trees::error::StoreError;
 use std::alloc::{AllocError, Global};
 use thiserror::Error;
 
-/// The most entries that a journal has room for.
+/// The most entries of a journal.
 pub const ENTRIES_MAX: u32 = u32::MAX - 1;
 
 /// Why a journal gave up.

@@ -29,7 +29,7 @@ pub(crate) fn record_all<S: Store>(
 ) -> Result<(), JournalFault>
     requires shape { IsClean (S.view store.old)
         → (S.view store.old).shape (register_tree register) ≡ Table }
-    requires room { count + length entries.now < 2 ^ 32 - 1 }
+    requires few { count + length entries.now < 2 ^ 32 - 1 }
     ensures schema { KeepsSchema (S.view store.old) (S.view store.new) }
     ensures clean { doubt (S.view store.old).is_clean ≤ doubt (S.view store.new).is_clean }
     ensures outcomes { (db : Trees) → S.recovers store.new db → S.recovers store.old db }

@@ -42,7 +42,7 @@ impl Body {
     /// A body of this Code with no attribute, and with memory for attributes of so many octets.
     ///
     /// To push them then takes no more memory, which no clause tells.
-    pub fn with_room(alloc: Global, code: u8, size: usize) -> Result<Body, AllocError>
+    pub fn with_capacity(alloc: Global, code: u8, size: usize) -> Result<Body, AllocError>
         ensures code { IfOk result (λ body. body.code ≡ code) }
         ensures attributes { IfOk result (λ body. body.attributes ≡ []) }
     {

@@ -1,4 +1,4 @@
-//! Frames: room for the octets of one packet, and the one place that spells a packet.
+//! Frames: a buffer for the octets of one packet, and the one place that spells a packet.
 ghost use Rattle.std.specs.Prelude.{◌≡◌, [], ◌++◌, ◌+◌, ◌≤◌, ◌↔◌, length, take, IsOk, IfOk, OnOk, OnErr};
 ghost use Rattle.rad_packet.specs.Packets.{length_max};
 ghost use Rattle.rad_packet.specs.Bodies.{AreReadAs, FitsPacket, packet_octets_of};
@@ -15,10 +15,10 @@ use thiserror::Error;
 #[error("a packet of more than 4096 octets")]
 pub struct TooLong;
 
-/// Room for the octets of one packet. Contracts see those of the last packet that was written, and at first none.
+/// A buffer for the octets of one packet. Contracts see those of the last packet that was written, and at first none.
 #[derive(Drop)]
 pub struct Frame {
-    room: Vec<u8>,
+    buffer: Vec<u8>,
     len: usize,
 }
 
@@ -28,18 +28,18 @@ impl Model for Frame {
 
     ghost Value = { List ℕ };
 
-    ghost view = { λ f. take f.len f.room.items };
+    ghost view = { λ f. take f.len f.buffer.items };
 
-    ghost invariant = { λ f. (f.len ≤ length_max) × (length f.room.items ≡ length_max) };
+    ghost invariant = { λ f. (f.len ≤ length_max) × (length f.buffer.items ≡ length_max) };
 }
 
 impl Frame {
-    /// An empty frame, with all the room that a packet may need.
+    /// An empty frame, whose buffer fits any packet.
     pub fn new(alloc: Global) -> Result<Frame, AllocError>
         ensures { IfOk result (λ frame. frame ≡ []) }
     {
-        let room = vec![in alloc; 0; LENGTH_MAX]?;
-        Ok(Frame { room, len: 0 })
+        let buffer = vec![in alloc; 0; LENGTH_MAX]?;
+        Ok(Frame { buffer, len: 0 })
     }
 
     /// The octets of the last packet that was written.
@@ -47,7 +47,7 @@ impl Frame {
         ensures value { result.now ≡ self.now }
         ensures fits { length result.now ≤ length_max }
     {
-        &self.room[..self.len]
+        &self.buffer[..self.len]
     }
 
     /// Writes these octets over as many of the frame's, from a place on.
@@ -55,7 +55,7 @@ impl Frame {
         requires { place + length octets.now ≤ length self.old }
         ensures { self.new ≡ overwritten place octets.now self.old }
     {
-        put(&mut self.room, place, octets);
+        put(&mut self.buffer, place, octets);
     }
 }
 
@@ -82,7 +82,7 @@ pub fn write(
     let [high, low] = (len as u16).to_be_bytes();
     let header = [body.code(), identifier, high, low];
     spell(
-        &mut frame.room,
+        &mut frame.buffer,
         &header,
         authenticator,
         body.attributes_octets(),
@@ -91,26 +91,26 @@ pub fn write(
     Ok(())
 }
 
-// The parts one after the other, from the first octet of the room on.
-fn spell(room: &mut [u8], header: &[u8], authenticator: &[u8], attributes: &[u8])
+// The parts one after the other, from the first octet of the buffer on.
+fn spell(buffer: &mut [u8], header: &[u8], authenticator: &[u8], attributes: &[u8])
     requires { length header.now + length authenticator.now + length attributes.now
-        ≤ length room.old }
-    ensures { take (length header.now + length authenticator.now + length attributes.now) room.new
+        ≤ length buffer.old }
+    ensures { take (length header.now + length authenticator.now + length attributes.now) buffer.new
         ≡ header.now ++ authenticator.now ++ attributes.now }
 {
-    let after_header = put(room, 0, header);
-    let after_authenticator = put(room, after_header, authenticator);
-    put(room, after_authenticator, attributes);
+    let after_header = put(buffer, 0, header);
+    let after_authenticator = put(buffer, after_header, authenticator);
+    put(buffer, after_authenticator, attributes);
 }
 
 // Writes a part at a place, and returns the place after it.
-fn put(room: &mut [u8], at: usize, part: &[u8]) -> usize
-    requires { at + length part.now ≤ length room.old }
+fn put(buffer: &mut [u8], at: usize, part: &[u8]) -> usize
+    requires { at + length part.now ≤ length buffer.old }
     ensures place { result ≡ at + length part.now }
-    ensures front { take result room.new ≡ take at room.old ++ part.now }
-    ensures whole { room.new ≡ overwritten at part.now room.old }
+    ensures front { take result buffer.new ≡ take at buffer.old ++ part.now }
+    ensures whole { buffer.new ≡ overwritten at part.now buffer.old }
 {
     let end = at + part.len();
-    room[at..end].copy_from_slice(part);
+    buffer[at..end].copy_from_slice(part);
     end
 }

@@ -35,4 +35,4 @@ pub use grant::{Grant, Refusal};
 pub use lawful::lawful_sessions;
 pub use rad_row_fault::RowFault;
 pub use session::{Phase, Session};
-pub use sessions::{Rows, SESSIONS_MAX, Sessions};
+pub use sessions::{SESSIONS_MAX, SessionRows, Sessions};

@@ -17,7 +17,7 @@ use crate::users::UserCounts;
 use crate::{changes, found, free, restore, users};
 use rad_config::{Config, Spans, User};
 use rad_row_fault::RowFault;
-use rad_rows::{HashKey, Iter};
+use rad_rows::{HashKey, Iter, Rows};
 use std::alloc::{AllocError, Global};
 use std::marker::Model;
 
@@ -30,7 +30,7 @@ pub const SESSIONS_MAX: usize = 65_536;
 /// are in milliseconds, at most `MOMENT_MAX`, and need not rise; but a lawful table stays lawful only while they don't fall.
 #[derive(Drop)]
 pub struct Sessions {
-    rows: rad_rows::Rows<Session, Spans>,
+    rows: Rows<Session, Spans>,
     counts: Counts,
 }
 
@@ -70,15 +70,15 @@ impl Sessions {
         ensures room { IfOk result (λ sessions. sessions.has_room ≡ false) }
     {
         let counts = Counts::open(alloc, config, key)?;
-        let rows = rad_rows::Rows::open(alloc, config.spans());
+        let rows = Rows::open(alloc, config.spans());
         Ok(Sessions { rows, counts })
     }
 
     /// The sessions, oldest first; also those that are no longer live, until `expire`.
-    pub fn rows(&self) -> Rows<'_>
+    pub fn rows(&self) -> SessionRows<'_>
         ensures { result ≡ self.now.table.sessions }
     {
-        Rows {
+        SessionRows {
             rest: self.rows.iter(),
         }
     }
@@ -327,11 +327,11 @@ fn is_limited(user: &User, live: UserCounts) -> bool
 
 /// The sessions that are left, oldest first. Contracts see them as a list.
 #[derive(Drop)]
-pub struct Rows<'a> {
+pub struct SessionRows<'a> {
     rest: Iter<'a, Session, Spans>,
 }
 
-impl<'a> Model for Rows<'a> {
+impl<'a> Model for SessionRows<'a> {
     ghost use Rattle.std.specs.Prelude.{List};
     ghost use Rattle.rad_pool.specs.declared.session.Session.{Session};
 
@@ -340,7 +340,7 @@ impl<'a> Model for Rows<'a> {
     ghost view = { λ rows. rows.rest };
 }
 
-impl<'a> Iterator for Rows<'a> {
+impl<'a> Iterator for SessionRows<'a> {
     type Item = Session;
 
     ghost next_gives = { YieldsFirst (λ s. s) };

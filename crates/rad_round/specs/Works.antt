@@ -26,7 +26,7 @@ use Rattle.rad_server.specs.declared.entry.Entry.{Entry}
 use Rattle.rad_round.specs.Rounds.{AreMoments, IsEntryOf, IsOutcome, arrivals_max}
 use Rattle.rad_round.specs.declared.outcome.Outcome.{Outcome}
 use Rattle.rad_round.specs.declared.outcome.Outcome.TheVariants.{Dropped, NoMemory}
-use Rattle.rad_round.specs.declared.room.Room.{Room}
+use Rattle.rad_round.specs.declared.memory.Memory.{Memory}
 use Rattle.rad_round.specs.declared.timed.Timed.{Timed}
 
 -- how many batches these arrivals are
@@ -233,13 +233,13 @@ numbers_of list = map (λ answered. answered.number) list
 -- ---- workers
 
 -- a worker: its seat, which it gives away while it works; its share of the ledger; the batches that it has answered; and how many it
--- has room for
+-- has memory for
 pub record Worker : Type 0 where
   pub seat : Option ClaimSeat
   pub parts : ℕ
   pub amount : ℕ
   pub answered : List Answered
-  pub room : ℕ
+  pub capacity : ℕ
 
 -- a worker that has done nothing, with a seat of these claims
 pub record IsIdle (claims : Claims) (worker : Worker) : Type 0 where
@@ -249,7 +249,7 @@ pub record IsIdle (claims : Claims) (worker : Worker) : Type 0 where
   pub part : worker.parts ≡ 1
   pub amount : worker.amount ≡ 0
   pub none : worker.answered ≡ []
-  pub room : claims.batches ≤ worker.room
+  pub capacity : claims.batches ≤ worker.capacity
 
 -- a worker has answered the batches of these numbers, and its share counts their entries
 pub record HasAnswered (clients : List Client) (arrivals : List Timed) (numbers : List ℕ) (worker : Worker) : Type 0 where
@@ -266,7 +266,7 @@ pub record Adds (clients : List Client) (arrivals : List Timed) (number : ℕ) (
   pub last : after.answered ≡ before.answered ++ answered ∷ []
   pub amount : after.amount ≡ before.amount + length (taken answered.ticket)
   pub part : after.parts ≡ before.parts
-  pub room : after.room ≡ before.room
+  pub capacity : after.capacity ≡ before.capacity
 
 -- a worker has answered all batches that it claimed, and was told that there are no more
 pub record HasFinished (claims : Claims) (clients : List Client) (arrivals : List Timed) (worker : Worker) : Type 0 where
@@ -312,13 +312,13 @@ put_all (answered ∷ rest) outcomes = put_lanes answered.outcomes (answered.num
 abbrev pub IsInLog : List (Taking Entry) → Answered → Type 0
 IsInLog log answered = IfSome answered.ticket (Has log)
 
--- what workers hand in: their seats, the shares of all in one, and the outcomes of the round; and how many seats there is room for
+-- what workers hand in: their seats, the shares of all in one, and the outcomes of the round; and how many seats there is memory for
 pub record HandedIn : Type 0 where
   pub seats : List ClaimSeat
   pub parts : ℕ
   pub amount : ℕ
   pub outcomes : List Outcome
-  pub room : ℕ
+  pub capacity : ℕ
 
 -- So many workers have handed in: each its seat and a list of the batches that it had claimed. The batches are answered and logged, the
 -- share counts their entries, and their outcomes are put among those before.
@@ -347,20 +347,20 @@ pub record TakesIn (claims : Claims) (clients : List Client) (arrivals : List Ti
   pub counted : after.amount ≡ before.amount + entry_count list
   pub logged : All (IsInLog log) list
   pub put : after.outcomes ≡ put_all list before.outcomes
-  pub room : after.room ≡ before.room
+  pub capacity : after.capacity ≡ before.capacity
 
 -- ---- memory
 
--- room for a round of these arrivals by so many workers
-pub record IsRoomFor (arrivals : List Timed) (workers : ℕ) (room : Room) : Type 0 where
+-- memory for a round of these arrivals by so many workers
+pub record IsMemoryFor (arrivals : List Timed) (workers : ℕ) (memory : Memory) : Type 0 where
   pub some : 1 ≤ workers
-  pub parts : room.blank.parts ≡ workers
-  pub first : room.first ≡ room.log
-  pub batches : room.claims.batches ≡ batch_count arrivals
-  pub seats : room.claims.seats ≡ workers
-  pub seat_each : vec_len room.seats ≡ workers
-  pub new : All (IsNewSeatOf room.claims) room.seats.items
-  pub none_returned : room.returned.items ≡ []
-  pub returned_room : workers ≤ vec_capacity room.returned
-  pub no_history : (room.history.items ≡ []) × (room.marks.items ≡ [])
-  pub outcome_each : length room.outcomes.items ≡ length arrivals
+  pub parts : memory.blank.parts ≡ workers
+  pub first : memory.first ≡ memory.log
+  pub batches : memory.claims.batches ≡ batch_count arrivals
+  pub seats : memory.claims.seats ≡ workers
+  pub seat_each : vec_len memory.seats ≡ workers
+  pub new : All (IsNewSeatOf memory.claims) memory.seats.items
+  pub none_returned : memory.returned.items ≡ []
+  pub returned_capacity : workers ≤ vec_capacity memory.returned
+  pub no_history : (memory.history.items ≡ []) × (memory.marks.items ≡ [])
+  pub outcome_each : length memory.outcomes.items ≡ length arrivals

@@ -38,11 +38,11 @@ impl<L: Opened> Model for HandedIn<L> {
       parts = handed.share.parts;
       amount = handed.share.amount;
       outcomes = handed.outcomes.items;
-      room = vec_capacity handed.seats;
+      capacity = vec_capacity handed.seats;
     } };
 }
 
-/// The server as it is after a round, and what the round made. There is room for the seats, and a place for each outcome.
+/// The server as it is after a round, and what the round made. There is memory for the seats, and a place for each outcome.
 pub(crate) fn gather<'c, L: Opened + Logged>(
     round: OpenRound<'_, '_, 'c, L>,
     workers: Vec<Worker<L>>,
@@ -100,7 +100,7 @@ fn hand_in<L: Opened + Logged>(
     requires finished { All (HasFinished setting.now.claims setting.now.config.now.clients
         setting.now.arrivals.now) workers.items }
     requires none { (handed.old.seats ≡ []) × (handed.old.parts ≡ 0) × (handed.old.amount ≡ 0) }
-    requires room { vec_len workers ≤ handed.old.room }
+    requires capacity { vec_len workers ≤ handed.old.capacity }
     ensures unchanged { keeper.new ≡ keeper.old }
     ensures handed { HaveHandedIn setting.now.claims setting.now.config.now.clients
         setting.now.arrivals.now keeper.old handed.old.outcomes (vec_len workers) handed.new }
@@ -120,7 +120,7 @@ fn take_in<L: Opened + Logged>(
 ) -> Vec<Frame>
     requires finished { HasFinished setting.now.claims setting.now.config.now.clients
         setting.now.arrivals.now worker }
-    requires room { length handed.old.seats < handed.old.room }
+    requires capacity { length handed.old.seats < handed.old.capacity }
     ensures unchanged { keeper.new ≡ keeper.old }
     ensures handed { TakesIn setting.now.claims setting.now.config.now.clients
         setting.now.arrivals.now keeper.old handed.old handed.new }

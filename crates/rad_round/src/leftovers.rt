@@ -43,7 +43,7 @@ impl Leftovers {
         }
     }
 
-    /// An empty history with room for so many entries.
+    /// An empty history with memory for so many entries.
     pub fn take_history(&mut self, count: usize) -> Result<Vec<Entry>, AllocError>
         ensures { IfOk result (λ history. history.items ≡ []) }
     {

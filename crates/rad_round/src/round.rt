@@ -3,14 +3,14 @@ ghost use Rattle.std.specs.Prelude.{◌≡◌, ◌<◌, ◌≤◌, length, vec_l
 ghost use Rattle.rad_claim.specs.Claims.{IsNewSeatOf};
 ghost use Rattle.rad_server.specs.Runs.{IsMarkedHistory};
 ghost use Rattle.rad_round.specs.Rounds.{AreMoments, Round, arrivals_max};
-ghost use Rattle.rad_round.specs.Works.{HasFinished, IsIdle, IsRoomFor};
+ghost use Rattle.rad_round.specs.Works.{HasFinished, IsIdle, IsMemoryFor};
 
 use crate::batch::batch_count;
 use crate::done::Marked;
 use crate::gate::Gate;
 use crate::gather::gather;
 use crate::leftovers::Leftovers;
-use crate::room::Room;
+use crate::memory::Memory;
 use crate::shared::{OpenRound, Setting, Shared};
 use crate::timed::Timed;
 use crate::worker::Worker;
@@ -29,12 +29,12 @@ use std::thread::{Threads, for_each_mut};
 pub(crate) fn run_round<'c, R: Threads + Wait + Sync, G: Gate + Sync>(
     rt: &R,
     server: Server<'c>,
-    room: Room,
+    memory: Memory,
     arrivals: &[Timed],
     gate: &G,
     leftovers: &mut Leftovers,
 ) -> Result<(Server<'c>, Marked), Server<'c>>
-    requires room { IsRoomFor arrivals.now room.claims.seats room }
+    requires memory { IsMemoryFor arrivals.now memory.claims.seats memory }
     requires count { length arrivals.now ≤ arrivals_max }
     requires moments { AreMoments arrivals.now }
     ensures round { IfOk result (λ made. Round server.entry arrivals.now
@@ -43,21 +43,21 @@ pub(crate) fn run_round<'c, R: Threads + Wait + Sync, G: Gate + Sync>(
         made.1.done.history.items made.1.marks.items made.0) }
     ensures unchanged { IfErr result (λ left. left ≡ server.entry) }
 {
-    run_in::<Brand, R, G>(rt, server, room, arrivals, gate, leftovers)
+    run_in::<Brand, R, G>(rt, server, memory, arrivals, gate, leftovers)
 }
 
 // The same, where `L` stands for the round's own ledger and log: `run_round` gives it a brand that no other round has.
 fn run_in<'c, L: Opened + Logged + Send + Sync, R: Threads + Wait + Sync, G: Gate + Sync>(
     rt: &R,
     server: Server<'c>,
-    room: Room,
+    memory: Memory,
     arrivals: &[Timed],
     gate: &G,
     leftovers: &mut Leftovers,
 ) -> Result<(Server<'c>, Marked), Server<'c>>
-    requires room { IsRoomFor arrivals.now L.parts room }
-    requires blank { (room.blank.name ≡ L.name) × (room.blank.parts ≡ L.parts) }
-    requires log { room.log ≡ L.table }
+    requires memory { IsMemoryFor arrivals.now L.parts memory }
+    requires blank { (memory.blank.name ≡ L.name) × (memory.blank.parts ≡ L.parts) }
+    requires log { memory.log ≡ L.table }
     requires opening { server ≡ L.opening }
     requires count { length arrivals.now ≤ arrivals_max }
     requires moments { AreMoments arrivals.now }
@@ -67,7 +67,7 @@ fn run_in<'c, L: Opened + Logged + Send + Sync, R: Threads + Wait + Sync, G: Gat
         made.1.done.history.items made.1.marks.items made.0) }
     ensures unchanged { IfErr result (λ left. left ≡ L.opening) }
 {
-    let Room {
+    let Memory {
         alloc,
         blank,
         log,
@@ -78,7 +78,7 @@ fn run_in<'c, L: Opened + Logged + Send + Sync, R: Threads + Wait + Sync, G: Gat
         history,
         marks,
         outcomes,
-    } = room;
+    } = memory;
     let (total, mut rest) = blank.open::<L>();
     let setting = Setting {
         log,
@@ -97,7 +97,7 @@ fn run_in<'c, L: Opened + Logged + Send + Sync, R: Threads + Wait + Sync, G: Gat
     Ok(gather(round, workers, returned, outcomes, leftovers))
 }
 
-// A worker for each seat, with room for all batches.
+// A worker for each seat, with memory for all batches.
 fn begin<L: Opened + Logged>(
     alloc: Global,
     setting: &Setting<L>,

@@ -12,7 +12,7 @@ use crate::batch::batch_count;
 use crate::done::{Done, Marked};
 use crate::gate::Gate;
 use crate::leftovers::Leftovers;
-use crate::room::Room;
+use crate::memory::Memory;
 use crate::round::run_round;
 use crate::round_fault::RoundFault;
 use crate::timed::Timed;
@@ -160,11 +160,11 @@ impl<'c> Service<'c> {
             server: current,
             leftovers,
         } = self;
-        let room = Room::new(*alloc, arrivals, workers, leftovers)?;
+        let memory = Memory::new(*alloc, arrivals, workers, leftovers)?;
         let Some(server) = current.take() else {
             unreachable!()
         };
-        match run_round(rt, server, room, arrivals, gate, leftovers) {
+        match run_round(rt, server, memory, arrivals, gate, leftovers) {
             Ok((server, marked)) => {
                 *current = Some(server);
                 Ok(marked)

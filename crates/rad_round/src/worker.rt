@@ -63,12 +63,12 @@ impl<L: Opened + Logged> Model for Worker<L> {
       parts = worker.share.parts;
       amount = worker.share.amount;
       answered = worker.answered.items;
-      room = vec_capacity worker.answered;
+      capacity = vec_capacity worker.answered;
     } };
 }
 
 impl<L: Opened + Logged> Worker<L> {
-    /// A worker that has done nothing, with room for so many batches.
+    /// A worker that has done nothing, with memory for so many batches.
     pub fn new(
         alloc: Global,
         seat: ClaimSeat,
@@ -80,7 +80,7 @@ impl<L: Opened + Logged> Worker<L> {
         ensures share { IfOk result (λ worker.
             (worker.parts ≡ share.parts) × (worker.amount ≡ share.amount)) }
         ensures none { IfOk result (λ worker. worker.answered ≡ []) }
-        ensures room { IfOk result (λ worker. batches ≤ worker.room) }
+        ensures capacity { IfOk result (λ worker. batches ≤ worker.capacity) }
     {
         Ok(Worker {
             seat: Some(seat),
@@ -114,7 +114,7 @@ impl<L: Opened + Logged> Worker<L> {
     fn answer<R: Wait, G: Gate>(&mut self, rt: &R, round: &OpenRound<L>, gate: &G, number: usize)
         requires number { number * 8 < arrivals_max }
         requires part { self.old.parts ≡ 1 }
-        requires room { length self.old.answered < self.old.room }
+        requires capacity { length self.old.answered < self.old.capacity }
         ensures { Adds round.now.setting.config.now.clients round.now.setting.arrivals.now
             number self.old self.new }
     {

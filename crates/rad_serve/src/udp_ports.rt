@@ -168,7 +168,7 @@ impl<'r, C: Clock> UdpPorts<'r, C> {
     // Counts a failure, up to the last count, and remembers it. Whether it was counted.
     fn count(&mut self, failed: FailedCall) -> bool
         ensures counted { self.new.failures ≡ self.old.failures + cond result 1 0 }
-        ensures room { IsTrue result → self.old.failures < failures_max }
+        ensures few { IsTrue result → self.old.failures < failures_max }
         ensures last { (result ≡ false) → self.old.failures ≡ failures_max }
         ensures reported { self.new.reported ≡ self.old.reported }
         ensures remembered { IsTrue result → self.new.last_failure ≡ Some failed }
@@ -215,7 +215,7 @@ impl<'r, C: Clock> UdpPorts<'r, C> {
     fn receive_at(
         &mut self,
         door: Door,
-        room: &mut [u8; RECEIVED_MAX],
+        buffer: &mut [u8; RECEIVED_MAX],
     ) -> Result<Option<Got>, PortFault>
         ensures received { IfOk result (λ got. IfSome got IsReceived) }
         ensures noted { IfOk result (λ got.
@@ -227,7 +227,7 @@ impl<'r, C: Clock> UdpPorts<'r, C> {
         if !self.asking.may_have(door) {
             return Ok(None);
         }
-        match self.socket(door).recv_from(room) {
+        match self.socket(door).recv_from(buffer) {
             Ok((len, SocketAddr::V4(source))) => {
                 self.asking.count(door);
                 Ok(Some(Got {
@@ -296,12 +296,12 @@ impl<'r, C: Clock> Ports for UdpPorts<'r, C> {
         self.clock.sleep(Duration::from_secs(WAIT_SECONDS));
     }
 
-    fn receive(&mut self, room: &mut [u8; RECEIVED_MAX]) -> Result<Option<Got>, PortFault> {
+    fn receive(&mut self, buffer: &mut [u8; RECEIVED_MAX]) -> Result<Option<Got>, PortFault> {
         let [first, second] = self.asking.order();
-        if let Some(got) = self.receive_at(first, room)? {
+        if let Some(got) = self.receive_at(first, buffer)? {
             return Ok(Some(got));
         }
-        self.receive_at(second, room)
+        self.receive_at(second, buffer)
     }
 
     fn send(

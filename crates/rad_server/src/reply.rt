@@ -105,7 +105,7 @@ pub(crate) fn accounting_response(alloc: Global, request: &Request) -> Result<Bo
     ensures value { IfOk result (λ body. body ≡ accounting_response request.now.packet) }
     ensures reply { IfOk result IsReply }
 {
-    let mut body = Body::with_room(alloc, ACCOUNTING_RESPONSE, request.proxy_states)?;
+    let mut body = Body::with_capacity(alloc, ACCOUNTING_RESPONSE, request.proxy_states)?;
     copy_proxy_states(request, &mut body)?;
     Ok(body)
 }
@@ -140,7 +140,7 @@ fn status_accept(alloc: Global, request: &Request) -> Result<Body, AllocError>
 fn access_body(alloc: Global, code: u8, size: usize) -> Result<Body, AllocError>
     ensures { IfOk result (λ body. body ≡ access_front code) }
 {
-    let mut body = Body::with_room(alloc, code, size)?;
+    let mut body = Body::with_capacity(alloc, code, size)?;
     body.push(MESSAGE_AUTHENTICATOR, &[0; 16])?;
     Ok(body)
 }

@@ -68,18 +68,18 @@ take_twice (suc n) [] = refl
 take_twice (suc n) (x ∷ rest) = ap (λ more. x ∷ more) (take_twice n rest)
 
 -- one more received
-pub received_more : (before now after : Option (List Passage)) (got : List Got) (octets room : List ℕ) (one : Got)
+pub received_more : (before now after : Option (List Passage)) (got : List Got) (octets buffer : List ℕ) (one : Got)
     → octet_count got ≡ length octets → HavePassed (map In (came_in got octets)) before now
-    → HavePassed (received (Ok (Some one)) room) now after
-    → HavePassed (map In (came_in (got ++ one ∷ []) (octets ++ take one.len room))) before after
-received_more before now after got octets room one sum passed came =
-    let same = take_twice one.len room in
-    passed_as (map In (came_in got octets) ++ In (came_by one (take one.len room)) ∷ [])
-    (map In (came_in (got ++ one ∷ []) (octets ++ take one.len room))) before after
+    → HavePassed (received (Ok (Some one)) buffer) now after
+    → HavePassed (map In (came_in (got ++ one ∷ []) (octets ++ take one.len buffer))) before after
+received_more before now after got octets buffer one sum passed came =
+    let same = take_twice one.len buffer in
+    passed_as (map In (came_in got octets) ++ In (came_by one (take one.len buffer)) ∷ [])
+    (map In (came_in (got ++ one ∷ []) (octets ++ take one.len buffer))) before after
     (ap (λ o. map In (came_in got octets) ++ In (came_by one o) ∷ []) (sym same)
-    ∙ sym (map-append In (came_in got octets) (came_by one (take one.len (take one.len room)) ∷ []))
-    ∙ ap (λ c. map In c) (sym (came_in-append got octets one (take one.len room) sum)))
-    (both_passed (map In (came_in got octets)) (In (came_by one (take one.len room)) ∷ []) before now after passed came)
+    ∙ sym (map-append In (came_in got octets) (came_by one (take one.len (take one.len buffer)) ∷ []))
+    ∙ ap (λ c. map In c) (sym (came_in-append got octets one (take one.len buffer) sum)))
+    (both_passed (map In (came_in got octets)) (In (came_by one (take one.len buffer)) ∷ []) before now after passed came)
 
 -- after a full turn nothing more is received
 emptied_full : (came : List Came) → length came ≡ arrivals_max → emptied came ≡ []
@@ -106,10 +106,10 @@ received_full got octets before after full passed =
     (sym (append-nil (map In came)) ∙ ap (λ list. map In came ++ list) (sym (emptied_full came (came_in-length got octets ∙ full)))) passed
 
 -- all were received, as none waits
-pub received_until : (got : List Got) (octets room : List ℕ) (before now after : Option (List Passage)) → length got < arrivals_max
-    → HavePassed (map In (came_in got octets)) before now → HavePassed (received (Ok None) room) now after
+pub received_until : (got : List Got) (octets buffer : List ℕ) (before now after : Option (List Passage)) → length got < arrivals_max
+    → HavePassed (map In (came_in got octets)) before now → HavePassed (received (Ok None) buffer) now after
     → HavePassed (received_all (Ok tt) (came_in got octets)) before after
-received_until got octets room before now after few passed none =
+received_until got octets buffer before now after few passed none =
     let came = came_in got octets in
     let fewer : length came < arrivals_max = subst (λ n. n < arrivals_max) (sym (came_in-length got octets)) few in
     passed_as (map In came ++ Empty ∷ []) (map In came ++ emptied came) before after

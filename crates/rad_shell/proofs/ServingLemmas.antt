@@ -21,7 +21,7 @@ use Rattle.rad_journal.specs.Leads.{FreshAreKept, KeptLastOverTime, KeptLeadOn}
 use Rattle.rad_journal.specs.declared.journal.JournalFault.{JournalFault}
 use Rattle.rad_journal.specs.declared.kept.Kept.{Kept}
 use Rattle.rad_shell.specs.Passages.{Came, Fault, HavePassed, In, Out, Passage, Went, clock_told}
-use Rattle.rad_shell.specs.Serving.{AddTurn, AddUp, AddsTurn, AreSent, AreTurns, AreTurnsSoFar, HasDrawn, IsAnswered, IsBetween, IsCounted, IsLost, IsMade, IsRoundMade, IsServed, IsWithoutRoom, Outlives, Situation, Tally, UnlessJournal, between, came_of, emptied, exchange_count, is_exchanged, is_replied, is_reply, no_sums, no_turn, nothing_done, one_more, received_all, replied_count, replies, reply_count, round_lost, stopped, with_turn}
+use Rattle.rad_shell.specs.Serving.{AddTurn, AddUp, AddsTurn, AreSent, AreTurns, AreTurnsSoFar, HasDrawn, IsAnswered, IsBetween, IsCounted, IsLost, IsMade, IsRoundMade, IsServed, IsWithoutMemory, Outlives, Situation, Tally, UnlessJournal, between, came_of, emptied, exchange_count, is_exchanged, is_replied, is_reply, no_sums, no_turn, nothing_done, one_more, received_all, replied_count, replies, reply_count, round_lost, stopped, with_turn}
 use Rattle.rad_round.specs.declared.outcome.Outcome.{Outcome}
 use Rattle.rad_round.specs.declared.outcome.Outcome.TheVariants.{Dropped, Busy, NoMemory, Reply}
 use Rattle.rad_shell.specs.declared.ports.PortFault.{PortFault}
@@ -343,7 +343,7 @@ IsTurnOf keeps before served result after served_after clean kept kept_now left 
 
 lost : {A : Type 0} (keeps : Bool) (before : Situation) (served : Served) (result : A) (after : Situation) (served_after : Served)
     (clean : Type 0) (kept : List Kept) (left : List Kept → Type 0)
-    → IsLost before after ⊎ IsWithoutRoom before after → after.server ≡ before.server → AddTurn 0 0 1 served served_after
+    → IsLost before after ⊎ IsWithoutMemory before after → after.server ≡ before.server → AddTurn 0 0 1 served served_after
     → IsTurnOf keeps before served (Ok result) after served_after clean kept kept left left
 lost keeps before served result after served_after clean kept left is server sums = (
   record {
@@ -357,7 +357,7 @@ lost keeps before served result after served_after clean kept left is server sum
   λ _. adds_none kept round_lost (Ok result) left refl,
 )
 
--- a turn without room for datagrams
+-- a turn without memory for datagrams
 pub idle_turn : {A : Type 0} (keeps : Bool) (before : Situation) (served : Served) (waited : Option (List Passage)) (result : A) (after : Situation)
     (served_after : Served) (clean : Type 0) (kept : List Kept) (left : List Kept → Type 0)
     → HavePassed [] before.passed waited → HavePassed [] waited after.passed

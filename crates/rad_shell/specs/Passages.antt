@@ -44,11 +44,11 @@ came_by got octets = record {
   moment = got.moment;
 }
 
--- what a call received: a datagram, whose octets are at the beginning of the room, or none
+-- what a call received: a datagram, whose octets are at the beginning of the buffer, or none
 abbrev pub received : Result (Option Got) PortFault → List ℕ → List Passage
-received (Ok (Some got)) room = In (came_by got (take got.len room)) ∷ []
-received (Ok None) room = Empty ∷ []
-received (Err fault) room = Fault ∷ []
+received (Ok (Some got)) buffer = In (came_by got (take got.len buffer)) ∷ []
+received (Ok None) buffer = Empty ∷ []
+received (Err fault) buffer = Fault ∷ []
 
 -- what a call sent
 abbrev pub sent : Result (Unit {0}) PortFault → Went → List Passage

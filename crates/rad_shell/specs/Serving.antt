@@ -30,7 +30,7 @@ use Rattle.rad_shell.specs.declared.serve_fault.ServeFault.{ServeFault}
 use Rattle.rad_shell.specs.declared.serve_fault.ServeFault.TheVariants as faults
 use Rattle.rad_shell.specs.declared.served.Served.{Served}
 
--- what a port received fits its room, and its moment isn't too late
+-- what a port received fits its buffer, and its moment isn't too late
 pub record IsReceived (got : Got) : Type 0 where
   pub fits : got.len ≤ length_max
   pub moment : got.moment ≤ moment_max
@@ -101,7 +101,7 @@ outcome_count served = served.replies + served.drops + served.busy + served.nome
 abbrev pub no_sums : Served
 no_sums = record { rounds = 0; datagrams = 0; replies = 0; drops = 0; busy = 0; nomemory = 0; failed = 0 }
 
--- two numbers together, or the greatest number that there is room for
+-- two numbers together, or the greatest number that fits
 abbrev pub capped_sum : ℕ → ℕ → ℕ
 capped_sum first second = min (first + second) (2 ^ 64 - 1)
 
@@ -218,8 +218,8 @@ pub record IsLost (before : Situation) (after : Situation) : Type 0 where
   pub random : after.random ≡ after_draws (length came) before.random
   pub server : after.server ≡ before.server
 
--- a turn that has no room for datagrams: none is received, and all is as it was
-pub record IsWithoutRoom (before : Situation) (after : Situation) : Type 0 where
+-- a turn that has no memory for datagrams: none is received, and all is as it was
+pub record IsWithoutMemory (before : Situation) (after : Situation) : Type 0 where
   pub passed : HavePassed [] before.passed after.passed
   pub random : after.random ≡ before.random
   pub server : after.server ≡ before.server
@@ -236,7 +236,7 @@ pub record IsCutShort (before : Situation) (after : Situation) : Type 0 where
 abbrev pub IsTurn : Bool → Situation → Tally → Result (Unit {0}) ServeFault → Situation → Type 0
 IsTurn keeps before tally (Ok done) after =
     (IsMade keeps before tally.history tally.kept [] after × (tally.lost ≡ 0) × (tally.unkept ≡ []))
-    ⊎ ((IsLost before after ⊎ IsWithoutRoom before after) × (tally ≡ round_lost))
+    ⊎ ((IsLost before after ⊎ IsWithoutMemory before after) × (tally ≡ round_lost))
 IsTurn keeps before tally (Err faults.Receive) after = IsCutShort before after × (tally ≡ nothing_done)
 IsTurn keeps before tally (Err faults.Send) after =
     (next : Went) × (rest : List Went) × IsMade keeps before tally.history tally.kept (next ∷ rest) after × (tally.lost ≡ 0) × (tally.unkept ≡ [])

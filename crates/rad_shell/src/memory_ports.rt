@@ -173,7 +173,7 @@ impl Ports for MemoryPorts {
         self.pauses = self.pauses.saturating_add(1);
     }
 
-    fn receive(&mut self, room: &mut [u8; RECEIVED_MAX]) -> Result<Option<Got>, PortFault> {
+    fn receive(&mut self, buffer: &mut [u8; RECEIVED_MAX]) -> Result<Option<Got>, PortFault> {
         if self.fails() {
             self.note(Ok(Passed::Fault));
             return Err(PortFault);
@@ -183,7 +183,7 @@ impl Ports for MemoryPorts {
             return Ok(None);
         };
         let len = next.octets.len().min(RECEIVED_MAX);
-        room[..len].copy_from_slice(&next.octets[..len]);
+        buffer[..len].copy_from_slice(&next.octets[..len]);
         let got = Got {
             source: next.address,
             port: next.port,
@@ -191,7 +191,7 @@ impl Ports for MemoryPorts {
             len,
             moment: next.moment.min(MOMENT_MAX),
         };
-        let one = came(self.alloc, next.turn, &got, &room[..len]);
+        let one = came(self.alloc, next.turn, &got, &buffer[..len]);
         self.received += 1;
         self.note(one);
         Ok(Some(got))

@@ -11,7 +11,7 @@ use thiserror::Error;
 /// The most octets of a datagram that are received: a packet has no more (RFC 2865, section 3), and what follows is padding.
 pub const RECEIVED_MAX: usize = 4096;
 
-/// A datagram that was received. Its octets are in the room that was lent for them.
+/// A datagram that was received. Its octets are in the buffer that was lent for them.
 #[derive(Clone, Copy, Debug, PartialEq, Eq)]
 pub struct Got {
     /// The source address, most significant octet first.
@@ -20,7 +20,7 @@ pub struct Got {
     pub port: u16,
     /// The server's port that it came to.
     pub door: Door,
-    /// How many octets of the room are the datagram's, at most `RECEIVED_MAX`.
+    /// How many octets of the buffer are the datagram's, at most `RECEIVED_MAX`.
     pub len: usize,
     /// When it came, in milliseconds, at most `MOMENT_MAX`.
     pub moment: u64,
@@ -53,7 +53,7 @@ pub enum PortCall {
 ///
 /// Who implements it counts the failures. A failure that concerns one datagram alone, such as a destination that can't be reached,
 /// may be counted without being reported: the datagram is lost, as on any network. When the count is 2^64 - 1 it stays, and nothing
-/// is reported any more. A datagram is received into room that the caller lends, so that receiving needs no memory.
+/// is reported any more. A datagram is received into a buffer that the caller lends, so that receiving takes no memory.
 ///
 /// Contracts see what passed, in this order: each datagram that was received, or that none waited; each that was handed over to be sent;
 /// each moment that the clock told; each fault that was reported. Ports that can't tell say `None`. A caller can't see which ports it has.
@@ -80,12 +80,12 @@ pub trait Ports {
         ensures counted { failures self.old ≤ failures self.new }
     {}
 
-    /// Receives the next datagram, if one waits: its first 4,096 octets go to the beginning of the room.
+    /// Receives the next datagram, if one waits: its first 4,096 octets go to the beginning of the buffer.
     ///
     /// Returns `PortFault` only if a failure was counted in the call.
-    fn receive(&mut self, room: &mut [u8; RECEIVED_MAX]) -> Result<Option<Got>, PortFault>
+    fn receive(&mut self, buffer: &mut [u8; RECEIVED_MAX]) -> Result<Option<Got>, PortFault>
         ensures received { IfOk result (λ got. IfSome got IsReceived) }
-        ensures passed { HavePassed (received result room.new) (passed self.old) (passed self.new) }
+        ensures passed { HavePassed (received result buffer.new) (passed self.old) (passed self.new) }
         ensures reported { reported self.new ≡ reported self.old + reported_by result }
         ensures counted { failures self.old ≤ failures self.new }
         ensures fault { IfErr result (λ _. failures self.old < failures self.new) };

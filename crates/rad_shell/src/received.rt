@@ -13,7 +13,7 @@ use std::alloc::{AllocError, Global};
 /// The datagrams of a turn, with their draws. The memory for all of a full round is taken once.
 #[derive(Drop)]
 pub(crate) struct Received {
-    room: [u8; RECEIVED_MAX],
+    buffer: [u8; RECEIVED_MAX],
     // Those of one datagram after those of another.
     octets: Vec<u8>,
     got: Vec<Got>,
@@ -27,10 +27,10 @@ pub(crate) struct Received {
 }
 
 impl Received {
-    /// Room for the datagrams of a full round.
+    /// Memory for the datagrams of a full round.
     pub fn new(alloc: Global) -> Result<Received, AllocError> {
         Ok(Received {
-            room: [0; RECEIVED_MAX],
+            buffer: [0; RECEIVED_MAX],
             octets: Vec::with_capacity(alloc, RECEIVED_MAX * ARRIVALS_MAX)?,
             got: Vec::with_capacity(alloc, ARRIVALS_MAX)?,
             draws: Vec::with_capacity(alloc, ARRIVALS_MAX)?,
@@ -58,10 +58,10 @@ impl Received {
         self.octets.clear();
         self.got.clear();
         for _ in 0..ARRIVALS_MAX {
-            let Some(got) = ports.receive(&mut self.room)? else {
+            let Some(got) = ports.receive(&mut self.buffer)? else {
                 return Ok(());
             };
-            let Ok(()) = self.octets.extend_from_slice(&self.room[..got.len]) else {
+            let Ok(()) = self.octets.extend_from_slice(&self.buffer[..got.len]) else {
                 unreachable!();
             };
             self.got.push_reserved(got);

@@ -16,7 +16,7 @@ use std::thread::Threads;
 
 /// Answers the datagrams that come to ports, in so many turns, by at most so many workers, from 1 to `WORKERS_MAX`.
 ///
-/// It is `Turns::run` for a caller that makes no second call and watches none: the first turn takes the room for datagrams.
+/// It is `Turns::run` for a caller that makes no second call and watches none: the first turn takes the memory for datagrams.
 pub fn run_rounds<R: Threads + Wait + Sync, P: Ports, D: Rng, G: Gate + Sync>(
     service: &mut Service,
     rt: &R,

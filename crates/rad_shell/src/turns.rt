@@ -33,7 +33,7 @@ enum Left {
     Time,
 }
 
-/// What turns have besides a service and its ports: the source of their draws, the gate of their rounds, who watches them, and room for
+/// What turns have besides a service and its ports: the source of their draws, the gate of their rounds, who watches them, and memory for
 /// the datagrams of a turn, which each turn uses again.
 #[derive(Drop)]
 pub struct Turns<'a, D, G, W> {
@@ -41,31 +41,31 @@ pub struct Turns<'a, D, G, W> {
     gate: &'a G,
     watch: W,
     // None if its memory has been refused so far.
-    room: Option<Received>,
+    memory: Option<Received>,
 }
 
 impl<'a, D: Rng, G: Gate + Sync, W: Watch + Drop> Turns<'a, D, G, W> {
-    /// Takes the room, so that no turn can be refused it.
+    /// Takes the memory, so that no turn can be refused it.
     pub fn open(
         alloc: Global,
         random: &'a mut D,
         gate: &'a G,
         watch: W,
     ) -> Result<Turns<'a, D, G, W>, AllocError>
-        ensures room { IfOk result (λ turns. IsSome turns.room) }
+        ensures memory { IfOk result (λ turns. IsSome turns.memory) }
         ensures random { IfOk result (λ turns. turns.random.ghost_name ≡ random.entry.ghost_name) }
         ensures stream { IfOk result (λ turns. turns.random.now ≡ random.old) }
     {
-        let room = Some(Received::new(alloc)?);
+        let memory = Some(Received::new(alloc)?);
         Ok(Turns {
             random,
             gate,
             watch,
-            room,
+            memory,
         })
     }
 
-    /// Turns whose first one takes the room. A turn that is refused it is lost, and the next one tries again.
+    /// Turns whose first one takes the memory. A turn that is refused it is lost, and the next one tries again.
     pub(crate) fn without_room(random: &'a mut D, gate: &'a G, watch: W) -> Turns<'a, D, G, W>
         ensures random { result.random.ghost_name ≡ random.entry.ghost_name }
         ensures stream { result.random.now ≡ random.old }
@@ -74,7 +74,7 @@ impl<'a, D: Rng, G: Gate + Sync, W: Watch + Drop> Turns<'a, D, G, W> {
             random,
             gate,
             watch,
-            room: None,
+            memory: None,
         }
     }
 
@@ -173,12 +173,12 @@ impl<'a, D: Rng, G: Gate + Sync, W: Watch + Drop> Turns<'a, D, G, W> {
         Ok(served)
     }
 
-    // Takes the room for datagrams if there is none, unless memory is refused.
+    // Takes the memory for datagrams if there is none, unless memory is refused.
     fn take_room(&mut self, alloc: Global)
         ensures { self.new.random ≡ self.old.random }
     {
-        if self.room.is_none() {
-            self.room = Received::new(alloc).ok();
+        if self.memory.is_none() {
+            self.memory = Received::new(alloc).ok();
         }
     }
 
@@ -226,9 +226,9 @@ impl<'a, D: Rng, G: Gate + Sync, W: Watch + Drop> Turns<'a, D, G, W> {
             random,
             gate,
             watch,
-            room,
+            memory,
         } = self;
-        let Some(received) = room else {
+        let Some(received) = memory else {
             served.add_lost(0);
             watch.lost(service, 0);
             ports.pause();

@@ -15,7 +15,7 @@ pub(crate) fn body_of(alloc: Global, code: u8, octets: &[u8]) -> Result<Option<B
     ensures none { IfOk result (λ found. found ≡ None
         → is_some (attributes_of octets.now) ≡ false) }
 {
-    let mut body = Body::with_room(alloc, code, octets.len())?;
+    let mut body = Body::with_capacity(alloc, code, octets.len())?;
     if !push_all(&mut body, octets)? {
         return Ok(None);
     }

@@ -4,14 +4,14 @@ ghost use Rattle.rad_snapshot.specs.Restoring.{IsNext, left};
 
 use crate::filling::{fill_challenge, fill_reply, fill_session};
 use rad_journal::JournalFault;
-use rad_pool::Rows;
+use rad_pool::SessionRows;
 use rad_recent::{ChallengeRows, KeptRows};
 use sqlite_value::row::Row;
 
 /// The rows of a table that are left to be written, oldest first.
 #[derive(Drop)]
 pub(crate) enum Rest<'a> {
-    Sessions(Rows<'a>),
+    Sessions(SessionRows<'a>),
     Replies(KeptRows<'a>),
     Challenges(ChallengeRows<'a>),
 }

@@ -37,7 +37,7 @@ pub enum OpenFault {
     /// The disk or the database has no room, or the configuration is too long for a row.
     #[error("no room is left")]
     NoRoom,
-    /// There are more entries than a journal has room for.
+    /// There are more entries than a journal may have.
     #[error("it is full")]
     JournalFull,
     /// A row of the snapshot isn't one that a server takes back.

@@ -69,7 +69,7 @@ enum Run {
 
 /// The runs, each with its name: the call, and then what it is made on. A call `without memory` makes no allocation.
 const RUNS: &[(&str, Run)] = &[
-    ("Body::with_room", Run::Packet(packets::Call::WithRoom)),
+    ("Body::with_capacity", Run::Packet(packets::Call::WithRoom)),
     ("Body::push", Run::Packet(packets::Call::Push)),
     (
         "Body::push on a shared body",

@@ -63,7 +63,7 @@ impl BodyTrial {
 }
 
 fn body(alloc: Global, call: Call) -> Result<Body, AllocError> {
-    let mut body = Body::with_room(alloc, ACCESS_ACCEPT, room(call))?;
+    let mut body = Body::with_capacity(alloc, ACCESS_ACCEPT, room(call))?;
     body.push(USER_NAME, NAME)?;
     if let Call::PushShared | Call::AppendShared | Call::CopyShared = call {
         body.share()?;
@@ -104,7 +104,7 @@ impl Trial for BodyTrial {
     fn call(&mut self) -> Called {
         match self.call {
             Call::WithRoom => {
-                let result = Body::with_room(self.alloc, ACCESS_ACCEPT, 64);
+                let result = Body::with_capacity(self.alloc, ACCESS_ACCEPT, 64);
                 keep(&mut self.given, result)
             }
             Call::Append | Call::AppendShared => Called::by(self.body.append(&self.other).is_ok()),

@@ -460,6 +460,6 @@ fn let_come(alloc: Global, ports: &mut MemoryPorts) -> bool {
 }
 
 fn receives(ports: &mut MemoryPorts) -> bool {
-    let mut room = [0; RECEIVED_MAX];
-    matches!(ports.receive(&mut room), Ok(Some(_)))
+    let mut buffer = [0; RECEIVED_MAX];
+    matches!(ports.receive(&mut buffer), Ok(Some(_)))
 }

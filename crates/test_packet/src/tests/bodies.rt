@@ -76,7 +76,7 @@ fn writes_the_reply(rt: HostRuntime) {
 }
 
 fn is_reply_with_room(alloc: Global, size: usize) -> Result<bool, AllocError> {
-    let reply = with_reply(Body::with_room(alloc, code::ACCESS_ACCEPT, size)?)?;
+    let reply = with_reply(Body::with_capacity(alloc, code::ACCESS_ACCEPT, size)?)?;
     Ok(says(&reply, 2, &REPLY[20..]))
 }
 

@@ -23,8 +23,8 @@ fn received(got: Result<Option<Got>, PortFault>) -> Option<(Door, usize)> {
 }
 
 fn next_is<P: Ports>(rt: &impl Abort, ports: &mut P, wanted: Option<(Door, usize)>, what: &str) {
-    let mut room = [0; RECEIVED_MAX];
-    holds(rt, received(ports.receive(&mut room)) == wanted, what);
+    let mut buffer = [0; RECEIVED_MAX];
+    holds(rt, received(ports.receive(&mut buffer)) == wanted, what);
 }
 
 fn empties_auth_first<R: Abort + Wait, P: Ports>(rt: &R, ports: &mut P, client: &UdpSocket) {
@@ -125,9 +125,9 @@ fn each_port_wakes_an_idle_server_up(rt: HostRuntime) -> Result<(), Fail> {
 
 // The moment of the next datagram.
 fn moment<R: Wait, P: Ports>(rt: &R, ports: &mut P) -> Option<u64> {
-    let mut room = [0; RECEIVED_MAX];
+    let mut buffer = [0; RECEIVED_MAX];
     ports.wait(rt);
-    match ports.receive(&mut room) {
+    match ports.receive(&mut buffer) {
         Ok(Some(got)) => Some(got.moment),
         _ => None,
     }

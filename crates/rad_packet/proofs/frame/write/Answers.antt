@@ -15,7 +15,7 @@ returns-then-size-clause-unchanged c = grind (arith, common_steps)
 pub returns-clause-read_again : goal.returns-clause-read_again
 returns-clause-read_again c = λ rest.
     let p : Packet = packet_of_body c.args.body.now c.args.identifier c.args.authenticator.now in
-    let octets : List ℕ = take (20 + c.size-len.result) (with_items c.frame.inside.room c.spell.new.room).items in
+    let octets : List ℕ = take (20 + c.size-len.result) (with_items c.frame.inside.buffer c.spell.new.buffer).items in
     let written : octets ≡ packet_octets p = grind (arith, common_steps) in
     again (octets ++ rest) p (record {
       fits = omega (arith, c.if-size.false, c.size.ensures);

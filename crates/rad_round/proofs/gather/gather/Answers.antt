@@ -40,7 +40,7 @@ returns-clause-round g c =
       parts = c.handed.inside.share.parts;
       amount = c.handed.inside.share.amount;
       outcomes = c.handed.inside.outcomes.items;
-      room = vec_capacity c.handed.inside.seats;
+      capacity = vec_capacity c.handed.inside.seats;
     } in
     let view : handed ≡ c.hand_in.new.handed = c.handed.view_is in
     let have : HaveHandedIn setting.claims opening.configuration.clients arrivals log c.args.outcomes.items (vec_len c.args.workers) handed =

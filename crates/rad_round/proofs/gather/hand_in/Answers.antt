@@ -7,7 +7,7 @@ use Rattle.rad_round.proofs.gather.hand_in.Goals as goal
 pub loop-worker-init : goal.loop-worker-init
 loop-worker-init g c = record {
   unchanged = refl;
-  room = refl;
+  capacity = refl;
   finished = c.requires.finished;
   count = 0;
   counted = omega arith;
@@ -28,7 +28,7 @@ loop-worker-preserved g c =
     c.take_in-frames.ensures.handed in
     record {
       unchanged = c.take_in-frames.ensures.unchanged ∙ c.loop-worker.invariant.unchanged;
-      room = takes.room ∙ c.loop-worker.invariant.room;
+      capacity = takes.capacity ∙ c.loop-worker.invariant.capacity;
       finished = (All-pop (HasFinished claims clients arrivals) c.loop-worker.workers.items c.pop.new.self.items (Some c.in-Some.worker)
           c.in-Some.ensures.items c.loop-worker.invariant.finished).0;
       count = c.loop-worker.invariant.count + 1;

@@ -5,7 +5,7 @@ use Rattle.rad_round.proofs.gather.hand_in.Given as goal
 abbrev pub invariant-loop-worker : goal.invariant-loop-worker
 invariant-loop-worker g l = record {
   unchanged : l.keeper ≡ l.initial.keeper;
-  room : l.handed.room ≡ l.initial.handed.room;
+  capacity : l.handed.capacity ≡ l.initial.handed.capacity;
   finished : All (HasFinished l.setting.claims l.setting.config.now.clients l.setting.arrivals.now) l.workers.items;
   count : ℕ;
   counted : count + vec_len l.workers ≡ vec_len l.initial.workers;

@@ -36,5 +36,5 @@ returns-clause-handed g c =
       counted = omega (arith, c.merge.ensures.amount, finished.answered.counted);
       logged = c.put_all.ensures.logged;
       put = written ∙ put;
-      room = c.push_reserved.ensures.capacity;
+      capacity = c.push_reserved.ensures.capacity;
     })

@@ -22,6 +22,6 @@ loop-seat-preserved g c =
         part = worker.share.0 ∙ c.split_off-share.ensures.parts;
         amount = worker.share.1 ∙ c.split_off-share.ensures.amount;
         none = worker.none;
-        room = subst (λ n. n ≤ c.in_ok-worker.worker.room) (c.batch_count-batches.ensures ∙ sym c.args.setting.now.batches) worker.room;
+        capacity = subst (λ n. n ≤ c.in_ok-worker.worker.capacity) (c.batch_count-batches.ensures ∙ sym c.args.setting.now.batches) worker.capacity;
       }));
     }

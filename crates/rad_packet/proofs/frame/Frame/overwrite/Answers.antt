@@ -8,10 +8,10 @@ returns c =
     let place = c.args.place in
     let octets : List ℕ = c.args.octets.now in
     let len = c.self.inside.len in
-    let room : List ℕ = c.self.inside.room.items in
-    let within : place + length octets ≤ len = omega (arith, c.requires, ap length c.self.view_is, length-take-le len room) in
-    let whole : c.put.new.room ≡ take place room ++ octets ++ drop (place + length octets) room = rw (← c.deref_mut.ensures.value) c.put.ensures.whole in
-    let e : take len c.put.new.room ≡ take place (take len room) ++ octets ++ drop (place + length octets) (take len room) =
-    ap (take len) whole ∙ front_written place len room octets within (omega (arith, c.self.invariant)) in
-    let same : length c.put.new.room ≡ c.self.inside.room.len = omega (arith, c.put.auto.room, c.deref_mut.ensures.len) in
-    rw (← c.self.view_is) (ap (take len) (with_items_is c.self.inside.room c.put.new.room same) ∙ e)
+    let buffer : List ℕ = c.self.inside.buffer.items in
+    let within : place + length octets ≤ len = omega (arith, c.requires, ap length c.self.view_is, length-take-le len buffer) in
+    let whole : c.put.new.buffer ≡ take place buffer ++ octets ++ drop (place + length octets) buffer = rw (← c.deref_mut.ensures.value) c.put.ensures.whole in
+    let e : take len c.put.new.buffer ≡ take place (take len buffer) ++ octets ++ drop (place + length octets) (take len buffer) =
+    ap (take len) whole ∙ front_written place len buffer octets within (omega (arith, c.self.invariant)) in
+    let same : length c.put.new.buffer ≡ c.self.inside.buffer.len = omega (arith, c.put.auto.buffer, c.deref_mut.ensures.len) in
+    rw (← c.self.view_is) (ap (take len) (with_items_is c.self.inside.buffer c.put.new.buffer same) ∙ e)

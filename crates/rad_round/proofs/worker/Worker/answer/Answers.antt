@@ -13,9 +13,9 @@ prepare8-prepared-requires-clause-admitted g c =
 pub push_reserved-requires : goal.push_reserved-requires
 push_reserved-requires g c =
     let own = c.self.inside in
-    let room : length own.answered.items < vec_capacity own.answered =
-    subst (λ (w : Worker). length w.answered < w.room) (sym c.self.view_is) c.requires.room in
-    omega (arith, room, own.answered.ok.0)
+    let capacity : length own.answered.items < vec_capacity own.answered =
+    subst (λ (w : Worker). length w.answered < w.capacity) (sym c.self.view_is) c.requires.capacity in
+    omega (arith, capacity, own.answered.ok.0)
 
 pub returns : goal.returns
 returns g c =
@@ -32,5 +32,5 @@ returns g c =
       last = c.push_reserved.ensures.items;
       amount = batch.counted;
       part = batch.part ∙ sym (ap (λ (w : Worker). w.parts) c.self.view_is ∙ c.requires.part);
-      room = c.push_reserved.ensures.capacity;
+      capacity = c.push_reserved.ensures.capacity;
     })

@@ -7,7 +7,7 @@ abbrev pub invariant-loop-batch : goal.invariant-loop-batch
 invariant-loop-batch g l = record {
   own : IsSeatOf l.round.setting.claims l.seat;
   answered : HasAnswered l.round.setting.config.now.clients l.round.setting.arrivals.now l.seat.claimed l.self;
-  room : l.round.setting.claims.batches ≤ l.self.room;
+  capacity : l.round.setting.claims.batches ≤ l.self.capacity;
 }
 
 abbrev pub decreases-loop-batch : goal.decreases-loop-batch

@@ -3,7 +3,7 @@ use Rattle.rad_shell.specs.Passages.{HavePassed, In}
 use Rattle.rad_shell.specs.Serving.{IsReceived, came_in, octet_count}
 use Rattle.rad_shell.proofs.received.Received.receive.Given as goal
 
--- each datagram so far took at most 4096 octets of the room
+-- each datagram so far took at most 4096 octets of the buffer
 abbrev pub invariant-loop : goal.invariant-loop
 invariant-loop g l =
     record {
