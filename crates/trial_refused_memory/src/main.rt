@@ -69,15 +69,18 @@ enum Run {
 
 /// The runs, each with its name: the call, and then what it is made on. A call `without memory` makes no allocation.
 const RUNS: &[(&str, Run)] = &[
-    ("Body::with_capacity", Run::Packet(packets::Call::WithRoom)),
+    (
+        "Body::with_capacity",
+        Run::Packet(packets::Call::WithCapacity),
+    ),
     ("Body::push", Run::Packet(packets::Call::Push)),
     (
         "Body::push on a shared body",
         Run::Packet(packets::Call::PushShared),
     ),
     (
-        "Body::push into room, without memory",
-        Run::Packet(packets::Call::PushIntoRoom),
+        "Body::push into capacity, without memory",
+        Run::Packet(packets::Call::PushIntoCapacity),
     ),
     ("Body::append", Run::Packet(packets::Call::Append)),
     (

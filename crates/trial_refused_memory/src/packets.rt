@@ -8,10 +8,10 @@ use std::alloc::{AllocError, Global};
 
 #[derive(Clone, Copy)]
 pub(crate) enum Call {
-    WithRoom,
+    WithCapacity,
     Push,
     PushShared,
-    PushIntoRoom,
+    PushIntoCapacity,
     Append,
     AppendShared,
     Share,
@@ -63,7 +63,7 @@ impl BodyTrial {
 }
 
 fn body(alloc: Global, call: Call) -> Result<Body, AllocError> {
-    let mut body = Body::with_capacity(alloc, ACCESS_ACCEPT, room(call))?;
+    let mut body = Body::with_capacity(alloc, ACCESS_ACCEPT, size_for(call))?;
     body.push(USER_NAME, NAME)?;
     if let Call::PushShared | Call::AppendShared | Call::CopyShared = call {
         body.share()?;
@@ -77,9 +77,9 @@ fn body_with_message(alloc: Global) -> Result<Body, AllocError> {
     Ok(body)
 }
 
-fn room(call: Call) -> usize {
+fn size_for(call: Call) -> usize {
     match call {
-        Call::PushIntoRoom => 64,
+        Call::PushIntoCapacity => 64,
         _ => 6,
     }
 }
@@ -103,7 +103,7 @@ impl Trial for BodyTrial {
 
     fn call(&mut self) -> Called {
         match self.call {
-            Call::WithRoom => {
+            Call::WithCapacity => {
                 let result = Body::with_capacity(self.alloc, ACCESS_ACCEPT, 64);
                 keep(&mut self.given, result)
             }

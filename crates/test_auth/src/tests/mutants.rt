@@ -28,22 +28,22 @@ const CHANGES: &[Change; 4] = &[Change::Zero, Change::Ones, Change::Complement, 
 // A request that was changed.
 #[derive(Clone, Copy)]
 struct Changed {
-    room: [u8; LEN_MAX],
+    buffer: [u8; LEN_MAX],
     len: usize,
 }
 
 impl Changed {
     fn octets(&self) -> &[u8] {
-        &self.room[..self.len.min(LEN_MAX)]
+        &self.buffer[..self.len.min(LEN_MAX)]
     }
 }
 
 // A request that is changed at an octet, if it has that octet.
 fn change_at(octets: &[u8], place: usize, change: Change) -> Changed {
     let len = octets.len().min(LEN_MAX);
-    let mut room = [0; LEN_MAX];
-    room[..len].copy_from_slice(&octets[..len]);
-    let octet = &mut room[place % LEN_MAX];
+    let mut buffer = [0; LEN_MAX];
+    buffer[..len].copy_from_slice(&octets[..len]);
+    let octet = &mut buffer[place % LEN_MAX];
     let mut left = len;
     match change {
         Change::Zero => *octet = 0,
@@ -51,7 +51,7 @@ fn change_at(octets: &[u8], place: usize, change: Change) -> Changed {
         Change::Complement => *octet ^= 255,
         Change::Cut => left = len.min(place),
     }
-    Changed { room, len: left }
+    Changed { buffer, len: left }
 }
 
 // A call of `check8`: which request is in the first lane, and how it is changed. Each further lane has the next request, another
@@ -126,7 +126,7 @@ fn is_judged_alone(clients: &Clients, rows: &[Client], call: &Call) -> bool {
 }
 
 const NO_OCTETS: Changed = Changed {
-    room: [0; LEN_MAX],
+    buffer: [0; LEN_MAX],
     len: 0,
 };
 

@@ -7,13 +7,13 @@ use rad_auth::{PASSWORD_MAX, Secret, hide, reveal, value_fits};
 use std::process::Abort;
 use test_common::{REQUEST_AUTHENTICATOR, SECRET};
 
-// What a room holds before a value or a text is written into it.
+// What a buffer holds before a value or a text is written into it.
 const FILLED: [u8; PASSWORD_MAX] = [7; PASSWORD_MAX];
 
-/// A value or a text that was written into a room.
+/// A value or a text that was written into a buffer.
 #[derive(Clone, Copy)]
 pub(crate) struct Written {
-    room: [u8; PASSWORD_MAX],
+    buffer: [u8; PASSWORD_MAX],
     len: usize,
     ghost fits: { len ≤ 128 },
 }
@@ -22,11 +22,11 @@ impl Written {
     pub(crate) fn octets(&self) -> &[u8]
         ensures { length result.now ≤ 128 }
     {
-        &self.room[..self.len]
+        &self.buffer[..self.len]
     }
 }
 
-/// The value of a password, after which the room is unchanged.
+/// The value of a password, after which the buffer is unchanged.
 pub(crate) fn hidden(rt: &impl Abort, secret: &Secret, password: &[u8]) -> Written
     requires { length password.now ≤ 128 }
 {
@@ -42,19 +42,19 @@ pub(crate) fn hidden_with(
 ) -> Written
     requires { length password.now ≤ 128 }
 {
-    let mut room = FILLED;
-    let len = hide(secret, authenticator, password, &mut room).min(PASSWORD_MAX);
-    holds(rt, room[len..] == FILLED[len..], "after the value");
-    Written { room, len }
+    let mut buffer = FILLED;
+    let len = hide(secret, authenticator, password, &mut buffer).min(PASSWORD_MAX);
+    holds(rt, buffer[len..] == FILLED[len..], "after the value");
+    Written { buffer, len }
 }
 
-// The text that is hidden as a value, after which the room is unchanged.
+// The text that is hidden as a value, after which the buffer is unchanged.
 fn opened(rt: &impl Abort, secret: &Secret, value: &[u8]) -> Written {
     assert!(rt; value_fits(value));
-    let mut room = FILLED;
-    let len = reveal(secret, REQUEST_AUTHENTICATOR, value, &mut room).min(PASSWORD_MAX);
-    holds(rt, room[len..] == FILLED[len..], "after the text");
-    Written { room, len }
+    let mut buffer = FILLED;
+    let len = reveal(secret, REQUEST_AUTHENTICATOR, value, &mut buffer).min(PASSWORD_MAX);
+    holds(rt, buffer[len..] == FILLED[len..], "after the text");
+    Written { buffer, len }
 }
 
 /// The User-Password of RFC 2865, section 7.1.

@@ -75,16 +75,16 @@ fn writes_the_reply(rt: HostRuntime) {
     holds(&rt, is_reply_written(rt.alloc()), "the reply");
 }
 
-fn is_reply_with_room(alloc: Global, size: usize) -> Result<bool, AllocError> {
+fn is_reply_with_capacity(alloc: Global, size: usize) -> Result<bool, AllocError> {
     let reply = with_reply(Body::with_capacity(alloc, code::ACCESS_ACCEPT, size)?)?;
     Ok(says(&reply, 2, &REPLY[20..]))
 }
 
 #[test]
 fn any_room_will_do(rt: HostRuntime) {
-    holds(&rt, is_reply_with_room(rt.alloc(), 18), "its size");
-    holds(&rt, is_reply_with_room(rt.alloc(), 7), "too little room");
-    holds(&rt, is_reply_with_room(rt.alloc(), 0), "no room");
+    holds(&rt, is_reply_with_capacity(rt.alloc(), 18), "its size");
+    holds(&rt, is_reply_with_capacity(rt.alloc(), 7), "too little");
+    holds(&rt, is_reply_with_capacity(rt.alloc(), 0), "nothing");
 }
 
 fn is_empty_written(alloc: Global) -> Result<bool, AllocError> {

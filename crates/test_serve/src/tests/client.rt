@@ -45,10 +45,10 @@ pub(crate) fn sends(client: &UdpSocket, port: u16, octets: &[u8]) -> bool {
 /// Whether the next datagram comes from this port, and begins and ends with these octets.
 pub(crate) fn gets(client: &UdpSocket, port: u16, begin: &[u8], end: &[u8]) -> bool {
     let server = SocketAddr::from(([127, 0, 0, 1], port));
-    let mut room = [0; 4096];
-    match client.recv_from(&mut room) {
+    let mut buffer = [0; 4096];
+    match client.recv_from(&mut buffer) {
         Ok((len, from)) => {
-            from == server && room[..len].starts_with(begin) && room[..len].ends_with(end)
+            from == server && buffer[..len].starts_with(begin) && buffer[..len].ends_with(end)
         }
         Err(_) => false,
     }

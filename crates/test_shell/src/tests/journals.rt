@@ -13,10 +13,10 @@ use std::sync::Wait;
 use std::thread::Threads;
 use test_common::{CLIENT, RFC_REQUEST};
 
-/// A journal with room for so many entries, which forgets them. Nothing is claimed of what it keeps.
+/// A journal with memory for so many entries, which forgets them. Nothing is claimed of what it keeps.
 #[derive(Drop)]
 struct Counting {
-    room: usize,
+    left: usize,
 }
 
 impl Journal for Counting {
@@ -49,9 +49,9 @@ impl Journal for Counting {
     }
 
     fn commit(&mut self, entries: &[Kept]) -> Result<(), JournalFault> {
-        match self.room.checked_sub(entries.len()) {
-            Some(room) => {
-                self.room = room;
+        match self.left.checked_sub(entries.len()) {
+            Some(left) => {
+                self.left = left;
                 Ok(())
             }
             None => Err(JournalFault::Full),
@@ -85,7 +85,7 @@ fn keeps_one<R: Threads + Wait + Sync, D: Rng, W: Watch + Drop>(
     ports: &mut MemoryPorts,
     turns: &mut Turns<D, OpenGate, W>,
 ) -> bool {
-    let mut journal = Counting { room: 9 };
+    let mut journal = Counting { left: 9 };
     arrive(alloc, ports, CLIENT, 0, RFC_REQUEST).is_ok()
         && arrive(alloc, ports, CLIENT, 0, RFC_REQUEST).is_ok()
         && is_sum(
@@ -95,7 +95,7 @@ fn keeps_one<R: Threads + Wait + Sync, D: Rng, W: Watch + Drop>(
             2,
             0,
         )
-        && journal.room == 8
+        && journal.left == 8
         && arrive(alloc, ports, CLIENT, 0, RFC_REQUEST).is_ok()
         && is_sum(
             turns.run_keeping(rt, service, ports, &mut journal, 1, 1),
@@ -104,11 +104,11 @@ fn keeps_one<R: Threads + Wait + Sync, D: Rng, W: Watch + Drop>(
             1,
             0,
         )
-        && journal.room == 8
+        && journal.left == 8
         && sent_count(ports) == 3
 }
 
-/// Whether nothing is sent of a turn that a journal has no room for.
+/// Whether nothing is sent of a turn for which a journal has no memory.
 pub(crate) fn sends_nothing_unkept<R: Threads + Wait + Sync>(
     rt: &R,
     alloc: Global,
@@ -129,7 +129,7 @@ fn sends_nothing<R: Threads + Wait + Sync, D: Rng, W: Watch + Drop>(
     ports: &mut MemoryPorts,
     turns: &mut Turns<D, OpenGate, W>,
 ) -> bool {
-    let mut journal = Counting { room: 0 };
+    let mut journal = Counting { left: 0 };
     arrive(alloc, ports, CLIENT, 0, RFC_REQUEST).is_ok()
         && turns.run_keeping(rt, service, ports, &mut journal, 1, 1)
             == Err(ServeFault::Journal(JournalFault::Full))

@@ -32,7 +32,7 @@ enum Trial<'a> {
     Cut(&'a Cut),
     /// Two calls, in each of which a user is challenged.
     Challenges,
-    /// Two calls of turns that have their room from the beginning.
+    /// Two calls of turns that have their memory from the beginning.
     Room,
     /// A turn in which a user is challenged three times.
     Draws,
@@ -44,7 +44,7 @@ enum Trial<'a> {
     Fault(&'a Failing),
     /// A turn without datagrams.
     Idle(&'a Idle),
-    /// Turns whose journal has room.
+    /// Turns whose journal has memory.
     Kept,
     /// A turn whose journal has none.
     Unkept,
@@ -249,7 +249,7 @@ fn is_left_idle<R: Threads + Wait + Sync>(
     is_replied && is_sum(ended, 1, 0, 0, 0) && left.next().is_some() == is_kept
 }
 
-// The same by turns that have their room from the beginning, and a watcher.
+// The same by turns that have their memory from the beginning, and a watcher.
 fn is_challenged_with_room<R: Threads + Wait + Sync>(
     rt: &R,
     alloc: Global,
