@@ -32,12 +32,12 @@ mod reporter;
 mod restored;
 mod serve_error;
 mod serving;
-mod told_generations;
-mod told_journal;
 mod udp_ports;
 mod unbound;
 mod unreadable;
 mod warner;
+mod watched_generations;
+mod watched_journal;
 mod writer;
 
 pub use closing::close_state;

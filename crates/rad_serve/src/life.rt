@@ -15,7 +15,7 @@ use crate::given::random_of;
 use crate::moments::{Moments, clocks};
 use crate::restored::{MARK, push_restored};
 use crate::serve_error::ServeError;
-use crate::told_journal::ToldJournal;
+use crate::watched_journal::WatchedJournal;
 use rad_carry::carry;
 use rad_config::{Config, read_configuration};
 use rad_journal::{NoJournal, StoreJournal, restore};
@@ -311,7 +311,7 @@ fn restored<'c, R: Clock + Eprint + AllocGlobal, S: Store + Drop>(
     bases_differ();
     let (server, journal) = state.into_parts(rt.alloc(), config, key)?;
     let count = journal.count().unwrap_or(0);
-    let mut journal = ToldJournal::new(rt, journal, count);
+    let mut journal = WatchedJournal::new(rt, journal, count);
     let mut server = server;
     restore(rt.alloc(), &mut journal, &mut server)?;
     Ok((server, journal.into_journal()))

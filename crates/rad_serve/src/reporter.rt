@@ -199,10 +199,10 @@ impl<'r, R: Clock + Wait + AllocGlobal> Watch for Reporter<'r, R> {
         self.begun = micros(self.rt);
     }
 
-    fn made(&mut self, turn: &Turn) {
+    fn see(&mut self, turn: &Turn) {
         let took = micros(self.rt).saturating_sub(self.begun);
         let now = now(self.rt, self.moments);
-        self.watcher.made(turn, took, now);
+        self.watcher.see(turn, took, now);
         self.record_turn(turn);
         self.hand_over(turn.service.server(), now);
     }

@@ -9,9 +9,9 @@ use crate::options::Options;
 use crate::progress::Progress;
 use crate::reporter::{Reporter, now};
 use crate::serve_error::ServeError;
-use crate::told_generations::ToldGenerations;
 use crate::udp_ports::UdpPorts;
 use crate::warner::Warner;
+use crate::watched_generations::WatchedGenerations;
 use crate::writer::{Text, Writing, write_files, write_lines};
 use crossbeam_channel::{Receiver, Sender, bounded};
 use rad_check::push_warning;
@@ -261,7 +261,7 @@ fn serve_reporting<
     let (files, files_end) = bounded(rt.alloc(), TEXTS_MAX)?;
     let progress = Progress::new();
     let warned = lines.clone()?;
-    let told = lines.clone()?;
+    let beginnings = lines.clone()?;
     let mut reporter = Reporter::new(rt, moments, watcher, (lines, files), &progress, reports);
     if let Some(head) = head {
         reporter.record_after(head);
@@ -274,7 +274,7 @@ fn serve_reporting<
         config,
         progress: &progress,
     };
-    serve_reported(rt, life, reporter, writing, told, warnings)
+    serve_reported(rt, life, reporter, writing, beginnings, warnings)
 }
 
 // Opens turns and ports with reports, and hands the warnings to those who write.
@@ -287,7 +287,7 @@ fn serve_reported<
     life: Life<K, J>,
     reporter: Reporter<R>,
     writing: Writing,
-    told: Sender<Vec<u8>>,
+    beginnings: Sender<Vec<u8>>,
     warnings: &mut String,
 ) -> Result<(), ServeError> {
     let Life {
@@ -312,7 +312,7 @@ fn serve_reported<
         service: &mut service,
         turns,
         ports,
-        lines: told,
+        lines: beginnings,
         progress: writing.progress,
     };
     serve_beside(rt, rt, serving, keeping, writing)
@@ -345,7 +345,7 @@ impl<'s, 'c, R: Clock + Print + Threads + Wait + Sync + AllocGlobal> Serving<'s,
             progress,
         } = self;
         let mut keeping = Keeping {
-            generations: ToldGenerations {
+            generations: WatchedGenerations {
                 generations: keeping.generations,
                 rt,
                 lines,

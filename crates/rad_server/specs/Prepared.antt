@@ -27,8 +27,8 @@ use Rattle.rad_server.specs.declared.inquiry.Inquiry.{Inquiry}
 use Rattle.rad_server.specs.declared.inquiry.Inquiry.TheVariants as inquiries
 use Rattle.rad_server.specs.declared.inquiry.Login.{Login}
 use Rattle.rad_server.specs.declared.prepared.Ruled.{Ruled}
-use Rattle.rad_server.specs.declared.prepared.Told.{Told}
-use Rattle.rad_server.specs.declared.prepared.Told.TheVariants as told
+use Rattle.rad_server.specs.declared.prepared.Ruling.{Ruling}
+use Rattle.rad_server.specs.declared.prepared.Ruling.TheVariants as rulings
 use Rattle.rad_server.specs.declared.access.ChallengeAnswer.{ChallengeAnswer}
 use Rattle.rad_server.specs.declared.rule.Rule.{Rule}
 use Rattle.rad_server.specs.declared.rule.Rule.TheVariants.{Fixed, Password, Answer}
@@ -109,10 +109,10 @@ pub record IsRuled (configuration : Configuration) (request : Request) (ruled : 
   pub body_is : IfSome ruled.body (λ body. IsBodyOf request (Some ruled.rule) body.now)
 
 -- what is known of a request that was prepared
-abbrev pub IsTold : Configuration → Request → Told → Type 0
-IsTold configuration request (told.Status body) =
+abbrev pub IsRuling : Configuration → Request → Ruling → Type 0
+IsRuling configuration request (rulings.Status body) =
     ((request.packet.code == code_status_server) ≡ true) × IfSome body (λ body. body.now ≡ fixed_body request.packet (Status request.door))
-IsTold configuration request (told.Ruled ruled) = ((request.packet.code == code_status_server) ≡ false) × IsRuled configuration request ruled
+IsRuling configuration request (rulings.Ruled ruled) = ((request.packet.code == code_status_server) ≡ false) × IsRuled configuration request ruled
 
 -- ---- credentials
 

@@ -20,7 +20,7 @@ use crate::answer::Answer;
 use crate::change::Change;
 use crate::denial::Denial;
 use crate::fixed_reply::FixedReply;
-use crate::prepared::{Prepared, Ruled, Told};
+use crate::prepared::{Prepared, Ruled, Ruling};
 use crate::reply::{access_accept, access_challenge, access_reject};
 use crate::rule::Rule;
 use crate::shares;
@@ -89,9 +89,9 @@ pub(crate) fn plan_step<'a>(
     ensures sealable { IfOk result (λ plan. IsSealable (planned_answer plan)) }
 {
     let request = prepared.request();
-    let ruled = match prepared.told() {
-        Told::Status(body) => return plan_status(alloc, request, body),
-        Told::Ruled(ruled) => ruled,
+    let ruled = match prepared.ruling() {
+        Ruling::Status(body) => return plan_status(alloc, request, body),
+        Ruling::Ruled(ruled) => ruled,
     };
     let key = key_of(request);
     if let Some(kept) = tables.replies.look(&key, request.packet.octets(), now) {

@@ -2,7 +2,7 @@
 //! side by side, and the lock is held for less time. A repeat is prepared too, since only the state tells that it is one.
 ghost use Rattle.std.specs.Prelude.{◌≡◌, ◌≤◌, length, map, All, IfSome};
 ghost use Rattle.rad_auth.specs.Admission.{HoldsAdmitted, IsAdmitted, IsAnswerable, KnowsProxyStates};
-ghost use Rattle.rad_server.specs.Prepared.{IsBodyOf, IsInquiryIn, IsTold, prepared_in, right_of};
+ghost use Rattle.rad_server.specs.Prepared.{IsBodyOf, IsInquiryIn, IsRuling, prepared_in, right_of};
 
 use crate::inquiry::{Inquiry, inquire};
 use crate::rule::{Rule, fixed_reply};
@@ -77,20 +77,20 @@ impl<'r, 'a> Prepared<'r, 'a> {
     }
 
     /// What is known of it.
-    pub(crate) fn told(&self) -> Told<'_, 'a>
-        ensures { IsTold self.now.configuration self.now.request result }
+    pub(crate) fn ruling(&self) -> Ruling<'_, 'a>
+        ensures { IsRuling self.now.configuration self.now.request result }
     {
         let body = self.body.as_ref();
         match self.rule {
-            None => Told::Status(body),
-            Some(rule) => Told::Ruled(Ruled { rule, body }),
+            None => Ruling::Status(body),
+            Some(rule) => Ruling::Ruled(Ruled { rule, body }),
         }
     }
 }
 
 /// What is known of a request before the state is looked at. The body is that of the reply, if it was made in advance.
 #[derive(Clone, Copy)]
-pub(crate) enum Told<'p, 'a> {
+pub(crate) enum Ruling<'p, 'a> {
     /// It is a Status-Server.
     Status(Option<&'p Body>),
     Ruled(Ruled<'p, 'a>),

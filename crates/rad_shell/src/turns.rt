@@ -253,7 +253,7 @@ impl<'a, D: Rng, G: Gate + Sync, W: Watch + Drop> Turns<'a, D, G, W> {
             return Err(ServeFault::Journal(fault));
         }
         let sent = received.reply(ports, &done.outcomes);
-        watch.made(&Turn {
+        watch.see(&Turn {
             service,
             arrivals: &arrivals,
             done: &done,

@@ -28,7 +28,7 @@ pub trait Watch {
     fn received(&mut self);
 
     /// A turn was made, and its replies were sent; if a send failed for good, it is the last one, and the rest were not.
-    fn made(&mut self, turn: &Turn);
+    fn see(&mut self, turn: &Turn);
 
     /// A turn with so many datagrams was lost, since memory was refused.
     fn lost(&mut self, service: &Service, datagrams: usize);
@@ -41,7 +41,7 @@ pub struct Unwatched;
 impl Watch for Unwatched {
     fn received(&mut self) {}
 
-    fn made(&mut self, _turn: &Turn) {}
+    fn see(&mut self, _turn: &Turn) {}
 
     fn lost(&mut self, _service: &Service, _datagrams: usize) {}
 }

@@ -66,7 +66,7 @@ impl Watcher {
     }
 
     /// Sees a turn that was made, which took so many microseconds.
-    pub fn made(&mut self, turn: &Turn, micros: u64, now: Now) {
+    pub fn see(&mut self, turn: &Turn, micros: u64, now: Now) {
         self.begin_second(now);
         self.see_exchanges(turn, now);
         self.see_others(turn, now);

@@ -31,7 +31,7 @@ impl Watch for Seen {
         self.received = self.received.saturating_add(1);
     }
 
-    fn made(&mut self, turn: &Turn) {
+    fn see(&mut self, turn: &Turn) {
         let outcomes = turn.done.outcomes.as_slice();
         let replies = outcomes.iter().filter(|outcome| is_reply(outcome)).count();
         self.made = self.made.saturating_add(1);

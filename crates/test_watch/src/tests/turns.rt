@@ -121,7 +121,7 @@ fn see(alloc: Global, service: &Service, watcher: &mut Watcher, row: &Row) {
             faults: 0,
             last_failure: None,
         };
-        watcher.made(&turn, 150, NOW);
+        watcher.see(&turn, 150, NOW);
     }
 }
 
@@ -138,7 +138,7 @@ fn see_nothing(alloc: Global, service: &Service, watcher: &mut Watcher) {
         faults: 0,
         last_failure: None,
     };
-    watcher.made(&turn, 0, LATER);
+    watcher.see(&turn, 0, LATER);
 }
 
 fn done_by(alloc: Global, door: Door, octets: &[u8], fate: Fate) -> Result<Done, AllocError> {

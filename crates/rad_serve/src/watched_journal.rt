@@ -11,7 +11,7 @@ const SILENCE: u64 = 1_000;
 
 /// A journal that prints how far it has been read, each second. Contracts see the journal.
 #[derive(Drop)]
-pub(crate) struct ToldJournal<'r, R, J> {
+pub(crate) struct WatchedJournal<'r, R, J> {
     rt: &'r R,
     journal: J,
     // How many entries it has.
@@ -20,12 +20,12 @@ pub(crate) struct ToldJournal<'r, R, J> {
     told_at: u64,
 }
 
-impl<'r, R: Clock, J: Journal + Drop> ToldJournal<'r, R, J> {
+impl<'r, R: Clock, J: Journal + Drop> WatchedJournal<'r, R, J> {
     /// A journal with so many entries, none of which has been read.
-    pub fn new(rt: &'r R, journal: J, count: u32) -> ToldJournal<'r, R, J>
+    pub fn new(rt: &'r R, journal: J, count: u32) -> WatchedJournal<'r, R, J>
         ensures { result.journal ≡ journal }
     {
-        ToldJournal {
+        WatchedJournal {
             rt,
             journal,
             count,
@@ -41,7 +41,7 @@ impl<'r, R: Clock, J: Journal + Drop> ToldJournal<'r, R, J> {
     }
 }
 
-impl<'r, R: Clock + Eprint, J: Journal + Drop> ToldJournal<'r, R, J> {
+impl<'r, R: Clock + Eprint, J: Journal + Drop> WatchedJournal<'r, R, J> {
     // Tells how many entries have been read, unless a line was printed within the last second.
     fn tell(&mut self, entries: u32)
         ensures { self.new.journal ≡ self.old.journal }
@@ -56,30 +56,30 @@ impl<'r, R: Clock + Eprint, J: Journal + Drop> ToldJournal<'r, R, J> {
     }
 }
 
-impl<'r, R: Clock + Eprint, J: Journal + Drop> Journal for ToldJournal<'r, R, J> {
+impl<'r, R: Clock + Eprint, J: Journal + Drop> Journal for WatchedJournal<'r, R, J> {
     ghost keeps = { J.keeps };
 
-    ghost kept = { λ told. J.kept told.journal };
+    ghost kept = { λ watched. J.kept watched.journal };
 
-    ghost may_leave = { λ told. J.may_leave told.journal };
+    ghost may_leave = { λ watched. J.may_leave watched.journal };
 
-    ghost leaves_beside = { λ told. J.leaves_beside told.journal };
+    ghost leaves_beside = { λ watched. J.leaves_beside watched.journal };
 
-    ghost may_record = { λ told. J.may_record told.journal };
+    ghost may_record = { λ watched. J.may_record watched.journal };
 
-    ghost is_clean = { λ told. J.is_clean told.journal };
+    ghost is_clean = { λ watched. J.is_clean watched.journal };
 
-    ghost is_open = { λ told. J.is_open told.journal };
+    ghost is_open = { λ watched. J.is_open watched.journal };
 
     ghost has_failed = { λ old new. J.has_failed old.journal new.journal };
 
-    ghost records = { λ told. J.records told.journal };
+    ghost records = { λ watched. J.records watched.journal };
 
-    ghost recorded = { λ told. J.recorded told.journal };
+    ghost recorded = { λ watched. J.recorded watched.journal };
 
-    ghost settled = { λ told. J.settled told.journal };
+    ghost settled = { λ watched. J.settled watched.journal };
 
-    ghost stays = { λ told. J.stays told.journal };
+    ghost stays = { λ watched. J.stays watched.journal };
 
     fn keeps(&self) -> bool {
         self.journal.keeps()

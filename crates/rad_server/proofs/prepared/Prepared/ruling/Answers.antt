@@ -2,7 +2,7 @@ use Rattle.std.proofs.Common.{IfSome, Some, None, refl, sym, subst}
 use Rattle.rad_server.specs.Prepared.{IsBodyOf}
 use Rattle.rad_server.specs.declared.fixed_reply.FixedReply.TheVariants.{Status}
 use Rattle.rad_server.proofs.PlanLemmas.{borrowed_has, is_body}
-use Rattle.rad_server.proofs.prepared.Prepared.told.Goals as goal
+use Rattle.rad_server.proofs.prepared.Prepared.ruling.Goals as goal
 
 pub returns-in-None : goal.returns-in-None
 returns-in-None c =

@@ -15,14 +15,14 @@ use std::time::Clock;
 
 /// Generations of which it is told how long the server paused for each that began. Contracts see the generations.
 #[derive(Drop)]
-pub(crate) struct ToldGenerations<'r, R, K> {
+pub(crate) struct WatchedGenerations<'r, R, K> {
     pub generations: K,
     pub rt: &'r R,
     pub lines: Sender<Vec<u8>>,
     pub progress: &'r Progress,
 }
 
-impl<'r, R: Clock + Wait + AllocGlobal, K> ToldGenerations<'r, R, K> {
+impl<'r, R: Clock + Wait + AllocGlobal, K> WatchedGenerations<'r, R, K> {
     // Hands over a line, unless nobody can take it.
     fn tell(&self, paused: u64) {
         let warner = Warner {
@@ -38,26 +38,26 @@ impl<'r, R: Clock + Wait + AllocGlobal, K> ToldGenerations<'r, R, K> {
 }
 
 impl<'r, R: Clock + Wait + AllocGlobal, J: Journal, K: Generations<J> + Drop> Generations<J>
-    for ToldGenerations<'r, R, K> {
-    ghost may_leave = { λ told. K.may_leave told.generations };
+    for WatchedGenerations<'r, R, K> {
+    ghost may_leave = { λ watched. K.may_leave watched.generations };
 
-    ghost has_base = { λ told. K.has_base told.generations };
+    ghost has_base = { λ watched. K.has_base watched.generations };
 
-    ghost configuration = { λ told. K.configuration told.generations };
+    ghost configuration = { λ watched. K.configuration watched.generations };
 
-    ghost is_clean = { λ told. K.is_clean told.generations };
+    ghost is_clean = { λ watched. K.is_clean watched.generations };
 
     ghost reaches_back = { K.reaches_back };
 
     ghost is_alone = { K.is_alone };
 
-    ghost configured = { λ told. K.configured told.generations };
+    ghost configured = { λ watched. K.configured watched.generations };
 
-    ghost leaves_base = { λ told. K.leaves_base told.generations };
+    ghost leaves_base = { λ watched. K.leaves_base watched.generations };
 
-    ghost stays = { λ told. K.stays told.generations };
+    ghost stays = { λ watched. K.stays watched.generations };
 
-    ghost keeps_base = { λ told. K.keeps_base told.generations };
+    ghost keeps_base = { λ watched. K.keeps_base watched.generations };
 
     fn is_due(&self, journal: &J, clock: u64) -> bool {
         self.generations.is_due(journal, clock)
