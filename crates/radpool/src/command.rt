@@ -17,7 +17,7 @@ use std::process::{ExitCode, Process};
 use std::rt::Env;
 use std::{env, io};
 
-const VERSION: &str = "1.0.0";
+const VERSION: &str = "1.1.0";
 
 const PROGRAM_EXAMPLES: &str = "\
 Examples:
