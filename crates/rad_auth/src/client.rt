@@ -15,7 +15,7 @@ pub const CLIENTS_MAX: usize = 256;
 #[derive(Clone, Copy, Debug, PartialEq, Eq, Error)]
 pub enum ClientFault {
     /// Another client has the address with the same prefix.
-    #[error("the network is doubled")]
+    #[error("the network occurs twice")]
     Doubled = 1,
     /// An allocation failed.
     #[error("out of memory")]

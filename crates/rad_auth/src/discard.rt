@@ -16,17 +16,17 @@ pub enum Discard {
     Short,
     #[error("a Length below 20 or above 4096")]
     BadLength,
-    #[error("a Length of more octets than came")]
+    #[error("a Length beyond the end of the datagram")]
     Truncated,
-    #[error("octets that are no attributes")]
+    #[error("malformed attributes")]
     BadAttributes,
-    #[error("a Code that the server's port does not take")]
+    #[error("a Code that this port does not accept")]
     WrongCode,
     #[error("a wrong Request Authenticator")]
     BadAuthenticator,
-    #[error("a doubled or wrong Message-Authenticator")]
+    #[error("a wrong Message-Authenticator, or more than one")]
     BadMessageAuthenticator,
-    #[error("no Message-Authenticator where one must be")]
+    #[error("a missing Message-Authenticator")]
     NoMessageAuthenticator,
     #[error("no Acct-Status-Type of 4 octets")]
     NoStatusType,

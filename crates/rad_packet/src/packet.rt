@@ -21,9 +21,9 @@ pub enum ReadFault {
     Short,
     #[error("a Length below 20 or above 4096")]
     BadLength,
-    #[error("a Length of more octets than came")]
+    #[error("a Length beyond the end of the datagram")]
     Truncated,
-    #[error("octets that are no attributes")]
+    #[error("malformed attributes")]
     BadAttributes,
 }
 

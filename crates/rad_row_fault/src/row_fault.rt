@@ -13,13 +13,13 @@ pub enum RowFault {
     #[error("there is no such client")]
     Client = 2,
     /// The reply doesn't take the share of its source's client.
-    #[error("the client isn't that of the source")]
+    #[error("the source isn't the client's")]
     Owner = 3,
     /// The user is no place of the configuration.
     #[error("there is no such user")]
     User = 4,
     /// The row was made or seen after the clock, or a session was seen before it was made.
-    #[error("the moments don't fit the clock")]
+    #[error("its moments don't fit the clock")]
     Moments = 5,
     /// The session's address isn't in its user's pool.
     #[error("the address isn't in the user's pool")]
@@ -31,10 +31,10 @@ pub enum RowFault {
     #[error("the user has as many sessions as allowed")]
     SessionLimit = 8,
     /// A reply to a request with the same source, port, door and Identifier is kept.
-    #[error("another reply to such a request is kept")]
+    #[error("another reply with this key is kept")]
     Key = 9,
     /// The reply is none that can be sealed.
-    #[error("the reply is none that can be sent")]
+    #[error("the reply can't be sent")]
     Body = 10,
     /// The request is a Status-Server, whose replies aren't kept.
     #[error("no reply to a Status-Server is kept")]

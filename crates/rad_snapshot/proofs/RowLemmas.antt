@@ -211,7 +211,7 @@ row_unlike table place row wanted item of again differs at =
     let same : item ≡ at.item = of ∙ ap (λ (r : Row). item_of table r) at.is ∙ row_back table place at.item at.kind in
     differs (at.is ∙ ap (λ (x : StateRow). row_of place x) (sym same) ∙ sym again)
 
--- octets that are no attributes are in no kept reply's row
+-- malformed attributes are in no kept reply's row
 pub no_body : (row : Row) (octets : List ℕ) → column row at_reply_attributes ≡ Blob octets → is_some (attributes_of octets) ≡ false → IsReplyRow row → ⊥
 no_body row octets at none reply =
     let list = reply.1.body.attributes in

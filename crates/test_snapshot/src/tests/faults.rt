@@ -186,7 +186,7 @@ fn rows_at_fault_are_refused(rt: HostRuntime) -> Result<(), Fail> {
         (
             Change::With(REPLY, 1, 8, ValueRef::Blob(&[80, 18, 0])),
             Wanted::Damaged,
-            "octets that are no attributes",
+            "malformed attributes",
         ),
         (
             Change::With(SESSION, 1, 5, ValueRef::Null),
