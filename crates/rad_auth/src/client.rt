@@ -41,7 +41,8 @@ impl Model for Clients {
 
     ghost view = { λ a. row_clients a.rows.items };
 
-    ghost invariant = { λ a. KeepsClients a.networks.keys a.prefixes.items (row_clients a.rows.items) };
+    ghost invariant = { λ a.
+        KeepsClients a.networks.keys a.prefixes.items (row_clients a.rows.items) };
 }
 
 impl Clients {
@@ -75,8 +76,8 @@ impl Clients {
         requires room { length self.old < clients_max }
         requires fits { IsTrue (network_fits address prefix) }
         requires is_secret { IsSecret secret.now }
-        ensures ok { OnOk result
-            (self.new ≡ with_client self.old address prefix secret.now require_message_authenticator) }
+        ensures ok { OnOk result (self.new ≡
+            with_client self.old address prefix secret.now require_message_authenticator) }
         ensures err { OnErr result (self.new ≡ self.old) }
         ensures doubled { IsErrOf result Doubled ↔ IsTrue (has_network self.old address prefix) }
     {

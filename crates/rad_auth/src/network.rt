@@ -41,7 +41,8 @@ pub(crate) fn add_prefix(prefixes: &mut Vec<u8>, prefix: u8)
     requires within { prefix ≤ address_bits }
     requires greatest_first { IsGreatestFirst prefixes.old.items }
     ensures added { Contains prefixes.new.items prefix }
-    ensures kept { (other : ℕ) → Contains prefixes.old.items other → Contains prefixes.new.items other }
+    ensures kept { (other : ℕ) →
+        Contains prefixes.old.items other → Contains prefixes.new.items other }
     ensures greatest_first { IsGreatestFirst prefixes.new.items }
 {
     let place = prefixes.partition_point(|other| *other > prefix);

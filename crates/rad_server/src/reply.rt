@@ -126,7 +126,8 @@ pub(crate) fn status_reply(alloc: Global, door: Door, request: &Request) -> Resu
 #[tactic(auto, using(crate::proofs::ReplyLemmas::status_is_reply))]
 fn status_accept(alloc: Global, request: &Request) -> Result<Body, AllocError>
     requires { KnowsProxyStates request.now }
-    ensures value { IfOk result (λ body. body ≡ access_reply code_access_accept [] request.now.packet) }
+    ensures value { IfOk result (λ body.
+        body ≡ access_reply code_access_accept [] request.now.packet) }
     ensures reply { IfOk result IsReply }
 {
     let size = FRONT_SIZE + request.proxy_states;
