@@ -1,5 +1,5 @@
 -- The table of discards: number and name.
-use Rattle.std.specs.Prelude.{ℕ, List, codes}
+use Rattle.std.specs.Prelude.{◌≡◌, ℕ, ◌+◌, ◌↔◌, List, codes, slice_get, Some}
 use Rattle.rad_packet.specs.declared.packet.ReadFault.{ReadFault}
 use Rattle.rad_packet.specs.declared.packet.ReadFault.TheVariants as fault
 use Rattle.rad_auth.specs.declared.discard.Discard.{Discard}
@@ -30,6 +30,10 @@ discard_name BadMessageAuthenticator = codes "BadMessageAuthenticator"
 discard_name NoMessageAuthenticator = codes "NoMessageAuthenticator"
 discard_name NoStatusType = codes "NoStatusType"
 discard_name ProxyStateTooLong = codes "ProxyStateTooLong"
+
+-- every discard stands in the list, at the place before its number, and nothing else does
+abbrev pub AreAllDiscards : List Discard → Type 0
+AreAllDiscards discards = (discard : Discard) (place : ℕ) → (slice_get discards place ≡ Some discard) ↔ (place + 1 ≡ discard_number discard)
 
 -- a datagram that holds no packet
 abbrev pub discard_of_fault : ReadFault → Discard

@@ -1,6 +1,6 @@
 //! Why a datagram is silently discarded.
-ghost use Rattle.std.specs.Prelude.{◌≡◌};
-ghost use Rattle.rad_auth.specs.Discards.{discard_number, discard_name, discard_of_fault};
+ghost use Rattle.std.specs.Prelude.{◌≡◌, ◌+◌};
+ghost use Rattle.rad_auth.specs.Discards.{AreAllDiscards, discard_number, discard_name, discard_of_fault};
 
 use rad_packet::ReadFault;
 use thiserror::Error;
@@ -35,24 +35,56 @@ pub enum Discard {
 }
 
 impl Discard {
+    const ALL: &'static [Discard] = &[
+        Discard::UnknownClient,
+        Discard::Short,
+        Discard::BadLength,
+        Discard::Truncated,
+        Discard::BadAttributes,
+        Discard::WrongCode,
+        Discard::BadAuthenticator,
+        Discard::BadMessageAuthenticator,
+        Discard::NoMessageAuthenticator,
+        Discard::NoStatusType,
+        Discard::ProxyStateTooLong,
+    ];
+
+    /// How many discards there are.
+    pub const COUNT: usize = Discard::ALL.len();
+
+    /// Every discard, once, in the order of the numbers.
+    pub fn all() -> &'static [Discard]
+        ensures { AreAllDiscards result.now }
+    {
+        Discard::ALL
+    }
+
+    /// The discard's place in `all`.
+    pub fn place(self) -> usize
+        ensures { result + 1 ≡ discard_number self }
+    {
+        self as usize
+    }
+
     /// The discard's number and name, as they are printed.
     pub fn label(self) -> (u8, &'static str)
         ensures number { result.0 ≡ discard_number self }
         ensures name { result.1.now ≡ discard_name self }
     {
-        match self {
-            Discard::UnknownClient => (1, "UnknownClient"),
-            Discard::Short => (2, "Short"),
-            Discard::BadLength => (3, "BadLength"),
-            Discard::Truncated => (4, "Truncated"),
-            Discard::BadAttributes => (5, "BadAttributes"),
-            Discard::WrongCode => (6, "WrongCode"),
-            Discard::BadAuthenticator => (7, "BadAuthenticator"),
-            Discard::BadMessageAuthenticator => (8, "BadMessageAuthenticator"),
-            Discard::NoMessageAuthenticator => (9, "NoMessageAuthenticator"),
-            Discard::NoStatusType => (10, "NoStatusType"),
-            Discard::ProxyStateTooLong => (11, "ProxyStateTooLong"),
-        }
+        let name = match self {
+            Discard::UnknownClient => "UnknownClient",
+            Discard::Short => "Short",
+            Discard::BadLength => "BadLength",
+            Discard::Truncated => "Truncated",
+            Discard::BadAttributes => "BadAttributes",
+            Discard::WrongCode => "WrongCode",
+            Discard::BadAuthenticator => "BadAuthenticator",
+            Discard::BadMessageAuthenticator => "BadMessageAuthenticator",
+            Discard::NoMessageAuthenticator => "NoMessageAuthenticator",
+            Discard::NoStatusType => "NoStatusType",
+            Discard::ProxyStateTooLong => "ProxyStateTooLong",
+        };
+        (self as u8 + 1, name)
     }
 }
 

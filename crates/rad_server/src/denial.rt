@@ -1,6 +1,7 @@
 //! Why access is denied.
-ghost use Rattle.std.specs.Prelude.{◌≡◌};
+ghost use Rattle.std.specs.Prelude.{◌≡◌, Contains};
 ghost use Rattle.rad_server.specs.Denials.{denial_of, denial_text};
+ghost use Rattle.rad_server.specs.declared.denial.Denial.{Denial};
 
 use rad_pool::Refusal;
 
@@ -27,6 +28,27 @@ pub enum Denial {
 }
 
 impl Denial {
+    const ALL: &'static [Denial] = &[
+        Denial::EapNotSupported,
+        Denial::MalformedRequest,
+        Denial::StateUnknown,
+        Denial::WrongState,
+        Denial::AccessDenied,
+        Denial::SessionLimit,
+        Denial::NoAddressLeft,
+        Denial::ServerFull,
+    ];
+
+    /// How many denials there are.
+    pub const COUNT: usize = Denial::ALL.len();
+
+    /// Every denial, once.
+    pub fn all() -> &'static [Denial]
+        ensures { (denial : Denial) → Contains result.now denial }
+    {
+        Denial::ALL
+    }
+
     /// The text that is sent as the Reply-Message.
     pub fn text(self) -> &'static str
         ensures { result.now ≡ denial_text self }

@@ -2,8 +2,8 @@
 
 use crate::metrics::write_head;
 use crate::now::Seconds;
-use crate::sums::{DISCARDS, add_one, add_one_at, place_of_discard};
-use rad_auth::{Clients, Network};
+use crate::sums::add_one;
+use rad_auth::{Clients, Discard, Network};
 use rad_shell::Outcome;
 use std::io;
 use std::io::Write;
@@ -17,8 +17,8 @@ pub(crate) struct ClientSums {
     /// The replies, also those that were kept.
     replies: u64,
     busy: u64,
-    /// In the order of `DISCARDS`.
-    discards: [u64; 11],
+    /// In the order of `Discard::all`.
+    discards: [u64; Discard::COUNT],
     /// When the last one was admitted, in milliseconds since 1970; 0 if none was.
     last_request: u64,
 }
@@ -30,7 +30,7 @@ impl ClientSums {
             requests: 0,
             replies: 0,
             busy: 0,
-            discards: [0; 11],
+            discards: [0; Discard::COUNT],
             last_request: 0,
         }
     }
@@ -38,7 +38,7 @@ impl ClientSums {
     /// Counts what became of one more, at a wall time in milliseconds.
     pub fn add_outcome(&mut self, outcome: &Outcome, wall: u64) {
         if let Outcome::Dropped(discard) = outcome {
-            add_one_at(&mut self.discards, place_of_discard(*discard));
+            add_one(&mut self.discards[discard.place()]);
             return;
         }
         add_one(&mut self.requests);
@@ -137,7 +137,7 @@ fn write_discards_of(
     clients: &Clients,
     place: usize,
 ) -> io::Result<()> {
-    for (discard, sum) in DISCARDS.iter().zip(&sums.discards) {
+    for (discard, sum) in Discard::all().iter().zip(&sums.discards) {
         if *sum > 0 {
             push_client(text, name, clients, place)?;
             let (_, reason) = discard.label();

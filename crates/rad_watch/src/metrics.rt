@@ -4,11 +4,13 @@ use crate::client_sums::write_clients;
 use crate::line::push_octets;
 use crate::now::Seconds;
 use crate::shown::push_label;
-use crate::sums::{DENIALS, DISCARDS, REPLIES, REPORTS, Sums};
+use crate::sums::{REPLIES, REPORTS, Sums};
 use crate::tally::Tally;
+use rad_auth::Discard;
 use rad_config::{Config, Pool};
 use rad_pool::SESSIONS_MAX;
 use rad_recent::{CHALLENGES_MAX, KEPT_MAX};
+use rad_server::Denial;
 use std::io;
 use std::io::Write;
 
@@ -153,7 +155,7 @@ fn write_rejects(text: &mut Vec<u8>, sums: &Sums) -> io::Result<()> {
         "counter",
         "Access-Rejects made, by Reply-Message, without repeats.",
     )?;
-    for (denial, sum) in DENIALS.iter().zip(&sums.rejects) {
+    for (denial, sum) in Denial::all().iter().zip(&sums.rejects) {
         write_sample(text, name, "text", denial.text(), *sum)?;
     }
     Ok(())
@@ -185,7 +187,7 @@ fn write_reports(text: &mut Vec<u8>, sums: &Sums) -> io::Result<()> {
 fn write_discards(text: &mut Vec<u8>, sums: &Sums) -> io::Result<()> {
     let name = "radpool_discards_total";
     write_head(text, name, "counter", "Datagrams silently discarded.")?;
-    for (discard, sum) in DISCARDS.iter().zip(&sums.discards) {
+    for (discard, sum) in Discard::all().iter().zip(&sums.discards) {
         write_sample(text, name, "reason", discard.label().1, *sum)?;
     }
     Ok(())

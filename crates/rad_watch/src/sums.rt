@@ -32,33 +32,6 @@ pub(crate) const REPLIES: &[(u8, &str)] = &[
     (ACCESS_CHALLENGE, "Access-Challenge"),
 ];
 
-/// The reasons for an Access-Reject.
-pub(crate) const DENIALS: &[Denial] = &[
-    Denial::EapNotSupported,
-    Denial::MalformedRequest,
-    Denial::StateUnknown,
-    Denial::WrongState,
-    Denial::AccessDenied,
-    Denial::SessionLimit,
-    Denial::NoAddressLeft,
-    Denial::ServerFull,
-];
-
-/// The reasons for a discard, in the order of their numbers.
-pub(crate) const DISCARDS: &[Discard] = &[
-    Discard::UnknownClient,
-    Discard::Short,
-    Discard::BadLength,
-    Discard::Truncated,
-    Discard::BadAttributes,
-    Discard::WrongCode,
-    Discard::BadAuthenticator,
-    Discard::BadMessageAuthenticator,
-    Discard::NoMessageAuthenticator,
-    Discard::NoStatusType,
-    Discard::ProxyStateTooLong,
-];
-
 /// The reports of a session, and the names of their labels.
 pub(crate) const REPORTS: &[(Kind, &str)] = &[
     (Kind::Start, "start"),
@@ -93,21 +66,21 @@ pub(crate) struct Sums {
     /// Those of each client.
     pub clients: Vec<ClientSums>,
     /// The replies to fresh requests, in the order of `REPLIES`.
-    pub replies: [u64; 4],
+    pub replies: [u64; REPLIES.len()],
     /// The kept replies that were sent again.
     pub repeats: u64,
     /// The replies to a Status-Server.
     pub statuses: u64,
-    /// The rejections, in the order of `DENIALS`.
-    pub rejects: [u64; 8],
+    /// The rejections, in the order of `Denial::all`.
+    pub rejects: [u64; Denial::COUNT],
     /// The fresh reports of a session, in the order of `REPORTS`.
-    pub known_reports: [u64; 3],
+    pub known_reports: [u64; REPORTS.len()],
     /// Those that mean no session.
-    pub lost_reports: [u64; 3],
+    pub lost_reports: [u64; REPORTS.len()],
     /// Those whose User-Name isn't that of the session's user.
     pub strange_reports: u64,
-    /// The discards, in the order of `DISCARDS`.
-    pub discards: [u64; 11],
+    /// The discards, in the order of `Discard::all`.
+    pub discards: [u64; Discard::COUNT],
     pub busy: u64,
     /// The datagrams for which memory was refused, though not for their round.
     pub nomemory: u64,
@@ -129,14 +102,14 @@ impl Sums {
         Ok(Sums {
             datagrams: 0,
             clients: vec![in alloc; ClientSums::nothing(); clients]?,
-            replies: [0; 4],
+            replies: [0; REPLIES.len()],
             repeats: 0,
             statuses: 0,
-            rejects: [0; 8],
-            known_reports: [0; 3],
-            lost_reports: [0; 3],
+            rejects: [0; Denial::COUNT],
+            known_reports: [0; REPORTS.len()],
+            lost_reports: [0; REPORTS.len()],
             strange_reports: 0,
-            discards: [0; 11],
+            discards: [0; Discard::COUNT],
             busy: 0,
             nomemory: 0,
             lost: 0,
@@ -157,7 +130,7 @@ impl Sums {
     ) {
         add_one(&mut self.datagrams);
         match outcome {
-            Outcome::Dropped(discard) => add_one_at(&mut self.discards, place_of_discard(*discard)),
+            Outcome::Dropped(discard) => add_one(&mut self.discards[discard.place()]),
             Outcome::Busy => add_one(&mut self.busy),
             Outcome::NoMemory => add_one(&mut self.nomemory),
             Outcome::Reply(frame) => self.add_reply(frame.octets(), exchanged),
@@ -201,11 +174,6 @@ impl Sums {
     }
 }
 
-/// The place of a discard in `DISCARDS`.
-pub(crate) fn place_of_discard(discard: Discard) -> Option<usize> {
-    DISCARDS.iter().position(|one| *one == discard)
-}
-
 /// Counts one more.
 pub(crate) fn add_one(sum: &mut u64)
     ensures { sum.new ≡ min (sum.old + 1) (2 ^ 64 - 1) }
@@ -216,7 +184,7 @@ pub(crate) fn add_one(sum: &mut u64)
 // The place of the reason that an Access-Reject has.
 fn place_of_reject(octets: &[u8]) -> Option<usize> {
     let text = Packet::read(octets).ok()?.first(REPLY_MESSAGE)?;
-    DENIALS
+    Denial::all()
         .iter()
         .position(|denial| denial.text().as_bytes() == text)
 }

@@ -28,4 +28,5 @@ fn each_discard_has_its_label(rt: HostRuntime) {
     for (discard, number, name) in ROWS.iter() {
         holds(&rt, discard.label() == (*number, *name), name);
     }
+    holds(&rt, Discard::COUNT == ROWS.len(), "every discard");
 }

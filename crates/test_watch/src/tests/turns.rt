@@ -1,10 +1,10 @@
 //! Turns whose outcomes are made up.
 use rad_auth::{Arrival, Discard, Door};
 use rad_config::Config;
-use rad_packet::attribute::VALUE_MAX;
-use rad_packet::code::ACCOUNTING_RESPONSE;
+use rad_packet::attribute::{REPLY_MESSAGE, VALUE_MAX};
+use rad_packet::code::{ACCESS_REJECT, ACCOUNTING_RESPONSE};
 use rad_packet::{Body, Frame, Octets, write};
-use rad_server::{Answer, Entry};
+use rad_server::{Answer, Denial, Entry};
 use rad_shell::{Done, Outcome, Service, Timed, Turn};
 use rad_watch::{Level, Now, Watcher};
 use std::alloc::{AllocError, Global};
@@ -17,6 +17,8 @@ pub enum Fate {
     NoMemory,
     /// A new reply with this Code and these attributes: Type and Value of each.
     Reply(u8, Attributes),
+    /// A new Access-Reject that says so.
+    Denied(Denial),
     /// The same reply, which was kept.
     Repeat(u8, Attributes),
     /// A new Accounting-Response, to a report that means the session of this number.
@@ -154,6 +156,10 @@ fn done_by(alloc: Global, door: Door, octets: &[u8], fate: Fate) -> Result<Done,
             let answer = Answer::Send(Body::new(alloc, code));
             push_entry(alloc, &mut done, door, octets, (answer, None))?;
         }
+        Fate::Denied(_) => {
+            let answer = Answer::Send(Body::new(alloc, ACCESS_REJECT));
+            push_entry(alloc, &mut done, door, octets, (answer, None))?;
+        }
         Fate::Report(session) => {
             let answer = Answer::Send(Body::new(alloc, ACCOUNTING_RESPONSE));
             push_entry(alloc, &mut done, door, octets, (answer, Some(session)))?;
@@ -193,6 +199,10 @@ fn outcome_of(alloc: Global, fate: Fate) -> Result<Outcome, AllocError> {
         Fate::NoMemory => Ok(Outcome::NoMemory),
         Fate::Reply(code, attributes) | Fate::Repeat(code, attributes) => {
             reply_with(alloc, code, attributes)
+        }
+        Fate::Denied(denial) => {
+            let text = denial.text().as_bytes();
+            reply_with(alloc, ACCESS_REJECT, &[(REPLY_MESSAGE, text)])
         }
         Fate::Report(_) => reply_with(alloc, ACCOUNTING_RESPONSE, &[]),
     }
