@@ -26,9 +26,9 @@ mod now;
 mod roster;
 mod shown;
 mod sums;
-mod tally;
 mod transcript;
 mod untold;
+mod usage;
 mod watcher;
 
 pub use failed_port::FailedPort;

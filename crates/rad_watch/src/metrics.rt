@@ -5,7 +5,7 @@ use crate::line::push_octets;
 use crate::now::Seconds;
 use crate::shown::push_label;
 use crate::sums::{REPLIES, REPORTS, Sums};
-use crate::tally::Tally;
+use crate::usage::Usage;
 use rad_auth::Discard;
 use rad_config::{Config, Pool};
 use rad_pool::SESSIONS_MAX;
@@ -21,7 +21,7 @@ type Row = (&'static str, &'static str, u64);
 pub(crate) fn write_metrics(
     text: &mut Vec<u8>,
     sums: &Sums,
-    tally: &Tally,
+    usage: &Usage,
     config: &Config,
     uptime: u64,
     unwritten: u64,
@@ -32,10 +32,10 @@ pub(crate) fn write_metrics(
     write_reports(text, sums)?;
     write_discards(text, sums)?;
     write_clients(text, &sums.clients, config.clients())?;
-    write_sessions(text, tally)?;
-    write_rows(text, "gauge", &state_rows(tally))?;
+    write_sessions(text, usage)?;
+    write_rows(text, "gauge", &state_rows(usage))?;
     write_sizes(text, config)?;
-    write_uses(text, config, tally)?;
+    write_uses(text, config, usage)?;
     write_turns(text, sums)?;
     let name = "radpool_uptime_seconds";
     let uptime = Seconds::of_thousandths(uptime);
@@ -98,14 +98,14 @@ fn sum_rows(sums: &Sums, unwritten: u64) -> [Row; 10] {
     ]
 }
 
-fn state_rows(tally: &Tally) -> [Row; 5] {
+fn state_rows(usage: &Usage) -> [Row; 5] {
     [
         (
             "radpool_sessions_limit",
             "Maximum number of sessions, ended ones included.",
             SESSIONS_MAX as u64,
         ),
-        ("radpool_kept_replies", "Kept replies.", tally.replies),
+        ("radpool_kept_replies", "Kept replies.", usage.replies),
         (
             "radpool_kept_replies_limit",
             "Maximum number of kept replies.",
@@ -114,7 +114,7 @@ fn state_rows(tally: &Tally) -> [Row; 5] {
         (
             "radpool_challenges",
             "Challenges waiting for an answer.",
-            tally.challenges,
+            usage.challenges,
         ),
         (
             "radpool_challenges_limit",
@@ -193,12 +193,12 @@ fn write_discards(text: &mut Vec<u8>, sums: &Sums) -> io::Result<()> {
     Ok(())
 }
 
-fn write_sessions(text: &mut Vec<u8>, tally: &Tally) -> io::Result<()> {
+fn write_sessions(text: &mut Vec<u8>, usage: &Usage) -> io::Result<()> {
     let name = "radpool_sessions";
     write_head(text, name, "gauge", "Sessions.")?;
-    write_sample(text, name, "phase", "pending", tally.pending)?;
-    write_sample(text, name, "phase", "active", tally.active)?;
-    write_sample(text, name, "phase", "ended", tally.ended)
+    write_sample(text, name, "phase", "pending", usage.pending)?;
+    write_sample(text, name, "phase", "active", usage.active)?;
+    write_sample(text, name, "phase", "ended", usage.ended)
 }
 
 fn write_sizes(text: &mut Vec<u8>, config: &Config) -> io::Result<()> {
@@ -211,7 +211,7 @@ fn write_sizes(text: &mut Vec<u8>, config: &Config) -> io::Result<()> {
     Ok(())
 }
 
-fn write_uses(text: &mut Vec<u8>, config: &Config, tally: &Tally) -> io::Result<()> {
+fn write_uses(text: &mut Vec<u8>, config: &Config, usage: &Usage) -> io::Result<()> {
     let name = "radpool_pool_addresses_used";
     write_head(
         text,
@@ -219,7 +219,7 @@ fn write_uses(text: &mut Vec<u8>, config: &Config, tally: &Tally) -> io::Result<
         "gauge",
         "Addresses of the pool that belong to a session.",
     )?;
-    for (pool, used) in config.pools().iter().zip(&tally.used) {
+    for (pool, used) in config.pools().iter().zip(&usage.used) {
         write_pool_sample(text, name, pool, *used)?;
     }
     Ok(())

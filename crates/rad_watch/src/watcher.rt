@@ -10,7 +10,7 @@ use crate::line::write_line;
 use crate::metrics::write_metrics;
 use crate::now::Now;
 use crate::sums::{Exchanged, Sums, add_one};
-use crate::tally::Tally;
+use crate::usage::Usage;
 use rad_auth::Arrival;
 use rad_config::Config;
 use rad_packet::code::{ACCOUNTING_RESPONSE, STATUS_SERVER};
@@ -167,10 +167,10 @@ impl Watcher {
     /// The metrics, in Prometheus' text format, among them how many texts could not be written. None if memory is refused.
     pub fn metrics(&self, server: &Server, now: Now, unwritten: u64) -> Option<Vec<u8>> {
         let mut text = Vec::new(self.alloc);
-        let tally = Tally::of(server, now.moment);
+        let usage = Usage::of(server, now.moment);
         let uptime = now.moment.saturating_sub(self.start.moment);
         let config = server.config();
-        write_metrics(&mut text, &self.sums, &tally, config, uptime, unwritten).ok()?;
+        write_metrics(&mut text, &self.sums, &usage, config, uptime, unwritten).ok()?;
         Some(text)
     }
 

@@ -8,7 +8,7 @@ use rad_server::Server;
 
 /// How much a server remembers.
 #[derive(Clone, Copy, Debug)]
-pub(crate) struct Tally {
+pub(crate) struct Usage {
     /// The sessions that are live, by their phase.
     pub pending: u64,
     pub active: u64,
@@ -21,10 +21,10 @@ pub(crate) struct Tally {
     pub challenges: u64,
 }
 
-impl Tally {
+impl Usage {
     /// Counts what a server remembers at a moment. Replies and challenges count until they are removed, also those whose time is over.
-    pub fn of(server: &Server, moment: u64) -> Tally {
-        let mut tally = Tally {
+    pub fn of(server: &Server, moment: u64) -> Usage {
+        let mut usage = Usage {
             pending: 0,
             active: 0,
             ended: 0,
@@ -35,10 +35,10 @@ impl Tally {
         let spans = server.config().spans();
         for session in server.sessions().rows() {
             if moment < session.ends(&spans) {
-                tally.add(server.config(), &session);
+                usage.add(server.config(), &session);
             }
         }
-        tally
+        usage
     }
 
     fn add(&mut self, config: &Config, session: &Session) {
