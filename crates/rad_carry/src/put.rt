@@ -1,11 +1,9 @@
 //! Rows of an old server are put into a new one, at their new places.
-ghost use Rattle.std.specs.Prelude.{◌≡◌, OnOk, map, option_copied};
-ghost use Rattle.rad_packet.specs.Attributes.{first_value};
+ghost use Rattle.std.specs.Prelude.{◌≡◌, OnOk, map};
 ghost use Rattle.rad_server.specs.declared.state_row.StateRow.TheVariants as rows;
 ghost use Rattle.rad_carry.specs.Carried.{and_row, and_rows, gives_lost, is_lost, session_given};
 
 use crate::places::Places;
-use rad_packet::Attributes;
 use rad_packet::attribute::CLASS;
 use rad_packet::code::ACCESS_ACCEPT;
 use rad_pool::Sessions;
@@ -111,18 +109,5 @@ fn session_given(reply: &Kept) -> Option<u64>
     if reply.body.code() != ACCESS_ACCEPT {
         return None;
     }
-    class_number_of(first_value(reply.body.attributes(), CLASS)?)
-}
-
-// The Value of the first attribute of a Type.
-fn first_value<'a>(attributes: Attributes<'a>, kind: u8) -> Option<&'a [u8]>
-    ensures { option_copied result ≡ first_value kind attributes.entry }
-{
-    let mut rest = attributes;
-    while let Some(attribute) = rest.next() {
-        if attribute.kind == kind {
-            return Some(attribute.value);
-        }
-    }
-    None
+    class_number_of(reply.body.attributes().first(CLASS)?)
 }

@@ -85,8 +85,8 @@ impl<'a> Model for Attributes<'a> {
 }
 
 impl<'a> Attributes<'a> {
-    ghost use Rattle.std.specs.Prelude.{◌≡◌};
-    ghost use Rattle.rad_packet.specs.Attributes.{AreAttributes, attributes_in, attributes_octets, attributes_of};
+    ghost use Rattle.std.specs.Prelude.{◌≡◌, option_copied};
+    ghost use Rattle.rad_packet.specs.Attributes.{AreAttributes, attributes_in, attributes_octets, attributes_of, first_value};
 
     /// The attributes that some octets are, one after the other and nothing else, if they are any (RFC 2865, section 5).
     pub fn read(octets: &'a [u8]) -> Option<Attributes<'a>>
@@ -104,6 +104,19 @@ impl<'a> Attributes<'a> {
         ensures { result ≡ attributes_in octets.now }
     {
         Attributes { rest: octets }
+    }
+
+    /// The Value of the first attribute of a Type.
+    pub fn first(self, kind: u8) -> Option<&'a [u8]>
+        ensures { option_copied result ≡ first_value kind self.entry }
+    {
+        let mut rest = self;
+        while let Some(attribute) = rest.next() {
+            if attribute.kind == kind {
+                return Some(attribute.value);
+            }
+        }
+        None
     }
 
     /// The octets of the attributes that are left.

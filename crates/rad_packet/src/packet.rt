@@ -139,13 +139,7 @@ impl<'a> Packet<'a> {
     pub fn first(&self, kind: u8) -> Option<&'a [u8]>
         ensures value { option_copied result ≡ first_value kind self.now.attributes }
     {
-        let mut rest = self.attributes();
-        while let Some(attribute) = rest.next() {
-            if attribute.kind == kind {
-                return Some(attribute.value);
-            }
-        }
-        None
+        self.attributes().first(kind)
     }
 
     /// The Value of the first attribute of a Type that has so many octets.

@@ -1,7 +1,6 @@
 //! What the law asks of a kept reply that is put back, besides the law of its table.
 ghost use Rattle.std.specs.Prelude.{◌≡◌, option_copied, slice_index_or};
 ghost use Rattle.std.specs.List.{list_any};
-ghost use Rattle.rad_packet.specs.Attributes.{first_value};
 ghost use Rattle.rad_server.specs.Restored.{HaveNumbers, begins_sealable, has_used_share, is_address_in, is_reply_of, is_same_place, can_be_sealed, is_its_session, is_value, lacks_session, reply_rules};
 
 use crate::accounting::class_number_of;
@@ -95,7 +94,7 @@ fn is_reply_of(code: u8, attributes: Attributes<'_>) -> bool
     ensures { result ≡ is_reply_of code attributes.entry }
 {
     match code {
-        ACCOUNTING_RESPONSE => first_value(attributes, MESSAGE_AUTHENTICATOR).is_none(),
+        ACCOUNTING_RESPONSE => attributes.first(MESSAGE_AUTHENTICATOR).is_none(),
         ACCESS_ACCEPT | ACCESS_REJECT | ACCESS_CHALLENGE => begins_sealable(attributes),
         _ => false,
     }
@@ -112,22 +111,9 @@ fn begins_sealable(attributes: Attributes<'_>) -> bool
                 kind: MESSAGE_AUTHENTICATOR,
                 value,
             },
-        ) => { value.len() == 16 && first_value(rest, MESSAGE_AUTHENTICATOR).is_none() }
+        ) => { value.len() == 16 && rest.first(MESSAGE_AUTHENTICATOR).is_none() }
         _ => false,
     }
-}
-
-// The Value of the first attribute of a Type.
-fn first_value<'a>(attributes: Attributes<'a>, kind: u8) -> Option<&'a [u8]>
-    ensures { option_copied result ≡ first_value kind attributes.entry }
-{
-    let mut rest = attributes;
-    while let Some(attribute) = rest.next() {
-        if attribute.kind == kind {
-            return Some(attribute.value);
-        }
-    }
-    None
 }
 
 // ---- sessions
@@ -140,7 +126,7 @@ fn lacks_session(sessions: &Sessions, reply: &Kept) -> bool
     if reply.body.code() != ACCESS_ACCEPT {
         return false;
     }
-    let address = first_value(reply.body.attributes(), FRAMED_IP_ADDRESS);
+    let address = reply.body.attributes().first(FRAMED_IP_ADDRESS);
     address.is_some() && !has_session(sessions, reply)
 }
 
@@ -149,7 +135,7 @@ fn has_session(sessions: &Sessions, reply: &Kept) -> bool
     requires { HaveNumbers sessions.now.table }
     ensures { result ≡ list_any (is_its_session reply.now) sessions.now.table.sessions }
 {
-    let Some(class) = first_value(reply.body.attributes(), CLASS) else {
+    let Some(class) = reply.body.attributes().first(CLASS) else {
         return false;
     };
     let Some(number) = class_number_of(class) else {
@@ -165,8 +151,8 @@ fn has_session(sessions: &Sessions, reply: &Kept) -> bool
 fn is_its_session(reply: &Kept, session: &Session) -> bool
     ensures { result ≡ is_its_session reply.now session.now }
 {
-    let class = first_value(reply.body.attributes(), CLASS);
-    let address = first_value(reply.body.attributes(), FRAMED_IP_ADDRESS);
+    let class = reply.body.attributes().first(CLASS);
+    let address = reply.body.attributes().first(FRAMED_IP_ADDRESS);
     is_value(&class_value(session.number), class)
         && is_address_in(address, session.address)
         && session.made == reply.made
