@@ -2,7 +2,6 @@
 ghost use Rattle.std.specs.Prelude.{◌≡◌, ◌≤◌, true, IfOk, IfSome, IsSome, IsTrue, OnSome};
 ghost use Rattle.sqlite_trees.specs.Memory.{memory_view};
 ghost use Rattle.sqlite_trees.specs.View.{IsClean};
-ghost use Rattle.sqlite_trees.specs.declared.store.Shape.TheVariants.{Table};
 ghost use Rattle.rad_config.specs.Spans.{moment_max};
 ghost use Rattle.rad_journal.specs.Stores.{IsFresh};
 ghost use Rattle.rad_snapshot.specs.Snapshots.{AreEmpty, HasTables};
@@ -17,10 +16,9 @@ use rad_packet::Octets;
 use rad_server::{Book, Server};
 use rad_state::{FORMAT, Meta, RULES, write_generation};
 use sqlite_trees::memory::MemStore;
-use sqlite_trees::schema::Object;
 use sqlite_trees::store::{Shape, Store};
 use std::alloc::{AllocError, Global};
-use test_common::{CAMPUS, DRAW};
+use test_common::{CAMPUS, DRAW, table};
 
 /// The wall time of the exchanges, in milliseconds since 1970.
 pub(crate) const WALL: u64 = 1_700_000_000_000;
@@ -98,19 +96,6 @@ pub(crate) fn blank(alloc: Global) -> Result<MemStore, AllocError>
     ];
     let store = MemStore::new(alloc, &tables)?;
     Ok(store)
-}
-
-fn table(name: &'static str) -> Object<'static>
-    ensures { result.shape ≡ Table }
-{
-    Object {
-        shape: Shape::Table,
-        kind: "table",
-        name,
-        table: name,
-        reals: 0,
-        sql: None,
-    }
 }
 
 /// Whether a store has the four tables of a snapshot.

@@ -7,7 +7,7 @@ ghost use Rattle.sqlite_trees.specs.declared.store.Shape.TheVariants.{Table};
 ghost use Rattle.rad_journal.specs.Rows.{table};
 ghost use Rattle.rad_journal.specs.Stores.{HasTables, IsFresh};
 
-use super::stores::{TABLES, journal_of};
+use super::stores::journal_of;
 use rad_journal::{JournalFault, StoreJournal};
 use sqlite_disk::{Disk, Files, Fuse, Memory, Rot};
 use sqlite_pager::{Options, Pager};
@@ -15,6 +15,7 @@ use sqlite_store::{FileStore, Unopened, name_fault};
 use sqlite_trees::store::{Shape, Store};
 use sqlite_wal::PageSize;
 use std::alloc::Global;
+use test_common::JOURNAL_TABLES;
 
 /// A journal in files.
 pub(crate) type FileJournal<D> = StoreJournal<FileStore<D>>;
@@ -47,7 +48,7 @@ fn unopened<D: Disk + Drop>(alloc: Global, files: Files<D>) -> Result<Unopened<D
     let Ok(pager) = Pager::new(alloc, files, size, OPTIONS) else {
         return Err(JournalFault::NoMemory);
     };
-    match Unopened::with_sums(alloc, pager, &TABLES, true) {
+    match Unopened::with_sums(alloc, pager, &JOURNAL_TABLES, true) {
         Ok(unopened) => Ok(unopened),
         Err(_) => Err(JournalFault::NoMemory),
     }

@@ -7,47 +7,17 @@ ghost use Rattle.rad_journal.specs.Stores.{IsFresh};
 use rad_journal::{JournalFault, StoreJournal};
 use sqlite_trees::error::StoreError;
 use sqlite_trees::memory::MemStore;
-use sqlite_trees::schema::Object;
 use sqlite_trees::store::{Shape, Store};
 use sqlite_value::row::Row;
 use sqlite_value::value::ValueRef;
 use std::alloc::{AllocError, Global};
-
-/// The tables of a journal.
-pub(crate) const TABLES: [Object<'static>; 3] = [
-    Object {
-        shape: Shape::Table,
-        kind: "table",
-        name: "exchange",
-        table: "exchange",
-        reals: 0,
-        sql: Some("CREATE TABLE exchange(a, b, c, d, e, f, g, h, i, j)"),
-    },
-    Object {
-        shape: Shape::Table,
-        kind: "table",
-        name: "accounting",
-        table: "accounting",
-        reals: 0,
-        sql: Some(
-            "CREATE TABLE accounting(a, b, c, d, e, f, g, h, i, j, k, l, m, n, o, p, q, r, s, t, u, v)",
-        ),
-    },
-    Object {
-        shape: Shape::Table,
-        kind: "table",
-        name: "grants",
-        table: "grants",
-        reals: 0,
-        sql: Some("CREATE TABLE grants(a, b, c, d, e, f, g, h)"),
-    },
-];
+use test_common::JOURNAL_TABLES;
 
 /// A store that was just made.
 pub(crate) fn blank(alloc: Global) -> Result<MemStore, AllocError>
     ensures { IfOk result (λ store. IsFresh (memory_view store)) }
 {
-    let store = MemStore::new(alloc, &TABLES)?;
+    let store = MemStore::new(alloc, &JOURNAL_TABLES)?;
     Ok(store)
 }
 

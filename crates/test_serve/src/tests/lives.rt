@@ -17,43 +17,11 @@ use rad_state::{Keeping, OneGeneration};
 use rand_chacha::ChaCha20Rng;
 use rand_core::{Rng, SeedableRng};
 use sqlite_trees::memory::MemStore;
-use sqlite_trees::schema::Object;
-use sqlite_trees::store::Shape;
 use std::alloc::{AllocError, AllocGlobal, Global};
 use std::sync::Wait;
 use std::test::Fail;
 use std::thread::Threads;
-use test_common::{CAMPUS, CLIENT, PORT, RFC_REQUEST};
-
-/// The table of a journal.
-const TABLES: [Object<'static>; 3] = [
-    Object {
-        shape: Shape::Table,
-        kind: "table",
-        name: "exchange",
-        table: "exchange",
-        reals: 0,
-        sql: Some("CREATE TABLE exchange(a, b, c, d, e, f, g, h, i, j)"),
-    },
-    Object {
-        shape: Shape::Table,
-        kind: "table",
-        name: "accounting",
-        table: "accounting",
-        reals: 0,
-        sql: Some(
-            "CREATE TABLE accounting(a, b, c, d, e, f, g, h, i, j, k, l, m, n, o, p, q, r, s, t, u, v)",
-        ),
-    },
-    Object {
-        shape: Shape::Table,
-        kind: "table",
-        name: "grants",
-        table: "grants",
-        reals: 0,
-        sql: Some("CREATE TABLE grants(a, b, c, d, e, f, g, h)"),
-    },
-];
+use test_common::{CAMPUS, CLIENT, JOURNAL_TABLES, PORT, RFC_REQUEST};
 
 /// The Codes of an Access-Accept and an Access-Reject.
 const ACCEPT: u8 = 2;
@@ -151,7 +119,7 @@ fn blank(alloc: Global) -> Result<MemStore, AllocError>
     ensures fresh { IfOk result (λ store. IsFresh (memory_view store)) }
     ensures empty { IfOk result (λ store. kept_in (memory_view store) ≡ []) }
 {
-    let store = MemStore::new(alloc, &TABLES)?;
+    let store = MemStore::new(alloc, &JOURNAL_TABLES)?;
     Ok(store)
 }
 

@@ -8,23 +8,11 @@ use rad_journal::JournalFault;
 use rad_server::{HashKey, Server};
 use rad_snapshot::{SnapshotFault, read, write};
 use sqlite_trees::memory::MemStore;
-use sqlite_trees::schema::Object;
 use sqlite_trees::store::{Shape, Store};
 use sqlite_value::row::Row;
 use sqlite_value::value::ValueRef;
 use std::alloc::{AllocError, Global};
-
-// A table.
-fn table(name: &'static str) -> Object<'static> {
-    Object {
-        shape: Shape::Table,
-        kind: "table",
-        name,
-        table: name,
-        reals: 0,
-        sql: None,
-    }
-}
+use test_common::table;
 
 /// A store that was just made: four tables of others, and the four of a snapshot.
 pub(crate) fn blank(alloc: Global) -> Result<MemStore, AllocError>
