@@ -10,8 +10,6 @@ mod firsts;
 mod kinds;
 mod occasion;
 mod record_row;
-#[cfg(test)]
-mod tests;
 
 pub use occasion::Occasion;
 pub use record_row::{fill, fill_grant};

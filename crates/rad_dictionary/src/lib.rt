@@ -15,8 +15,6 @@ mod granted;
 mod kind;
 mod named;
 mod prefix;
-#[cfg(test)]
-mod tests;
 mod value;
 
 pub use attribute::{Meant, attribute_of};

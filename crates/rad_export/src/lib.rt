@@ -13,8 +13,6 @@ mod json_line;
 mod moment;
 mod names;
 mod shown;
-#[cfg(test)]
-mod tests;
 mod wanted;
 
 pub use format::Format;

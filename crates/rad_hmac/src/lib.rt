@@ -13,6 +13,3 @@ mod key;
 
 pub use hmac::{hmac_one, hmac_some, hmac8};
 pub use key::Key;
-
-#[cfg(test)]
-mod tests;

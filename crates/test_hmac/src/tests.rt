@@ -3,8 +3,8 @@ ghost use Rattle.std.specs.Prelude.{◌≡◌, ◌<◌, ◌≤◌, length};
 ghost use Rattle.rad_md5.specs.Pieces.{HasFreePiece, message};
 ghost use Rattle.rad_hmac.specs.Hmac.{hmac, text_limit};
 
-use crate::{Key, hmac8};
 use md5::{Digest, Md5};
+use rad_hmac::{Key, hmac8};
 use rad_md5::Pieces;
 use std::process::Abort;
 

@@ -1,5 +1,5 @@
 //! The columns of an Interim-Update and of an Access-Request as a gateway sends them.
-use crate::{Occasion, fill, fill_grant};
+use rad_accounting::{Occasion, fill, fill_grant};
 use rad_packet::Packet;
 use sqlite_value::row::Row;
 use sqlite_value::value::ValueRef;

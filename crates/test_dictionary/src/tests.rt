@@ -2,7 +2,7 @@
 ghost use Rattle.std.specs.Prelude.{◌≤◌, IfSome};
 ghost use Rattle.rad_dictionary.specs.Values.{tag_max};
 
-use crate::{Given, Misfit, Named, TAG_MAX, attribute_of, may_be_granted};
+use rad_dictionary::{Given, Misfit, Named, TAG_MAX, attribute_of, may_be_granted};
 use std::process::Abort;
 use std::test::Fail;
 

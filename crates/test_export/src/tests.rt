@@ -1,5 +1,5 @@
 //! Lines as other programs get them, times as an operator writes them, and which rows are taken.
-use crate::{Format, Wanted, moment_of};
+use rad_export::{Format, Wanted, moment_of};
 use sqlite_value::row::Row;
 use sqlite_value::value::ValueRef;
 use std::alloc::{AllocError, Global};

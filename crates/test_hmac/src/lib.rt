@@ -1,0 +1,6 @@
+//! Tests of `rad_hmac`, by its public calls alone. They are a crate of their own, so that proving them doesn't prove the
+//! library once more.
+#![tactic(auto)]
+
+#[cfg(test)]
+mod tests;
