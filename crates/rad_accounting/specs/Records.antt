@@ -9,7 +9,11 @@ use Rattle.sqlite_value.specs.declared.value.Value.TheVariants.{Null, Int, Text,
 use Rattle.rad_packet.specs.Attributes.{Attribute, first_integer, first_value}
 use Rattle.rad_packet.specs.Types.{type_acct_status_type, type_framed_ip_address, type_user_name}
 use Rattle.rad_accounting.specs.declared.occasion.Occasion.{Occasion}
-use Rattle.rad_accounting.specs.Types.{type_nas_ip_address, type_nas_port, type_called_station_id, type_calling_station_id, type_nas_identifier, type_acct_delay_time, type_acct_input_octets, type_acct_output_octets, type_acct_session_id, type_acct_session_time, type_acct_input_packets, type_acct_output_packets, type_acct_terminate_cause, type_acct_multi_session_id, type_acct_input_gigawords, type_acct_output_gigawords, type_nas_port_id}
+use Rattle.rad_accounting.specs.Types.{type_nas_ip_address, type_nas_port, type_called_station_id, type_calling_station_id}
+use Rattle.rad_accounting.specs.Types.{type_nas_identifier, type_acct_delay_time, type_acct_input_octets, type_acct_output_octets}
+use Rattle.rad_accounting.specs.Types.{type_acct_session_id, type_acct_session_time, type_acct_input_packets}
+use Rattle.rad_accounting.specs.Types.{type_acct_output_packets, type_acct_terminate_cause, type_acct_multi_session_id}
+use Rattle.rad_accounting.specs.Types.{type_acct_input_gigawords, type_acct_output_gigawords, type_nas_port_id}
 
 -- ---- values
 

@@ -2,7 +2,8 @@
 ghost use Rattle.std.specs.Prelude.{◌≡◌, ◌++◌, ◌∷◌, [], pos, OnOk, option_copied};
 ghost use Rattle.sqlite_value.specs.Value.{owned};
 ghost use Rattle.sqlite_value.specs.declared.value.Value.TheVariants.{Int, Null};
-ghost use Rattle.rad_accounting.specs.Records.{grant_row, number_of, number_value, octets_of, octets_value, report_row, session_value, text_of, text_value};
+ghost use Rattle.rad_accounting.specs.Records.{grant_row, number_of, number_value, octets_of, octets_value, report_row};
+ghost use Rattle.rad_accounting.specs.Records.{session_value, text_of, text_value};
 
 use crate::firsts::Firsts;
 use crate::kinds::{
@@ -23,11 +24,11 @@ use std::str;
 
 /// Makes the row of what is recorded of an Accounting-Request.
 ///
-/// Its columns: entry, which is the rowid and stored as NULL, time, client, source, user, session, status,
-/// acct_session_id, acct_multi_session_id, address, nas_address, nas_identifier, nas_port, nas_port_id, calling_station_id,
-/// called_station_id, session_time, octets_in, octets_out, packets_in, packets_out, terminate_cause, delay. Addresses have their most
-/// significant octet first. Octets have their Gigawords in them. A text is a blob where it is no UTF-8. Source: RFC 2866, section 5, and
-/// RFC 2869, section 5.
+/// Its columns: entry, which is the rowid and stored as NULL, time, client, source, user, session, status, acct_session_id,
+/// acct_multi_session_id, address, nas_address, nas_identifier, nas_port, nas_port_id, calling_station_id, called_station_id,
+/// session_time, octets_in, octets_out, packets_in, packets_out, terminate_cause, delay. Addresses have their most significant
+/// octet first. Octets have their Gigawords in them. A text is a blob where it is no UTF-8. Source: RFC 2866, section 5, and RFC
+/// 2869, section 5.
 pub fn fill(row: &mut Row, occasion: &Occasion, packet: &Packet) -> Result<(), AllocError>
     ensures { OnOk result (row.new ≡ report_row occasion.now packet.now.attributes) }
 {
@@ -55,8 +56,8 @@ pub fn fill(row: &mut Row, occasion: &Occasion, packet: &Packet) -> Result<(), A
 
 /// Makes the row of what is recorded of an Access-Request that is granted a session, with the address that it is granted, if any.
 ///
-/// Its columns: entry, which is the rowid and stored as NULL, time, client, source, user, session, address, calling_station_id. Source:
-/// RFC 2865, section 5.
+/// Its columns: entry, which is the rowid and stored as NULL, time, client, source, user, session, address, calling_station_id.
+/// Source: RFC 2865, section 5.
 pub fn fill_grant(
     row: &mut Row,
     occasion: &Occasion,

@@ -1,5 +1,6 @@
 -- Seats: what a seat that hasn't finished has drawn, and what it keeps when it draws.
-use Rattle.std.proofs.Common.{◌≡◌, ℕ, ◌<◌, Bool, false, List, [], ◌∷◌, ◌++◌, Option, Some, None, is_some, sym, refl, ap, ◌∙◌, append-nil}
+use Rattle.std.proofs.Common.{◌≡◌, ℕ, ◌<◌, Bool, false, List, [], ◌∷◌, ◌++◌, Option, Some, None, is_some, sym, refl, ap, ◌∙◌}
+use Rattle.std.proofs.Common.{append-nil}
 use Rattle.std.proofs.lemmas.Bool.{false≢true}
 use Rattle.std.proofs.lemmas.List.Elements.{All-push}
 use Rattle.std.proofs.lemmas.List.Quantifiers.{all_pairs_push}
@@ -14,7 +15,8 @@ none_of None tested is not_one = refl
 none_of (Some number) tested is not_one = absurd (false≢true (sym not_one ∙ is))
 
 -- it has drawn its batches alone
-pub unfinished : (me : Me (Unit {0}) View) (claimed : List ℕ) (ended : Option ℕ) → ended ≡ None → me ≡ (lent (drawn_by claimed ended), []) → me ≡ (lent claimed, [])
+pub unfinished : (me : Me (Unit {0}) View) (claimed : List ℕ) (ended : Option ℕ) → ended ≡ None
+    → me ≡ (lent (drawn_by claimed ended), []) → me ≡ (lent claimed, [])
 unfinished me claimed None none view = view ∙ ap (λ (numbers : List ℕ). (lent numbers, [])) (append-nil claimed)
 unfinished me claimed (Some number) none view = absurd cc
 

@@ -1,5 +1,6 @@
 -- Claims: batches, counted from 0, each of which one seat claims.
-use Rattle.std.specs.Prelude.{◌≡◌, ℕ, ◌<◌, ◌≤◌, Bool, true, List, [], ◌∷◌, ◌++◌, map, take, Option, Some, None, length, is_some, if◌then◌else◌, nat_lt, MatchOption}
+use Rattle.std.specs.Prelude.{◌≡◌, ℕ, ◌<◌, ◌≤◌, Bool, true, List, [], ◌∷◌, ◌++◌, map, take, Option, Some, None, length, is_some}
+use Rattle.std.specs.Prelude.{if◌then◌else◌, nat_lt, MatchOption}
 use Rattle.std.specs.List.{All, list_all}
 use Rattle.std.specs.Option.{option_to_list}
 use Rattle.atomic_table.specs.Seated.{TableId}

@@ -2,7 +2,8 @@
 ghost use Rattle.std.specs.Prelude.{◌≡◌, ◌≤◌, map, length, vec_len, IfOk, IfNone, IfSome};
 ghost use Rattle.std.specs.List.{All, list_all};
 ghost use Rattle.std.specs.Result.{result_err};
-ghost use Rattle.rad_claim.specs.Claims.{AreDealt, HasEnded, IsFinishedSeatOf, IsNewSeatOf, IsNext, IsSeatOf, batches_max, close_fault, has_finished, seats_max};
+ghost use Rattle.rad_claim.specs.Claims.{AreDealt, HasEnded, IsFinishedSeatOf, IsNewSeatOf, IsNext, IsSeatOf, batches_max};
+ghost use Rattle.rad_claim.specs.Claims.{close_fault, has_finished, seats_max};
 
 use crate::close_fault::CloseFault;
 use crate::rule::{Draw, Draws, Lend, TakeBack};
@@ -82,8 +83,8 @@ impl Claims {
 
     /// Claims the next batch. None: there are no more batches.
     ///
-    /// The seat is one of these claims. Its batches rise; that no other seat has one of them, `close` says. Once it was told None, it
-    /// is told so again, and draws nothing. The call takes no memory and doesn't wait.
+    /// The seat is one of these claims. Its batches rise; that no other seat has one of them, `close` says. Once it was told None,
+    /// it is told so again, and draws nothing. The call takes no memory and doesn't wait.
     pub fn claim(&self, mut seat: ClaimSeat) -> (Option<u64>, ClaimSeat)
         requires { IsSeatOf self.now seat }
         ensures seat { IsSeatOf self.now result.1 }
@@ -116,8 +117,8 @@ impl Claims {
 
     /// Takes the seats back, and returns the batches of each, in the order in which the seats are handed in.
     ///
-    /// The seats are those of these claims. The first fault that applies is returned, and then the seats are dropped. The call takes
-    /// no memory and doesn't wait.
+    /// The seats are those of these claims. The first fault that applies is returned, and then the seats are dropped. The call
+    /// takes no memory and doesn't wait.
     pub fn close(self, seats: Vec<ClaimSeat>) -> Result<Vec<Vec<u64>>, CloseFault>
         requires { All (IsSeatOf self) seats.items }
         ensures dealt { IfOk result (λ lists.

@@ -1,5 +1,6 @@
 -- Attributes as a configuration says them: which one is meant, and its Value.
-use Rattle.std.specs.Prelude.{◌≡◌, ◌≤◌, ℕ, ◌&&◌, nat_le, Bool, true, not, is_some, if◌then◌else◌, Option, option_and_then, Some, None, Result, Ok, ok_or, length}
+use Rattle.std.specs.Prelude.{◌≡◌, ◌≤◌, ℕ, ◌&&◌, nat_le, Bool, true, not, is_some, if◌then◌else◌, Option, option_and_then, Some}
+use Rattle.std.specs.Prelude.{None, Result, Ok, ok_or, length}
 use Rattle.rad_packet.specs.Attributes.{Attribute, value_max}
 use Rattle.rad_packet.specs.Ladders.{◌>>=◌, refuse_if}
 use Rattle.rad_dictionary.specs.Dictionary.{dictionary, kind_of, may_be_granted, type_named}

@@ -1,6 +1,7 @@
 -- Values of attributes as a configuration gives them. A text is a list of octets, which are numbers below 256, and
 -- integers have their most significant octet first.
-use Rattle.std.specs.Prelude.{ℕ, ◌+◌, ◌*◌, ◌^◌, ◌==◌, ◌&&◌, nat_le, nat_lt, Bool, true, false, if◌then◌else◌, List, [], ◌∷◌, ◌++◌, codes, drop, take, length, Option, Some, None, option_map, unwrap_or}
+use Rattle.std.specs.Prelude.{ℕ, ◌+◌, ◌*◌, ◌^◌, ◌==◌, ◌&&◌, nat_le, nat_lt, Bool, true, false, if◌then◌else◌, List, [], ◌∷◌, ◌++◌}
+use Rattle.std.specs.Prelude.{codes, drop, take, length, Option, Some, None, option_map, unwrap_or}
 use Rattle.std.specs.Result.{result_ok}
 use Rattle.std.specs.Int.{w32, to_be_bytes}
 use Rattle.hex.specs.Hex.{decode_of}
@@ -10,7 +11,9 @@ use Rattle.rad_dictionary.specs.Dictionary.{choices, has_name, number_named}
 use Rattle.rad_dictionary.specs.Ipv6.{ipv6_of, ipv6_prefix_of}
 use Rattle.rad_dictionary.specs.declared.enumeration.Enumeration.{Enumeration}
 use Rattle.rad_dictionary.specs.declared.kind.Kind.{Kind}
-use Rattle.rad_dictionary.specs.declared.kind.Kind.TheVariants.{Text, Integer, Enumerated, Address, InterfaceId, Ipv6Address, Ipv6Prefix, TaggedText, TaggedInteger, TaggedEnumerated, VendorSpecific, OfVendor, Unknown}
+use Rattle.rad_dictionary.specs.declared.kind.Kind.TheVariants.{Text, Integer, Enumerated, Address, InterfaceId, Ipv6Address}
+use Rattle.rad_dictionary.specs.declared.kind.Kind.TheVariants.{Ipv6Prefix, TaggedText, TaggedInteger, TaggedEnumerated}
+use Rattle.rad_dictionary.specs.declared.kind.Kind.TheVariants.{VendorSpecific, OfVendor, Unknown}
 use Rattle.rad_dictionary.specs.Parts.{Giving}
 use Rattle.rad_dictionary.specs.Parts as given
 

@@ -29,8 +29,9 @@ pub struct Meant {
 /// The attribute that a name and a Value mean, the Value under a tag of 1 to 31, if there is one.
 ///
 /// A name is one of an RFC, a Type, or a vendor's number and that of its attribute. A number is an integer, or under a vendor four
-/// octets. A text is itself, an address, a prefix as `2001:db8::/32`, or the RFC's name of a number; under a vendor it is an address,
-/// if it spells one. Hex digits are the Value's octets, or those of the vendor's attribute; numbers and prefixes have none.
+/// octets. A text is itself, an address, a prefix as `2001:db8::/32`, or the RFC's name of a number; under a vendor it is an
+/// address, if it spells one. Hex digits are the Value's octets, or those of the vendor's attribute; numbers and prefixes have
+/// none.
 ///
 /// Refused are, in this order, an unknown attribute, or one that an Access-Accept can't be given; a tag where the Value takes none;
 /// a Value of another kind, out of its range, or too long. Source: RFC 2865, section 5, RFC 2868, section 3, RFC 3162, section 2.

@@ -1,7 +1,9 @@
 //! Values of attributes, by how they are given.
 ghost use Rattle.std.specs.Prelude.{◌≡◌, ◌≤◌, ◌*◌, ◌+◌, ◌^◌, IfOk, IfSome, length, option_copied, option_map, unwrap_or};
 ghost use Rattle.rad_packet.specs.Attributes.{value_max};
-ghost use Rattle.rad_dictionary.specs.Values.{bounded, exactly, four_octets, interface_id, is_tagged, named_in, of_hex, of_number, of_octets, of_text, of_vendor, own_max, sized, tag_max, tagged, tagged_text, takes_tag, untagged, written};
+ghost use Rattle.rad_dictionary.specs.Values.{bounded, exactly, four_octets, interface_id, is_tagged, named_in, of_hex, of_number};
+ghost use Rattle.rad_dictionary.specs.Values.{of_octets, of_text, of_vendor, own_max, sized, tag_max, tagged, tagged_text};
+ghost use Rattle.rad_dictionary.specs.Values.{takes_tag, untagged, written};
 ghost use Rattle.rad_dictionary.specs.Seen.{IsShort, IsSized, Makes, giving, prefix_octets};
 
 use crate::enumeration::{Enumeration, has_name, number_named};

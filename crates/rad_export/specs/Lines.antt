@@ -1,6 +1,7 @@
--- Lines of records: JSON (RFC 8259), an object on each line, and CSV (RFC 4180, with a line feed alone after each line). A text is a list
--- of octets.
-use Rattle.std.specs.Prelude.{◌≡◌, ℕ, List, [], ◌∷◌, ◌++◌, map, flat_map, bytes_eq, codes, decimal, if◌then◌else◌, Option, Some, None}
+-- Lines of records: JSON (RFC 8259), an object on each line, and CSV (RFC 4180, with a line feed alone after each line). A text is
+-- a list of octets.
+use Rattle.std.specs.Prelude.{◌≡◌, ℕ, List, [], ◌∷◌, ◌++◌, map, flat_map, bytes_eq, codes, decimal, if◌then◌else◌, Option, Some}
+use Rattle.std.specs.Prelude.{None}
 use Rattle.std.specs.Fmt.{signed_decimal}
 use Rattle.csv.specs.Writing.{default_writer, row_text}
 use Rattle.hex.specs.Hex.{encode_lower}

@@ -2,8 +2,8 @@
 //!
 //! `Wanted` says which rows are taken, and `Format` writes a line for one. A row is one that `rad_accounting::fill` makes.
 //!
-//! Other crates rest on this: `Wanted::takes` answers what `specs/Taken.antt` says, and a line is the one of `specs/Lines.antt`, appended
-//! whole or not at all. How a line's time is written is only tested, and so is how `moment_of` reads one.
+//! Other crates rest on this: `Wanted::takes` answers what `specs/Taken.antt` says, and a line is the one of `specs/Lines.antt`,
+//! appended whole or not at all. How a line's time is written is only tested, and so is how `moment_of` reads one.
 #![tactic(auto)]
 
 mod columns;

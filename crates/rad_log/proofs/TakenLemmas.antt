@@ -1,5 +1,6 @@
 -- What tickets say of a log together: where they have as many entries as the log, they have all of it.
-use Rattle.std.proofs.Common.{◌≡◌, ◌≢◌, ℕ, zero, suc, ◌+◌, ◌≤◌, List, [], ◌∷◌, ◌++◌, drop, length, Some, slice_get, arith, refl, sym, ap, ◌∙◌, subst, length-append}
+use Rattle.std.proofs.Common.{◌≡◌, ◌≢◌, ℕ, zero, suc, ◌+◌, ◌≤◌, List, [], ◌∷◌, ◌++◌, drop, length, Some, slice_get, arith, refl}
+use Rattle.std.proofs.Common.{sym, ap, ◌∙◌, subst, length-append}
 use Rattle.std.proofs.lemmas.List.{append_assoc, append-nil, nil_from_length}
 use Rattle.std.proofs.lemmas.List.Sorted.{IsPermutation-append, IsPermutation-append_comm, IsPermutation-refl, IsPermutation-trans}
 use Rattle.std.proofs.lemmas.Option.{none-some, same_Some}
@@ -38,9 +39,11 @@ module _ {T : Type 0} where
   take_out (x ∷ rest) (suc place) t at =
       let left = entries_of (without rest place) in
       let swapped : IsPermutation ((t.entries ++ x.entries) ++ left) ((x.entries ++ t.entries) ++ left) =
-      IsPermutation-append (t.entries ++ x.entries) (x.entries ++ t.entries) left left (IsPermutation-append_comm t.entries x.entries) (IsPermutation-refl left) in
+      IsPermutation-append (t.entries ++ x.entries) (x.entries ++ t.entries) left left
+      (IsPermutation-append_comm t.entries x.entries) (IsPermutation-refl left) in
       let later : IsPermutation (x.entries ++ (t.entries ++ left)) (x.entries ++ entries_of rest) =
-      IsPermutation-append x.entries x.entries (t.entries ++ left) (entries_of rest) (IsPermutation-refl x.entries) (take_out rest place t at) in
+      IsPermutation-append x.entries x.entries (t.entries ++ left) (entries_of rest) (IsPermutation-refl x.entries)
+      (take_out rest place t at) in
       subst (λ l. IsPermutation (t.entries ++ entries_of l) (x.entries ++ entries_of rest)) (sym (out_later x rest place))
       (IsPermutation-trans (t.entries ++ (x.entries ++ left)) (x.entries ++ (t.entries ++ left)) (x.entries ++ entries_of rest)
       (subst (λ l. IsPermutation l (x.entries ++ (t.entries ++ left))) (append_assoc t.entries x.entries left)
@@ -55,7 +58,8 @@ module _ {T : Type 0} where
       ∙ ap (λ (u : Taking T). length u.entries + length (entries_of rest)) (same_Some x t at)
       ∙ ap (λ l. length t.entries + length (entries_of l)) (sym (out_first x rest))
   count_out (x ∷ rest) (suc place) t at =
-      let left : length (entries_of (without (x ∷ rest) (suc place))) ≡ length x.entries + length (entries_of (without rest place)) =
+      let left : length (entries_of (without (x ∷ rest) (suc place)))
+      ≡ length x.entries + length (entries_of (without rest place)) =
       ap (λ l. length (entries_of l)) (out_later x rest place) ∙ length-append x.entries (entries_of (without rest place)) in
       omega (arith, left, count_out rest place t at, length-append x.entries (entries_of rest))
 
@@ -68,7 +72,8 @@ module _ {T : Type 0} where
   still_has (x ∷ rest) zero t u at apart (suc other) there = subst (λ l. Has l u) (sym (out_first x rest)) (other, there)
   still_has (x ∷ rest) (suc place) t u at apart zero there = subst (λ l. Has l u) (sym (out_later x rest place)) (0, there)
   still_has (x ∷ rest) (suc place) t u at apart (suc other) there =
-      let has = still_has rest place t u at apart other there in subst (λ l. Has l u) (sym (out_later x rest place)) (suc has.0, has.1)
+      let has = still_has rest place t u at apart other there in
+      subst (λ l. Has l u) (sym (out_later x rest place)) (suc has.0, has.1)
 
   -- takings of a log, with numbers of their own and as many entries as the log, have its entries
   pub are_all : (ts log : List (Taking T)) → AreApart ts → ((place : ℕ) (t : Taking T) → slice_get ts place ≡ Some t → Has log t)
@@ -95,15 +100,19 @@ module _ {T : Type 0} where
   pub entry_in : (log : List (Taking T)) (place : ℕ) (t : Taking T) → slice_get log place ≡ Some t → (k : ℕ) (e : T)
       → slice_get t.entries k ≡ Some e → (j : ℕ) × (slice_get (entries_of log) j ≡ Some e)
   entry_in [] place t at k e there = absurd (none-some t at)
-  entry_in (x ∷ rest) zero t at k e there =
-      (k, front x.entries (entries_of rest) k (subst (λ (u : Taking T). slice_get u.entries k ≡ Some e) (sym (same_Some x t at)) there))
+  entry_in (x ∷ rest) zero t at k e there = (
+    k,
+    front x.entries (entries_of rest) k
+        (subst (λ (u : Taking T). slice_get u.entries k ≡ Some e) (sym (same_Some x t at)) there),
+  )
     where
       front : (xs ys : List T) (i : ℕ) → slice_get xs i ≡ Some e → slice_get (xs ++ ys) i ≡ Some e
       front [] ys i is = absurd (none-some e is)
       front (y ∷ xs) ys zero is = is
       front (y ∷ xs) ys (suc i) is = front xs ys i is
   entry_in (x ∷ rest) (suc place) t at k e there =
-      let later = entry_in rest place t at k e there in (length x.entries + later.0, behind x.entries (entries_of rest) later.0 later.1)
+      let later = entry_in rest place t at k e there in
+      (length x.entries + later.0, behind x.entries (entries_of rest) later.0 later.1)
     where
       behind : (xs ys : List T) (i : ℕ) → slice_get ys i ≡ Some e → slice_get (xs ++ ys) (length xs + i) ≡ Some e
       behind [] ys i is = let zero : 0 + i ≡ i = omega arith in subst (λ n. slice_get ys n ≡ Some e) (sym zero) is
@@ -122,7 +131,8 @@ module _ {T : Type 0} where
   drop_own (x ∷ xs) ys = drop_own xs ys
 
   -- where a log has all of a history, what is published of a longer one is what was appended
-  pub published_is : (log longer : List (Taking T)) (t : Taking T) (number : ℕ) (history now more : List T) → entries_of log ≡ history
+  pub published_is : (log longer : List (Taking T)) (t : Taking T) (number : ℕ) (history now more : List T)
+      → entries_of log ≡ history
       → now ≡ history ++ more → longer ≡ log ++ t ∷ [] → t ≡ taking number (newer log now)
       → (t ≡ taking number more) × (entries_of longer ≡ now)
   published_is log longer t number history now more all appended is published =

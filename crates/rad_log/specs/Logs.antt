@@ -61,7 +61,8 @@ Fits keeper log seat view = (view.keeps ≡ true → (seat ≡ keeper) × (view.
 -- only one seat knows the log, and each taking that is claimed stands in it
 abbrev pub IsKept : {T : Type 0} → List (View T) → Type 0
 IsKept {T = T} views =
-    (keeper : ℕ) × (log : List (Taking T)) × ((seat : ℕ) (view : View T) → get_elem? views seat ≡ some view → Fits keeper log seat view)
+    (keeper : ℕ) × (log : List (Taking T))
+    × ((seat : ℕ) (view : View T) → get_elem? views seat ≡ some view → Fits keeper log seat view)
 
 -- ---- private: the steps
 

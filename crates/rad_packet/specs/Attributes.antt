@@ -1,6 +1,7 @@
 -- Attributes (RFC 2865, section 5): Type, Length and Value. An octet is a number below 256, and octets in a row are a
 -- list of them.
-use Rattle.std.specs.Prelude.{◌≡◌, ℕ, zero, suc, ◌+◌, ◌-◌, ◌<◌, ◌≤◌, ◌==◌, ◌&&◌, ◌||◌, nat_lt, Bool, if◌then◌else◌, List, [], ◌∷◌, length, take, drop, Option, Some, None, option_map, unwrap_or, filter, find, count_by}
+use Rattle.std.specs.Prelude.{◌≡◌, ℕ, zero, suc, ◌+◌, ◌-◌, ◌<◌, ◌≤◌, ◌==◌, ◌&&◌, ◌||◌, nat_lt, Bool, if◌then◌else◌, List, [], ◌∷◌}
+use Rattle.std.specs.Prelude.{length, take, drop, Option, Some, None, option_map, unwrap_or, filter, find, count_by}
 use Rattle.std.specs.Int.{w32, from_be_bytes}
 use Rattle.std.specs.List.{flat_map, list_any, AllByRecursion}
 
@@ -46,7 +47,8 @@ attributes_within zero (kind ∷ rest) = None
 attributes_within (suc most) (kind ∷ []) = None
 attributes_within (suc most) (kind ∷ len ∷ rest) =
     if nat_lt len 2 || nat_lt (length rest + 2) len then None
-    else option_map (λ list. record { kind = kind; value = take (len - 2) rest } ∷ list) (attributes_within most (drop (len - 2) rest))
+    else option_map (λ list. record { kind = kind; value = take (len - 2) rest } ∷ list)
+    (attributes_within most (drop (len - 2) rest))
 
 -- the attributes that octets are, by the grammar, where they are any
 abbrev pub attributes_of : List ℕ → Option (List Attribute)

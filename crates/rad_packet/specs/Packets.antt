@@ -1,11 +1,13 @@
 -- Packets (RFC 2865, section 3). An octet is a number below 256, and numbers of two octets have the most significant
 -- octet first.
-use Rattle.std.specs.Prelude.{◌≡◌, ℕ, ◌+◌, ◌<◌, ◌≤◌, ◌⊎◌, ◌||◌, nat_lt, if◌then◌else◌, List, ◌∷◌, ◌++◌, length, take, drop, slice_index, Option, Some, None, Result, Ok, Err}
+use Rattle.std.specs.Prelude.{◌≡◌, ℕ, ◌+◌, ◌<◌, ◌≤◌, ◌⊎◌, ◌||◌, nat_lt, if◌then◌else◌, List, ◌∷◌, ◌++◌, length, take, drop}
+use Rattle.std.specs.Prelude.{slice_index, Option, Some, None, Result, Ok, Err}
 use Rattle.std.specs.Int.{w16, to_be_bytes, from_be_bytes}
 use Rattle.rad_packet.specs.declared.packet.ReadFault.{ReadFault}
 use Rattle.rad_packet.specs.declared.packet.ReadFault.TheVariants.{Short, BadLength, Truncated, BadAttributes}
 use Rattle.std.specs.List.{AllByRecursion}
-use Rattle.rad_packet.specs.Attributes.{Attribute, IsAttribute, AreAttributes, attributes_octets, attributes_of, attributes_in, size}
+use Rattle.rad_packet.specs.Attributes.{Attribute, IsAttribute, AreAttributes, attributes_octets, attributes_of, attributes_in}
+use Rattle.rad_packet.specs.Attributes.{size}
 
 pub record Packet : Type 0 where
   pub code : ℕ

@@ -2,7 +2,8 @@ ghost use Rattle.std.specs.Prelude.{◌≡◌, ◌≤◌, length, IfOk, IfErr, I
 ghost use Rattle.std.specs.List.{AllByRecursion};
 ghost use Rattle.std.specs.Option.{option_copied};
 ghost use Rattle.rad_packet.specs.Attributes.{IsAttribute, first_value, first_value_of_len, count};
-ghost use Rattle.rad_packet.specs.Packets.{Packet, packet_of, read_fault_number, packet_octets, packet_length, length_field, length_max, IsPacket, IsFault};
+ghost use Rattle.rad_packet.specs.Packets.{Packet, packet_of, read_fault_number, packet_octets, packet_length, length_field};
+ghost use Rattle.rad_packet.specs.Packets.{length_max, IsPacket, IsFault};
 
 use crate::attribute::{Attributes, are_attributes};
 use std::marker::Model;

@@ -1,4 +1,5 @@
-use Rattle.std.proofs.Common.{◌≡◌, ◌≢◌, ℕ, ◌+◌, ◌*◌, ◌/◌, ◌%◌, ◌^◌, ◌<◌, List, length, get_or, set, arith, ap, ◌∙◌, sym, w64, inl, inr, ◌⊎◌}
+use Rattle.std.proofs.Common.{◌≡◌, ◌≢◌, ℕ, ◌+◌, ◌*◌, ◌/◌, ◌%◌, ◌^◌, ◌<◌, List, length, get_or, set, arith, ap, ◌∙◌, sym, w64, inl}
+use Rattle.std.proofs.Common.{inr, ◌⊎◌}
 use Rattle.std.proofs.lemmas.Bool.{cases_lt}
 use Rattle.std.proofs.lemmas.Grind.{get_or-set_at}
 use Rattle.std.proofs.lemmas.List.{get_or-set_same, get_or-set_other, get_or_default}
@@ -12,12 +13,16 @@ equal_or_not a b = elim (cases_lt a b) [
   | inr ge ↦ elim (cases_lt b a) [ inl gt ↦ inr (λ e. omega arith) | inr le ↦ inl (omega arith) ]
 ]
 
-pub write_here : (words : List ℕ) (at n v : ℕ) → at / 64 < length words → bit_at n (at % 64) ≡ v → marked (set words (at / 64) n) at ≡ v
+pub write_here : (words : List ℕ) (at n v : ℕ) → at / 64 < length words → bit_at n (at % 64) ≡ v
+    → marked (set words (at / 64) n) at ≡ v
 write_here words at n v lt e = ap (λ w. bit_at w (at % 64)) (get_or-set_same words (at / 64) n 0 lt) ∙ e
 
-pub write_other : (words : List ℕ) (at n : ℕ) → at / 64 < length words → ((j : ℕ) → j < 64 → j ≢ at % 64 → bit_at n j ≡ bit_at (get_or words (at / 64) 0) j) → (i : ℕ) → i ≢ at → marked (set words (at / 64) n) i ≡ marked words i
+pub write_other : (words : List ℕ) (at n : ℕ) → at / 64 < length words
+    → ((j : ℕ) → j < 64 → j ≢ at % 64 → bit_at n j ≡ bit_at (get_or words (at / 64) 0) j) → (i : ℕ) → i ≢ at
+    → marked (set words (at / 64) n) i ≡ marked words i
 write_other words at n lt keep i other = elim (equal_or_not (i / 64) (at / 64)) [
-  | inl e ↦ ap (λ w. bit_at w (i % 64)) (get_or-set_at words (at / 64) (i / 64) n 0 e lt) ∙ keep (i % 64) (omega arith) (λ same. other (omega arith)) ∙ ap (λ k. bit_at (get_or words k 0) (i % 64)) (sym e)
+  | inl e ↦ ap (λ w. bit_at w (i % 64)) (get_or-set_at words (at / 64) (i / 64) n 0 e lt)
+      ∙ keep (i % 64) (omega arith) (λ same. other (omega arith)) ∙ ap (λ k. bit_at (get_or words k 0) (i % 64)) (sym e)
   | inr ne ↦ ap (λ w. bit_at w (i % 64)) (get_or-set_other words (at / 64) (i / 64) n 0 ne)
 ]
 
@@ -29,13 +34,15 @@ at_place words w t lt =
 
 -- the lowest bit of a word that is not 0
 pub lowest_here : (words : List ℕ) (w : ℕ) → w < length words → 0 < get_or words w 0 → get_or words w 0 < 2 ^ 64 →
-    (w * 64 + trailing_zeros w64 (get_or words w 0) < 64 * length words) × (marked words (w * 64 + trailing_zeros w64 (get_or words w 0)) ≡ 1)
+    (w * 64 + trailing_zeros w64 (get_or words w 0) < 64 * length words)
+    × (marked words (w * 64 + trailing_zeros w64 (get_or words w 0)) ≡ 1)
 lowest_here words w lt pos fits =
     let k = bit_at-trailing_zeros w64 (get_or words w 0) pos fits in
     let t : trailing_zeros w64 (get_or words w 0) < 64 = k.0 in
     (omega arith, at_place words w (trailing_zeros w64 (get_or words w 0)) t ∙ k.1)
 
-pub none_before : (words : List ℕ) (w : ℕ) → 0 < get_or words w 0 → get_or words w 0 < 2 ^ 64 → ((v : ℕ) → v < w → get_or words v 0 ≡ 0) →
+pub none_before : (words : List ℕ) (w : ℕ) → 0 < get_or words w 0 → get_or words w 0 < 2 ^ 64
+    → ((v : ℕ) → v < w → get_or words v 0 ≡ 0) →
     (i : ℕ) → i < w * 64 + trailing_zeros w64 (get_or words w 0) → marked words i ≡ 0
 none_before words w pos fits zero i lt =
     let k = bit_at-trailing_zeros w64 (get_or words w 0) pos fits in

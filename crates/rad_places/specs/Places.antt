@@ -1,5 +1,6 @@
 -- How often each address of a pool is in use. Places are counted from 0: the address at a place is the first one plus the place.
-use Rattle.std.specs.Prelude.{◌≡◌, ℕ, ◌+◌, ◌-◌, ◌*◌, ◌<◌, ◌≤◌, ◌&&◌, nat_le, nat_lt, Bool, List, length, replicate, slice_index, slice_set, Option, None, Some, if◌then◌else◌}
+use Rattle.std.specs.Prelude.{◌≡◌, ℕ, ◌+◌, ◌-◌, ◌*◌, ◌<◌, ◌≤◌, ◌&&◌, nat_le, nat_lt, Bool, List, length, replicate, slice_index}
+use Rattle.std.specs.Prelude.{slice_set, Option, None, Some, if◌then◌else◌}
 use Rattle.rad_places.specs.Marks.{marked}
 
 -- the first address, how often each address is in use, and the number that was noted last for each

@@ -1,4 +1,5 @@
-use Rattle.std.proofs.Common.{zero, suc, false, cond, remove, subst, sym, Result, Ok, Err, OnOk, ◌≡◌, ℕ, ◌≤◌, ◌<◌, List, [], ◌∷◌, ◌++◌, Bool, arith, refl, ap, ◌∙◌, filter, get_or, length, set, ltb}
+use Rattle.std.proofs.Common.{zero, suc, false, cond, remove, subst, sym, Result, Ok, Err, OnOk, ◌≡◌, ℕ, ◌≤◌, ◌<◌, List, [], ◌∷◌}
+use Rattle.std.proofs.Common.{◌++◌, Bool, arith, refl, ap, ◌∙◌, filter, get_or, length, set, ltb}
 use Rattle.std.specs.List.{All, FoldsTo}
 use Rattle.std.proofs.lemmas.List.Elements.{All-weaker, All-head, All-tail, All-push, All-set}
 use Rattle.std.proofs.lemmas.List.Sums.{length-filter, count_by-le-length}
@@ -33,7 +34,8 @@ module _ {T S : Type 0} (live : S → ℕ → T → Bool) (spans : S) where
       (none_dead bound now rows lt small (All-tail (LivesUntil live spans bound) row rows h))
 
   -- one more row, and an earlier moment
-  pub lives_more : (bound last early : ℕ) (rows : List T) (row : T) → early ≤ bound → early ≤ last → All (LivesUntil live spans bound) rows
+  pub lives_more : (bound last early : ℕ) (rows : List T) (row : T) → early ≤ bound → early ≤ last
+      → All (LivesUntil live spans bound) rows
       → LivesUntil live spans last row → All (LivesUntil live spans early) (rows ++ row ∷ [])
   lives_more bound last early rows row le le' h k =
       All-push (LivesUntil live spans early) rows row (all_lives_less bound early rows le h) (lives_less last early row le' k)

@@ -1,4 +1,5 @@
-use Rattle.std.proofs.Common.{◌≡◌, ℕ, zero, suc, ◌+◌, ◌-◌, ◌≤◌, List, [], ◌∷◌, ◌++◌, Bool, false, arith, refl, ap, ◌∙◌, sym, filter, subst, take, drop, length, Option, Some, None, slice_get, unwrap_or, is_some, true≢false, add-one}
+use Rattle.std.proofs.Common.{◌≡◌, ℕ, zero, suc, ◌+◌, ◌-◌, ◌≤◌, List, [], ◌∷◌, ◌++◌, Bool, false, arith, refl, ap, ◌∙◌, sym, filter}
+use Rattle.std.proofs.Common.{subst, take, drop, length, Option, Some, None, slice_get, unwrap_or, is_some, true≢false, add-one}
 use Rattle.std.specs.List.{All, FoldsTo}
 use Rattle.std.specs.Map.{values_of}
 use Rattle.std.proofs.lemmas.List.{length-append}
@@ -52,7 +53,12 @@ module _ {T S : Type 0} where
   length_set (e ∷ es) zero v w h =
       rw (← some_is e.1 v h) (omega (arith, length-append e.1.rows (all_rows es), length-append w.rows (all_rows es)))
   length_set (e ∷ es) (suc i) v w h =
-      omega (arith, length_set es i v w h, length-append e.1.rows (all_rows (set_value_at es i w)), length-append e.1.rows (all_rows es))
+      omega (
+        arith,
+        length_set es i v w h,
+        length-append e.1.rows (all_rows (set_value_at es i w)),
+        length-append e.1.rows (all_rows es),
+      )
 
   -- the i-th block has no more rows than all
   pub length_part : (es : List (Entry T S)) (i : ℕ) (v : SeenBlock T S) → slice_get (values_of es) i ≡ Some v
@@ -63,7 +69,8 @@ module _ {T S : Type 0} where
   length_part (e ∷ es) (suc i) v h = omega (arith, length_part es i v h, length-append e.1.rows (all_rows es))
 
   -- what holds of each block holds of the i-th
-  pub block_holds : (P : Entry T S → Type 0) (es : List (Entry T S)) (i : ℕ) (v : SeenBlock T S) → slice_get (values_of es) i ≡ Some v
+  pub block_holds : (P : Entry T S → Type 0) (es : List (Entry T S)) (i : ℕ) (v : SeenBlock T S)
+      → slice_get (values_of es) i ≡ Some v
       → All P es → (key : ℕ) × P (key, v)
   block_holds P [] zero v h k = not_none v h
   block_holds P [] (suc i) v h k = not_none v h
@@ -78,14 +85,16 @@ module _ {T S : Type 0} where
         record { block = record { rows = all_lives_less live e.1.spans late early e.1.rows le h.block.rows } }
 
     -- told of the i-th block, and then of those after it
-    pub told_step : {G : Type 0} (step : G → T → G → Type 0) (spans : S) (now : ℕ) (es : List (Entry T S)) (i : ℕ) (v : SeenBlock T S)
+    pub told_step : {G : Type 0} (step : G → T → G → Type 0) (spans : S) (now : ℕ) (es : List (Entry T S)) (i : ℕ)
+        (v : SeenBlock T S)
         (whole : List T) (first tally next : G) → slice_get (values_of es) i ≡ Some v → v.spans ≡ spans
         → Tells step live v.spans now v.rows tally next
         → ((last : G) → Tells step live spans now (all_rows (drop i es)) tally last → Tells step live spans now whole first last)
         → (last : G) → Tells step live spans now (all_rows (drop (i + 1) es)) next last → Tells step live spans now whole first last
     told_step {G} step spans now es i v whole first tally next h same is before last more =
         before last (subst (λ rows. Tells step live spans now rows tally last) (sym (rows_from es i v h))
-        (subst (λ rows. FoldsTo step tally rows last) (sym (filter-append (is_dead live spans now) v.rows (all_rows (drop (suc i) es))))
+        (subst (λ rows. FoldsTo step tally rows last)
+        (sym (filter-append (is_dead live spans now) v.rows (all_rows (drop (suc i) es))))
         (folds_join step (filter (is_dead live spans now) v.rows) (filter (is_dead live spans now) (all_rows (drop (suc i) es)))
         tally next last (subst (λ s. Tells step live s now v.rows tally next) same is)
         (subst (λ n. Tells step live spans now (all_rows (drop n es)) next last) (add-one i) more))))
@@ -109,7 +118,8 @@ module _ {T S : Type 0} where
   old_block f es ys i v is here = sym (next_block f es i) ∙ sym (ap (λ l. slice_get (values_of l) i) is) ∙ here
 
   -- how many rows there are after one block lost some
-  pub count_more : (es : List (Entry T S)) (i : ℕ) (v w : SeenBlock T S) (count before after : ℕ) → slice_get (values_of es) i ≡ Some v
+  pub count_more : (es : List (Entry T S)) (i : ℕ) (v w : SeenBlock T S) (count before after : ℕ)
+      → slice_get (values_of es) i ≡ Some v
       → before ≡ length v.rows → after ≡ length w.rows → after ≤ before → count ≡ length (all_rows es)
       → count - (before - after) ≡ length (all_rows (set_value_at es i w))
   count_more es i v w count before after here b a le is =
@@ -120,7 +130,8 @@ module _ {T S : Type 0} where
       → length ys ≡ length es
   as_many f es ys i is = ap length is ∙ many f es i
     where
-      many : (f : SeenBlock T S → SeenBlock T S) (es : List (Entry T S)) (i : ℕ) → length (on_blocks f (take i es) ++ drop i es) ≡ length es
+      many : (f : SeenBlock T S → SeenBlock T S) (es : List (Entry T S)) (i : ℕ)
+          → length (on_blocks f (take i es) ++ drop i es) ≡ length es
       many f [] zero = refl
       many f [] (suc i) = refl
       many f (e ∷ es) zero = refl

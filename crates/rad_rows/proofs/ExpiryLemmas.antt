@@ -1,5 +1,6 @@
 -- One block after the other: those whose rows all live longer are passed over.
-use Rattle.std.proofs.Common.{◌≡◌, ◌≢◌, ℕ, zero, suc, ◌/◌, ◌%◌, ◌≤◌, ◌<◌, List, [], ◌∷◌, ◌++◌, Bool, arith, refl, ap, ◌∙◌, sym, filter, subst, take, drop, length, get_or, inl, inr}
+use Rattle.std.proofs.Common.{◌≡◌, ◌≢◌, ℕ, zero, suc, ◌/◌, ◌%◌, ◌≤◌, ◌<◌, List, [], ◌∷◌, ◌++◌, Bool, arith, refl, ap, ◌∙◌, sym}
+use Rattle.std.proofs.Common.{filter, subst, take, drop, length, get_or, inl, inr}
 use Rattle.std.specs.List.{All, FoldsTo}
 use Rattle.std.proofs.lemmas.Bool.{cases_eq}
 use Rattle.std.proofs.lemmas.List.Elements.{All-head, All-tail, filter-append}
@@ -20,9 +21,11 @@ module _ {T S : Type 0} (live : S → ℕ → T → Bool) (now : ℕ) (small : n
   abbrev pub AreSpared : List (Entry T S) → (from to : ℕ) → Type 0
   AreSpared es from to = (place : ℕ) (d : Entry T S) → from ≤ place → place < to → place < length es → IsSpared (get_or es place d)
 
-  rest_spared : (e : Entry T S) (es : List (Entry T S)) (from to : ℕ) → AreSpared (e ∷ es) from (suc to) → (below : ℕ) → from ≤ suc below
+  rest_spared : (e : Entry T S) (es : List (Entry T S)) (from to : ℕ) → AreSpared (e ∷ es) from (suc to) → (below : ℕ)
+      → from ≤ suc below
       → AreSpared es below to
-  rest_spared e es from to h below le = λ place d a b c. h (suc place) d (omega (arith, a, le)) (omega (arith, b)) (omega (arith, c))
+  rest_spared e es from to h below le =
+      λ place d a b c. h (suc place) d (omega (arith, a, le)) (omega (arith, b)) (omega (arith, c))
 
   spared_same : (e : Entry T S) → IsSpared e → on_block (cut_block live now) e ≡ e
   spared_same e h =
@@ -50,9 +53,12 @@ module _ {T S : Type 0} (live : S → ℕ → T → Bool) (now : ℕ) (small : n
       let first = h 0 e (omega arith) (omega arith) (omega arith) in
       let none : filter (is_dead live spans now) e.1.rows ≡ [] =
       none_dead live spans first.bound now e.1.rows first.later small
-      (subst (λ s. All (LivesUntil live s first.bound) e.1.rows) (All-head (HasSpans spans) e es same).same first.lives.block.rows) in
-      filter-append (is_dead live spans now) e.1.rows (all_rows es) ∙ ap (λ l. l ++ filter (is_dead live spans now) (all_rows es)) none
-      ∙ spared_dead spans es zero to (omega arith) (All-tail (HasSpans spans) e es same) (rest_spared e es zero to h zero (omega arith))
+      (subst (λ s. All (LivesUntil live s first.bound) e.1.rows) (All-head (HasSpans spans) e es same).same
+      first.lives.block.rows) in
+      filter-append (is_dead live spans now) e.1.rows (all_rows es)
+      ∙ ap (λ l. l ++ filter (is_dead live spans now) (all_rows es)) none
+      ∙ spared_dead spans es zero to (omega arith) (All-tail (HasSpans spans) e es same)
+      (rest_spared e es zero to h zero (omega arith))
   spared_dead spans es (suc from) zero le same h = absurd (omega (arith, le))
   spared_dead spans [] (suc from) (suc to) le same h = refl
   spared_dead spans (e ∷ es) (suc from) (suc to) le same h =
@@ -67,7 +73,8 @@ module _ {T S : Type 0} (live : S → ℕ → T → Bool) (now : ℕ) (small : n
       before last (subst (λ rows. FoldsTo told tally rows last) (sym (spared_dead spans es from to le same h)) more)
 
   -- by the bounds of the groups
-  pub spared_bounds : (bounds : List ℕ) (es : List (Entry T S)) (from to : ℕ) → IsGrouped live from bounds es → (from % 64 ≢ 0 → to ≡ from)
+  pub spared_bounds : (bounds : List ℕ) (es : List (Entry T S)) (from to : ℕ) → IsGrouped live from bounds es
+      → (from % 64 ≢ 0 → to ≡ from)
       → ((place : ℕ) → from ≤ place → place < to → now < get_or bounds (place / 64) 0) → AreSpared es from to
   spared_bounds bounds es from to h begun later = λ place d low high lt. record {
     bound = get_or bounds (place / 64) 0;
@@ -91,5 +98,6 @@ module _ {T S : Type 0} (live : S → ℕ → T → Bool) (now : ℕ) (small : n
       rest_at (e ∷ es) (suc from) zero d le = absurd (omega (arith, le))
       rest_at (e ∷ es) (suc from) (suc place) d le = rest_at es from place d (omega (arith, le))
 
-      as_long : (es : List (Entry T S)) (from : ℕ) → length (on_blocks (cut_block live now) (take from es) ++ drop from es) ≡ length es
+      as_long : (es : List (Entry T S)) (from : ℕ)
+          → length (on_blocks (cut_block live now) (take from es) ++ drop from es) ≡ length es
       as_long es from = as_many (cut_block live now) es _ from refl

@@ -1,4 +1,5 @@
-use Rattle.std.proofs.Common.{◌≡◌, ◌≢◌, ℕ, zero, suc, ◌+◌, ◌*◌, ◌/◌, ◌%◌, ◌≤◌, ◌<◌, List, [], ◌∷◌, ◌++◌, Bool, arith, refl, ap, sym, subst, length, get_or, replicate, Some, slice_get, inl, inr}
+use Rattle.std.proofs.Common.{◌≡◌, ◌≢◌, ℕ, zero, suc, ◌+◌, ◌*◌, ◌/◌, ◌%◌, ◌≤◌, ◌<◌, List, [], ◌∷◌, ◌++◌, Bool, arith, refl, ap, sym}
+use Rattle.std.proofs.Common.{subst, length, get_or, replicate, Some, slice_get, inl, inr}
 use Rattle.std.specs.List.{All}
 use Rattle.std.specs.Map.{values_of}
 use Rattle.std.proofs.lemmas.Bool.{cases_eq}
@@ -14,7 +15,8 @@ use Rattle.rad_rows.proofs.EntryLemmas.{entry_lives_less, not_none, some_is}
 module _ {T S : Type 0} where
   -- ---- what stands at a place
 
-  pub get_set : (P : Entry T S → Type 0) (es : List (Entry T S)) (i place : ℕ) (w : SeenBlock T S) (d : Entry T S) → place < length es
+  pub get_set : (P : Entry T S → Type 0) (es : List (Entry T S)) (i place : ℕ) (w : SeenBlock T S) (d : Entry T S)
+      → place < length es
       → (place ≡ i → (key : ℕ) → P (key, w)) → ((place ≡ i → ⊥) → P (get_or es place d)) → P (get_or (set_value_at es i w) place d)
   get_set P [] i place w d lt new old = absurd (omega (arith, lt))
   get_set P (e ∷ es) zero zero w d lt new old = new refl e.0
@@ -58,14 +60,16 @@ module _ {T S : Type 0} where
     }
 
     -- its group's bound comes no later
-    pub grouped_lower : (i : ℕ) (bounds new : List ℕ) (last : ℕ) (es : List (Entry T S)) (w : SeenBlock T S) → IsGrouped live 0 bounds es
+    pub grouped_lower : (i : ℕ) (bounds new : List ℕ) (last : ℕ) (es : List (Entry T S)) (w : SeenBlock T S)
+        → IsGrouped live 0 bounds es
         → length new ≡ length bounds → ((group : ℕ) → get_or new group 0 ≤ get_or bounds group 0) → get_or new (i / 64) 0 ≤ last
         → BlockLives live last w → IsGrouped live 0 new (set_value_at es i w)
     grouped_lower i bounds new last es w h long earlier here lives =
         grouped_set 0 0 i bounds new last es w h long here lives (λ place other on. (on, earlier (place / 64)))
 
     -- the bounds up to it are found anew
-    pub grouped_renew : (i : ℕ) (bounds new : List ℕ) (last : ℕ) (es : List (Entry T S)) (w : SeenBlock T S) → IsGrouped live i bounds es
+    pub grouped_renew : (i : ℕ) (bounds new : List ℕ) (last : ℕ) (es : List (Entry T S)) (w : SeenBlock T S)
+        → IsGrouped live i bounds es
         → length new ≡ length bounds → ((group : ℕ) → (group ≡ i / 64 → i % 64 ≢ 0) → get_or new group 0 ≤ get_or bounds group 0)
         → get_or new (i / 64) 0 ≤ last → BlockLives live last w → IsGrouped live (i + 1) new (set_value_at es i w)
     grouped_renew i bounds new last es w h long earlier here lives =
@@ -105,13 +109,19 @@ module _ {T S : Type 0} where
       enough = omega (arith, h.enough, length-map es (on_block (block_without number n)));
       lives = λ place d lt on.
           let within : place < length es = omega (arith, lt, length-map es (on_block (block_without number n))) in
-          subst (EntryLives live (get_or bounds (place / 64) 0)) (sym (get_or-map (on_block (block_without number n)) es place d d within))
+          subst (EntryLives live (get_or bounds (place / 64) 0))
+          (sym (get_or-map (on_block (block_without number n)) es place d d within))
           (keeps (get_or bounds (place / 64) 0) (get_or es place d) (h.lives place d within on));
     }
       where
         keeps : (bound : ℕ) (e : Entry T S) → EntryLives live bound e → EntryLives live bound (on_block (block_without number n) e)
         keeps bound e h =
-            record { block = record { rows = All-filter (has_other number n) (LivesUntil live e.1.spans bound) e.1.rows h.block.rows } }
+            record {
+              block = record {
+                rows =
+                    All-filter (has_other number n) (LivesUntil live e.1.spans bound) e.1.rows h.block.rows;
+              };
+            }
 
     -- a block with the same rows
     pub grouped_same : (bounds : List ℕ) (es : List (Entry T S)) (i : ℕ) (v w : SeenBlock T S) → slice_get (values_of es) i ≡ Some v
@@ -128,7 +138,8 @@ module _ {T S : Type 0} where
         })
 
     -- one block more, without rows
-    pub grouped_add : (bounds : List ℕ) (es : List (Entry T S)) (key : ℕ) (b : SeenBlock T S) → length es < 64 * length bounds → b.rows ≡ []
+    pub grouped_add : (bounds : List ℕ) (es : List (Entry T S)) (key : ℕ) (b : SeenBlock T S) → length es < 64 * length bounds
+        → b.rows ≡ []
         → IsGrouped live 0 bounds es → IsGrouped live 0 bounds (es ++ (key, b) ∷ [])
     grouped_add bounds es key b room none h = record {
       enough = omega (arith, room, length_push es (key, b));
@@ -139,7 +150,10 @@ module _ {T S : Type 0} where
         no_rows : (bound : ℕ) → EntryLives live bound (key, b)
         no_rows bound =
             record {
-              block = record { rows = subst (All (LivesUntil live b.spans bound)) (sym none) (λ k x lt. absurd (omega (arith, lt))) };
+              block = record {
+                rows = subst (All (LivesUntil live b.spans bound)) (sym none)
+                    (λ k x lt. absurd (omega (arith, lt)));
+              };
             }
 
     -- more bounds
@@ -148,7 +162,8 @@ module _ {T S : Type 0} where
         → IsGrouped live 0 more es
     grouped_more bounds more es long same h = record {
       enough = omega (arith, h.enough, long);
-      lives = λ place d lt on. subst (λ b. EntryLives live b (get_or es place d)) (sym (same (place / 64) (omega (arith, lt, h.enough))))
+      lives = λ place d lt on. subst (λ b. EntryLives live b (get_or es place d))
+          (sym (same (place / 64) (omega (arith, lt, h.enough))))
           (h.lives place d lt on);
     }
 

@@ -1,4 +1,5 @@
-use Rattle.std.proofs.Common.{◌≡◌, ℕ, zero, suc, ◌+◌, ◌-◌, ◌≤◌, ◌<◌, List, [], ◌∷◌, ◌++◌, Bool, true, false, arith, refl, ap, ◌∙◌, sym, subst, length, eqb, ltb, cond, ◌&&◌, Some, None, slice_get, true≢false, ◌≢◌}
+use Rattle.std.proofs.Common.{◌≡◌, ℕ, zero, suc, ◌+◌, ◌-◌, ◌≤◌, ◌<◌, List, [], ◌∷◌, ◌++◌, Bool, true, false, arith, refl, ap, ◌∙◌}
+use Rattle.std.proofs.Common.{sym, subst, length, eqb, ltb, cond, ◌&&◌, Some, None, slice_get, true≢false, ◌≢◌}
 use Rattle.std.specs.List.{All}
 use Rattle.std.specs.Map.{keys_of, values_of, lookup}
 use Rattle.std.proofs.lemmas.Bool.{eqb-true, ne_eqb, eqb-false, eq-eqb, lt-ltb}
@@ -8,7 +9,8 @@ use Rattle.std.proofs.lemmas.List.Elements.{All-head, All-tail, All-cons, All-ni
 use Rattle.indexmap.specs.IndexMap.{set_value_at}
 use Rattle.indexmap.specs.Layout.{length-set_value_at}
 use Rattle.rad_rows.specs.Blocks.{SeenBlock}
-use Rattle.rad_rows.specs.Entries.{Ascends, BelongsTo, Entry, HasSpans, IsPlaced, IsSound, IsUpTo, all_rows, entry_rows, has_room_at, is_at_key, is_roomy}
+use Rattle.rad_rows.specs.Entries.{Ascends, BelongsTo, Entry, HasSpans, IsPlaced, IsSound, IsUpTo, all_rows, entry_rows}
+use Rattle.rad_rows.specs.Entries.{has_room_at, is_at_key, is_roomy}
 use Rattle.rad_rows.proofs.EntryLemmas.{some_is}
 
 module _ {T S : Type 0} where
@@ -20,7 +22,8 @@ module _ {T S : Type 0} where
   all_set P [] i v w at new h = h
   all_set P (e ∷ es) zero v w at new h =
       let same = some_is e.1 v at in
-      All-cons P (e.0, w) es (new e.0 (λ j. Some (e.0, same j)) (subst (λ b. P (e.0, b)) same (All-head P e es h))) (All-tail P e es h)
+      All-cons P (e.0, w) es (new e.0 (λ j. Some (e.0, same j)) (subst (λ b. P (e.0, b)) same (All-head P e es h)))
+      (All-tail P e es h)
   all_set P (e ∷ es) (suc i) v w at new h =
       All-cons P e (set_value_at es i w) (All-head P e es h) (all_set P es i v w at new (All-tail P e es h))
 
@@ -55,12 +58,14 @@ module _ {T S : Type 0} where
 
   -- with memory for one more
   pub room_last : (key : ℕ) (es : List (Entry T S)) (i : ℕ) (w : SeenBlock T S) → i ≡ length es - 1
-      → is_at_key key (slice_get es (length es - 1)) ≡ true → length w.rows < w.capacity → has_room_at key (set_value_at es i w) ≡ true
+      → is_at_key key (slice_get es (length es - 1)) ≡ true → length w.rows < w.capacity
+      → has_room_at key (set_value_at es i w) ≡ true
   room_last key es i w is last lt =
       ap (λ n. is_roomy key (slice_get (set_value_at es i w) n)) (omega (arith, is, length-set_value_at es i w))
       ∙ at es i (ap (λ n. is_at_key key (slice_get es n)) is ∙ last)
     where
-      at : (es : List (Entry T S)) (i : ℕ) → is_at_key key (slice_get es i) ≡ true → is_roomy key (slice_get (set_value_at es i w) i) ≡ true
+      at : (es : List (Entry T S)) (i : ℕ) → is_at_key key (slice_get es i) ≡ true
+          → is_roomy key (slice_get (set_value_at es i w) i) ≡ true
       at [] zero h = absurd (true≢false (sym h))
       at [] (suc i) h = absurd (true≢false (sym h))
       at (e ∷ es) zero h = λ j. h j && lt-ltb (length w.rows) w.capacity lt j
@@ -95,8 +100,10 @@ module _ {T S : Type 0} where
       let next : f.0 ≤ key = (All-head (IsUpTo key) f es (All-tail (IsUpTo key) e (f ∷ es) h)).le in
       let more = key_is_new (e.0 + 1) key (f ∷ es) a.1 (All-tail (IsUpTo key) e (f ∷ es) h) (omega arith)
       (ap (λ n. is_at_key key (slice_get (f ∷ es) n)) (omega arith)
-      ∙ sym (ap (λ n. is_at_key key (slice_get (e ∷ f ∷ es) n)) (two_less (length es))) ∙ other) in
-      (ap (λ b. cond b (Some e.1) (lookup (eqb key) (f ∷ es))) (ne_eqb key e.0 (λ q. absurd (omega arith))) ∙ more.0, λ b. (a.0, more.1 b))
+      ∙ sym (ap (λ n. is_at_key key (slice_get (e ∷ f ∷ es) n)) (two_less (length es))) ∙ other) in (
+        ap (λ b. cond b (Some e.1) (lookup (eqb key) (f ∷ es))) (ne_eqb key e.0 (λ q. absurd (omega arith))) ∙ more.0,
+        λ b. (a.0, more.1 b),
+      )
     where
       two_less : (n : ℕ) → suc (suc n) - 1 ≡ suc n
       two_less n = omega arith
@@ -113,11 +120,13 @@ module _ {T S : Type 0} where
 
   pub rows_add : (key : ℕ) (es : List (Entry T S)) (b : SeenBlock T S) → b.rows ≡ [] → all_rows (es ++ (key, b) ∷ []) ≡ all_rows es
   rows_add key es b none =
-      flat_map-append entry_rows es ((key, b) ∷ []) ∙ ap (λ l. all_rows es ++ l) (append-nil b.rows ∙ none) ∙ append-nil (all_rows es)
+      flat_map-append entry_rows es ((key, b) ∷ []) ∙ ap (λ l. all_rows es ++ l) (append-nil b.rows ∙ none)
+      ∙ append-nil (all_rows es)
 
   pub room_add : (key : ℕ) (es : List (Entry T S)) (b : SeenBlock T S) → b.rows ≡ [] → 0 < b.capacity
       → has_room_at key (es ++ (key, b) ∷ []) ≡ true
-  room_add key es b none room = ap (λ n. is_roomy key (slice_get (es ++ (key, b) ∷ []) n)) (omega (arith, length_push es (key, b))) ∙ at es
+  room_add key es b none room =
+      ap (λ n. is_roomy key (slice_get (es ++ (key, b) ∷ []) n)) (omega (arith, length_push es (key, b))) ∙ at es
     where
       at : (es : List (Entry T S)) → is_roomy key (slice_get (es ++ (key, b) ∷ []) (length es)) ≡ true
       at [] = λ j. eq-eqb key key refl j && lt-ltb (length b.rows) b.capacity (omega (arith, ap length none)) j

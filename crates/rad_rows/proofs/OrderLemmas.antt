@@ -23,7 +23,8 @@ module _ {T : Type 0} (number : T → ℕ) where
   first_given last x xs ys is h = (All-head (IsGiven number last) x xs (subst (All (IsGiven number last)) is h)).le
 
   pub rising_rest : (x : T) (xs ys : List T) → ys ≡ x ∷ xs → AllPairs (IsBefore number) ys → AllPairs (IsBefore number) xs
-  rising_rest x xs ys is h = λ i j d lt within. (subst (AllPairs (IsBefore number)) is h) (suc i) (suc j) d (omega arith) (omega arith)
+  rising_rest x xs ys is h =
+      λ i j d lt within. (subst (AllPairs (IsBefore number)) is h) (suc i) (suc j) d (omega arith) (omega arith)
 
   pub rest_after : (x : T) (xs ys : List T) → ys ≡ x ∷ xs → AllPairs (IsBefore number) ys → All (IsAfter number (number x)) xs
   rest_after x xs ys is h =
@@ -45,5 +46,7 @@ module _ {T : Type 0} (number : T → ℕ) where
           )
 
 -- one row more was copied
-pub moved : {T : Type 0} (x : T) (rows more xs ys all : List T) → ys ≡ x ∷ xs → rows ++ ys ≡ all → more ≡ rows ++ x ∷ [] → more ++ xs ≡ all
-moved x rows more xs ys all is whole new = ap (λ l. l ++ xs) new ∙ append_assoc rows (x ∷ []) xs ∙ ap (λ l. rows ++ l) (sym is) ∙ whole
+pub moved : {T : Type 0} (x : T) (rows more xs ys all : List T) → ys ≡ x ∷ xs → rows ++ ys ≡ all → more ≡ rows ++ x ∷ []
+    → more ++ xs ≡ all
+moved x rows more xs ys all is whole new =
+    ap (λ l. l ++ xs) new ∙ append_assoc rows (x ∷ []) xs ∙ ap (λ l. rows ++ l) (sym is) ∙ whole

@@ -1,4 +1,5 @@
-use Rattle.std.proofs.Common.{◌≡◌, ℕ, zero, suc, ◌+◌, ◌≤◌, ◌<◌, List, [], ◌∷◌, Bool, true, false, arith, refl, ap, ◌∙◌, sym, filter, map, subst, get_or, eqb, find, cond, Option, Some, None, slice_get, position}
+use Rattle.std.proofs.Common.{◌≡◌, ℕ, zero, suc, ◌+◌, ◌≤◌, ◌<◌, List, [], ◌∷◌, Bool, true, false, arith, refl, ap, ◌∙◌, sym, filter}
+use Rattle.std.proofs.Common.{map, subst, get_or, eqb, find, cond, Option, Some, None, slice_get, position}
 use Rattle.std.specs.List.{All}
 use Rattle.std.specs.Option.{option_or}
 use Rattle.std.specs.Map.{keys_of, values_of, lookup}
@@ -46,7 +47,8 @@ module _ {T : Type 0} (number : T → ℕ) (n : ℕ) where
         → slice_get es i ≡ Some (k, v) → low ≤ k
     ascends_at low [] zero k v a h = not_none (k, v) h
     ascends_at low [] (suc i) k v a h = not_none (k, v) h
-    ascends_at low (e ∷ es) zero k v a h = let is : e.0 ≡ k = ap (λ (p : Entry T S). p.0) (some_is e (k, v) h) in omega (arith, a.0, is)
+    ascends_at low (e ∷ es) zero k v a h = let is : e.0 ≡ k = ap (λ (p : Entry T S). p.0) (some_is e (k, v) h) in
+        omega (arith, a.0, is)
     ascends_at low (e ∷ es) (suc i) k v a h = omega (arith, ascends_at (e.0 + 1) es i k v a.1 h, a.0)
 
     pub entry_from : (es : List (Entry T S)) (i k d : ℕ) (v : SeenBlock T S) → slice_get (values_of es) i ≡ Some v
@@ -90,7 +92,8 @@ module _ {T : Type 0} (number : T → ℕ) (n : ℕ) where
             (find_others e.0 e.1.rows (All-head (IsPlaced number) e es h).rows (λ e. absurd (omega arith)))
             ∙ above (e.0 + 1) (omega arith) es (All-tail (IsPlaced number) e es h) a.1
 
-    pub find_at : (low : ℕ) (es : List (Entry T S)) (i : ℕ) (v : SeenBlock T S) → Ascends low (keys_of es) → All (IsPlaced number) es
+    pub find_at : (low : ℕ) (es : List (Entry T S)) (i : ℕ) (v : SeenBlock T S) → Ascends low (keys_of es)
+        → All (IsPlaced number) es
         → slice_get es i ≡ Some (key_of n, v)
         → find (has_number number n) (all_rows es) ≡ find (has_number number n) v.rows
     find_at low [] zero v a h at = not_none (key_of n, v) at
@@ -119,7 +122,8 @@ module _ {T : Type 0} (number : T → ℕ) (n : ℕ) where
 
     module _ (f : SeenBlock T S → SeenBlock T S)
         (skip : (key : ℕ) (b : SeenBlock T S) → All (BelongsTo number key) b.rows → (key_of n ≡ key → ⊥) → f b ≡ b) where
-      pub none_touched : (es : List (Entry T S)) → All (IsPlaced number) es → lookup (eqb (key_of n)) es ≡ None → on_blocks f es ≡ es
+      pub none_touched : (es : List (Entry T S)) → All (IsPlaced number) es → lookup (eqb (key_of n)) es ≡ None
+          → on_blocks f es ≡ es
       none_touched [] h none = refl
       none_touched (e ∷ es) h none = by_test (none_touched es (All-tail (IsPlaced number) e es h)) (eqb (key_of n) e.0) refl
         where

@@ -1,4 +1,5 @@
-use Rattle.std.proofs.Common.{◌≡◌, ℕ, ◌+◌, ◌-◌, ◌≤◌, ◌<◌, List, [], ◌∷◌, ◌++◌, Bool, true, false, arith, refl, ap, ◌∙◌, sym, filter, map, subst, length, eqb, ltb, cond, ◌&&◌, Option, Some, None, slice_get, get_or}
+use Rattle.std.proofs.Common.{◌≡◌, ℕ, ◌+◌, ◌-◌, ◌≤◌, ◌<◌, List, [], ◌∷◌, ◌++◌, Bool, true, false, arith, refl, ap, ◌∙◌, sym, filter}
+use Rattle.std.proofs.Common.{map, subst, length, eqb, ltb, cond, ◌&&◌, Option, Some, None, slice_get, get_or}
 use Rattle.std.specs.List.{All, FoldsTo}
 use Rattle.std.specs.Map.{keys_of}
 use Rattle.std.specs.Option.{option_map}
@@ -10,7 +11,8 @@ use Rattle.std.proofs.lemmas.List.Filters.{length-filter_both}
 use Rattle.std.proofs.lemmas.List.Kept.{AllPairs-filter}
 use Rattle.std.proofs.lemmas.Option.{slice_get-map}
 use Rattle.rad_rows.specs.Blocks.{SeenBlock, block_mapped, block_without, cut_block, with_rows}
-use Rattle.rad_rows.specs.Entries.{Ascends, BelongsTo, Entry, HasSpans, IsConsistent, IsGrouped, IsPlaced, IsSound, IsUpTo, all_rows, has_room_at, has_rows, is_roomy, key_of, on_block, on_blocks}
+use Rattle.rad_rows.specs.Entries.{Ascends, BelongsTo, Entry, HasSpans, IsConsistent, IsGrouped, IsPlaced, IsSound, IsUpTo}
+use Rattle.rad_rows.specs.Entries.{all_rows, has_room_at, has_rows, is_roomy, key_of, on_block, on_blocks}
 use Rattle.rad_rows.specs.declared.live.Live.{Live}
 use Rattle.rad_rows.specs.Rows.{IsBefore, IsGiven, IsRising, Tells, change_row, has_other, is_dead}
 use Rattle.rad_rows.proofs.BlockLemmas.{filter_less}
@@ -22,7 +24,8 @@ pub changed_number : {T : Type 0} (number : T → ℕ) (n : ℕ) (to : T → T) 
 changed_number number n to keeps row =
     elim (eqb (number row) n) as (λ b. number (cond b (to row) row) ≡ number row) [ true ↦ keeps row | false ↦ refl ]
 
-pub placed_mapped : {T : Type 0} (number : T → ℕ) (to : T → T) → ((row : T) → number (to row) ≡ number row) → (key : ℕ) (rows : List T)
+pub placed_mapped : {T : Type 0} (number : T → ℕ) (to : T → T) → ((row : T) → number (to row) ≡ number row)
+    → (key : ℕ) (rows : List T)
     → All (BelongsTo number key) rows → All (BelongsTo number key) (map to rows)
 placed_mapped number to keeps key rows h =
     All-map (BelongsTo number key) to rows (All-weaker (BelongsTo number key) (λ row. BelongsTo number key (to row))
@@ -44,7 +47,8 @@ rising_later number last late rows le h =
       rising = h.rising;
     }
 
-pub rising_mapped : {T : Type 0} (number : T → ℕ) (last : ℕ) (to : T → T) → ((row : T) → number (to row) ≡ number row) → (rows : List T)
+pub rising_mapped : {T : Type 0} (number : T → ℕ) (last : ℕ) (to : T → T) → ((row : T) → number (to row) ≡ number row)
+    → (rows : List T)
     → IsRising number last rows → IsRising number last (map to rows)
 rising_mapped number last to keeps rows h = record {
   given = All-map (IsGiven number last) to rows
@@ -59,7 +63,8 @@ rising_mapped number last to keeps rows h = record {
       record { lt = omega (arith, (h.rising i j d lt short).lt, ap number one, ap number two, keeps row, keeps other) };
 }
 
-pub rising_push : {T : Type 0} (number : T → ℕ) (last : ℕ) (rows : List T) (row : T) → number row ≡ last + 1 → IsRising number last rows
+pub rising_push : {T : Type 0} (number : T → ℕ) (last : ℕ) (rows : List T) (row : T) → number row ≡ last + 1
+    → IsRising number last rows
     → IsRising number (last + 1) (rows ++ row ∷ [])
 rising_push number last rows row is h = record {
   given = All-push (IsGiven number (last + 1)) rows row (rising_later number last (last + 1) rows (omega arith) h).given
@@ -100,7 +105,8 @@ module _ {T S : Type 0} where
 
   -- ---- what stays sound
 
-  pub sound_on : (number : T → ℕ) (spans : S) (top : ℕ) (f : SeenBlock T S → List T) (es : List (Entry T S)) → IsSound number spans top es
+  pub sound_on : (number : T → ℕ) (spans : S) (top : ℕ) (f : SeenBlock T S → List T) (es : List (Entry T S))
+      → IsSound number spans top es
       → ((key : ℕ) (b : SeenBlock T S) → All (BelongsTo number key) b.rows → All (BelongsTo number key) (f b))
       → IsSound number spans top (on_blocks (λ b. with_rows b (f b)) es)
   sound_on number spans top f es s placed = record {
@@ -128,7 +134,8 @@ module _ {T S : Type 0} where
 
   -- ---- room
 
-  pub room_on : (f : SeenBlock T S → List T) (key : ℕ) (es : List (Entry T S)) → ((b : SeenBlock T S) → length (f b) ≤ length b.rows)
+  pub room_on : (f : SeenBlock T S → List T) (key : ℕ) (es : List (Entry T S))
+      → ((b : SeenBlock T S) → length (f b) ≤ length b.rows)
       → has_room_at key es ≡ true → has_room_at key (on_blocks (λ b. with_rows b (f b)) es) ≡ true
   room_on f key es fewer h =
       ap (λ n. is_roomy key (slice_get (map to es) (n - 1))) (length-map es to)
@@ -157,7 +164,8 @@ module _ {T S : Type 0} where
       by_test true is more = rw (is) (a.0, more)
       by_test false is more = rw (is) (ascends_less (e.0 + 1) low (keys_of (filter p es)) (omega (arith, a.0)) more)
 
-  pub sound_filter : (number : T → ℕ) (spans : S) (top : ℕ) (p : Entry T S → Bool) (es : List (Entry T S)) → IsSound number spans top es
+  pub sound_filter : (number : T → ℕ) (spans : S) (top : ℕ) (p : Entry T S → Bool) (es : List (Entry T S))
+      → IsSound number spans top es
       → IsSound number spans top (filter p es)
   sound_filter number spans top p es s = record {
     spanned = All-filter p (HasSpans spans) es s.spanned;
@@ -182,14 +190,16 @@ module _ {T S : Type 0} where
   -- ---- what is kept after each call
 
   module _ (number : T → ℕ) (live : S → ℕ → T → Bool) (spans : S) where
-    consistent_on : (last len left : ℕ) (bounds renewed : List ℕ) (ready : Bool) (f : SeenBlock T S → List T) (es new : List (Entry T S))
+    consistent_on : (last len left : ℕ) (bounds renewed : List ℕ) (ready : Bool) (f : SeenBlock T S → List T)
+        (es new : List (Entry T S))
         → IsConsistent number live es bounds spans last len ready → new ≡ on_blocks (λ b. with_rows b (f b)) es
         → ((key : ℕ) (b : SeenBlock T S) → All (BelongsTo number key) b.rows → All (BelongsTo number key) (f b))
         → ((b : SeenBlock T S) → length (f b) ≤ length b.rows)
         → left ≡ length (all_rows new) → IsRising number last (all_rows new) → IsGrouped live 0 renewed new
         → IsConsistent number live new renewed spans last left ready
     consistent_on last len left bounds renewed ready f es new k is placed fewer count order grouped = record {
-      sound = subst (IsSound number spans (key_of (last + 1))) (sym is) (sound_on number spans (key_of (last + 1)) f es k.sound placed);
+      sound = subst (IsSound number spans (key_of (last + 1))) (sym is)
+          (sound_on number spans (key_of (last + 1)) f es k.sound placed);
       grouped = grouped;
       count = count;
       order = order;
@@ -203,12 +213,14 @@ module _ {T S : Type 0} where
         let p : T → Bool = has_other number n in
         consistent_on last len left bounds bounds ready (λ b. filter p b.rows) es new k is
         (λ key b h. All-filter p (BelongsTo number key) b.rows h) (λ b. filter_less p b.rows) count
-        (subst (IsRising number last) (sym (ap all_rows is ∙ rows_without number n es)) (rising_filter number last p (all_rows es) k.order))
+        (subst (IsRising number last) (sym (ap all_rows is ∙ rows_without number n es))
+        (rising_filter number last p (all_rows es) k.order))
         (subst (IsGrouped live 0 bounds) (sym is) (grouped_without live number n bounds es k.grouped))
 
     pub consistent_mapped : (last len : ℕ) (bounds lower : List ℕ) (ready : Bool) (to : T → T) (es new : List (Entry T S))
         → ((row : T) → number (to row) ≡ number row) → IsConsistent number live es bounds spans last len ready
-        → new ≡ on_blocks (block_mapped to) es → IsGrouped live 0 lower new → IsConsistent number live new lower spans last len ready
+        → new ≡ on_blocks (block_mapped to) es → IsGrouped live 0 lower new
+        → IsConsistent number live new lower spans last len ready
     consistent_mapped last len bounds lower ready to es new keeps k is grouped =
         let rows : all_rows new ≡ map to (all_rows es) = ap all_rows is ∙ rows_mapped to es in
         consistent_on last len len bounds lower ready (λ b. map to b.rows) es new k is
@@ -217,11 +229,13 @@ module _ {T S : Type 0} where
         (subst (IsRising number last) (sym rows) (rising_mapped number last to keeps (all_rows es) k.order)) grouped
 
     pub consistent_cut : (now last len left : ℕ) (bounds renewed : List ℕ) (ready : Bool) (es new : List (Entry T S))
-        → IsConsistent number live es bounds spans last len ready → new ≡ on_blocks (cut_block live now) es → left ≡ length (all_rows new)
+        → IsConsistent number live es bounds spans last len ready → new ≡ on_blocks (cut_block live now) es
+        → left ≡ length (all_rows new)
         → IsGrouped live 0 renewed new → IsConsistent number live new renewed spans last left ready
     consistent_cut now last len left bounds renewed ready es new k is count grouped =
         consistent_on last len left bounds renewed ready (λ b. filter (live b.spans now) b.rows) es new k is
-        (λ key b h. All-filter (live b.spans now) (BelongsTo number key) b.rows h) (λ b. filter_less (live b.spans now) b.rows) count
+        (λ key b h. All-filter (live b.spans now) (BelongsTo number key) b.rows h)
+        (λ b. filter_less (live b.spans now) b.rows) count
         (subst (IsRising number last) (sym (ap all_rows is ∙ rows_cut live spans now es k.sound.spanned))
         (rising_filter number last (live spans now) (all_rows es) k.order)) grouped
 
@@ -235,7 +249,8 @@ left_told : {T : Type 0} (dead : List T) (old new : Live) → FoldsTo Takes old 
 left_told [] old new h = omega (arith, ap (λ (live : Live). live.count) (sym h))
 left_told (row ∷ dead) old new h = omega (arith, left_told dead h.0 new h.2, h.1)
 
-pub count_left : {T S : Type 0} (live : S → ℕ → T → Bool) (spans : S) (now : ℕ) (rows : List T) (old new : Live) → old.count ≡ length rows
+pub count_left : {T S : Type 0} (live : S → ℕ → T → Bool) (spans : S) (now : ℕ) (rows : List T) (old new : Live)
+    → old.count ≡ length rows
     → Tells (λ (before : Live) (row : T) (after : Live). after.count ≡ before.count - 1) live spans now rows old new
     → new.count ≡ length (filter (live spans now) rows)
 count_left live spans now rows old new is told =

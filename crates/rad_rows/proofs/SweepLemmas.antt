@@ -1,5 +1,6 @@
 -- A sweep of rows in place: the live ones move down, the tally is told of the others, and the bound is that of those that stay.
-use Rattle.std.proofs.Common.{◌≡◌, ◌∙◌, ℕ, ◌+◌, ◌≤◌, ◌<◌, List, [], ◌∷◌, ◌++◌, Bool, true, false, not, ltb, ap, arith, cond, drop, filter, get_or, length, subst, sym, take}
+use Rattle.std.proofs.Common.{◌≡◌, ◌∙◌, ℕ, ◌+◌, ◌≤◌, ◌<◌, List, [], ◌∷◌, ◌++◌, Bool, true, false, not, ltb, ap, arith, cond, drop}
+use Rattle.std.proofs.Common.{filter, get_or, length, subst, sym, take}
 use Rattle.std.specs.List.{All, FoldsTo, SwappedAt}
 use Rattle.std.proofs.lemmas.Bool.{le-ltb, lt-ltb}
 use Rattle.std.proofs.lemmas.Fn.{FoldsTo-push}
@@ -27,7 +28,8 @@ module _ {G T S : Type 0} (told : G → T → G → Type 0) (live : S → ℕ �
     pub lives : All (LivesUntil live spans bound) (filter (live spans now) (take i xs))
 
   -- one row more, which stays
-  pub swept_stays : (ys zs : List T) (k i : ℕ) (tally : G) (bound ends early : ℕ) (x : T) → IsSwept ys k i tally bound → i < length ys
+  pub swept_stays : (ys zs : List T) (k i : ℕ) (tally : G) (bound ends early : ℕ) (x : T) → IsSwept ys k i tally bound
+      → i < length ys
       → x ≡ get_or ys i x → now ≤ moment_max → ((moment : ℕ) → moment ≤ moment_max → live spans moment x ≡ ltb moment ends)
       → now < ends → early ≤ bound → early ≤ ends → SwappedAt ys zs k i → IsSwept zs (k + 1) (i + 1) tally early
   swept_stays ys zs k i tally bound ends early x h within is small law lt le le' swapped =

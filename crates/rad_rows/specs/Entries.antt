@@ -1,5 +1,6 @@
 -- The blocks of a table, each under its key, the lowest key first.
-use Rattle.std.specs.Prelude.{◌≡◌, ℕ, ◌+◌, ◌-◌, ◌*◌, ◌<◌, ◌≤◌, ◌/◌, ◌==◌, ◌&&◌, nat_lt, Bool, true, false, not, List, [], ◌∷◌, All, map, length, slice_get, slice_index, slice_index_or, Option, None, Some}
+use Rattle.std.specs.Prelude.{◌≡◌, ℕ, ◌+◌, ◌-◌, ◌*◌, ◌<◌, ◌≤◌, ◌/◌, ◌==◌, ◌&&◌, nat_lt, Bool, true, false, not, List, [], ◌∷◌, All}
+use Rattle.std.specs.Prelude.{map, length, slice_get, slice_index, slice_index_or, Option, None, Some}
 use Rattle.std.specs.List.{flat_map}
 use Rattle.std.specs.Map.{keys_of}
 use Rattle.rad_rows.specs.Blocks.{BlockLives, SeenBlock}
@@ -80,8 +81,8 @@ module _ {T S : Type 0} where
     pub ascends : Ascends 0 (keys_of entries)
     pub limited : All (IsUpTo top) entries
 
-  -- there is a bound of each 64 neighbouring blocks, before which each of their rows is live. Where the bounds are found anew, up to the
-  -- place `at`, this isn't known of the blocks from there on of a group that was begun
+  -- there is a bound of each 64 neighbouring blocks, before which each of their rows is live. Where the bounds are found anew, up
+  -- to the place `at`, this isn't known of the blocks from there on of a group that was begun
   pub record IsGrouped (live : S → ℕ → T → Bool) (at : ℕ) (bounds : List ℕ) (entries : List (Entry T S)) : Type 0 where
     pub enough : length entries ≤ 64 * length bounds
     pub lives : (place : ℕ) (d : Entry T S) → place < length entries → (at ≤ place → at ≤ 64 * (place / 64))

@@ -1,8 +1,10 @@
 //! What is done to the block that a number belongs to, and to the row of blocks.
-ghost use Rattle.std.specs.Prelude.{◌≡◌, ℕ, ◌<◌, ◌-◌, ◌*◌, ◌++◌, ◌∷◌, [], All, OnErr, OnOk, false, filter, find, length, option_copied, slice_get, true};
+ghost use Rattle.std.specs.Prelude.{◌≡◌, ℕ, ◌<◌, ◌-◌, ◌*◌, ◌++◌, ◌∷◌, [], All, OnErr, OnOk, false, filter, find, length};
+ghost use Rattle.std.specs.Prelude.{option_copied, slice_get, true};
 ghost use Rattle.indexmap.specs.IndexMap.{keys};
 ghost use Rattle.rad_rows.specs.Blocks.{block_changed, block_mapped, block_without};
-ghost use Rattle.rad_rows.specs.Entries.{Ascends, IsGrouped, IsPlaced, IsSound, IsUpTo, all_rows, has_room_at, has_rows, is_at_key, key_of, on_blocks};
+ghost use Rattle.rad_rows.specs.Entries.{Ascends, IsGrouped, IsPlaced, IsSound, IsUpTo, all_rows, has_room_at, has_rows, is_at_key};
+ghost use Rattle.rad_rows.specs.Entries.{key_of, on_blocks};
 ghost use Rattle.rad_rows.specs.Rows.{has_number};
 
 use crate::block::{BLOCK, Block};
@@ -223,8 +225,8 @@ fn add<T: Row<S>, S: Copy>(
 
 /// Takes out the blocks without rows where there are more than `limit` blocks, and returns the next limit.
 ///
-/// The limit is an eighth more than the blocks that the last walk left. So the walks cost each block that comes the same, however many
-/// there are, and no walk frees more than a ninth of them.
+/// The limit is an eighth more than the blocks that the last walk left. So the walks cost each block that comes the same, however
+/// many there are, and no walk frees more than a ninth of them.
 pub(crate) fn compact<T: Row<S>, S: Copy>(
     blocks: &mut IndexMap<u64, Block<T, S>>,
     bounds: &mut Bounds,

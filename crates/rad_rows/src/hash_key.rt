@@ -6,8 +6,8 @@ use std::hash::{BuildHasher, DefaultHasher};
 
 /// The 128 bits that key the hash of a map: SipHash-1-3.
 ///
-/// The keys of some maps come from the network. Without a key that others don't know, they could choose keys that share one hash, and
-/// each look-up would go over all of them.
+/// The keys of some maps come from the network. Without a key that others don't know, they could choose keys that share one hash,
+/// and each look-up would go over all of them.
 #[derive(Clone, Copy)]
 pub struct HashKey {
     pub low: u64,

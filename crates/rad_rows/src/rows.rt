@@ -1,5 +1,6 @@
 //! The table of rows.
-ghost use Rattle.std.specs.Prelude.{◌≡◌, ◌≤◌, ◌<◌, ◌+◌, ◌++◌, ◌∷◌, ◌↔◌, ◌^◌, [], IfOk, IsOk, IsTrue, OnErr, OnOk, false, filter, find, length, map, option_copied, true};
+ghost use Rattle.std.specs.Prelude.{◌≡◌, ◌≤◌, ◌<◌, ◌+◌, ◌++◌, ◌∷◌, ◌↔◌, ◌^◌, [], IfOk, IsOk, IsTrue, OnErr, OnOk, false, filter};
+ghost use Rattle.std.specs.Prelude.{find, length, map, option_copied, true};
 ghost use Rattle.rad_rows.specs.Entries.{key_of};
 ghost use Rattle.rad_rows.specs.Rows.{AreSame, IsRising, Tells, change_row, has_number, has_other, moment_max};
 

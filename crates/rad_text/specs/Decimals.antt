@@ -1,6 +1,7 @@
 -- Decimal numbers and addresses as text spells them. A text is a list of octets, which are numbers below 256; an address has
 -- its most significant octet first.
-use Rattle.std.specs.Prelude.{ℕ, ◌+◌, ◌-◌, ◌*◌, ◌==◌, ◌&&◌, ◌||◌, nat_lt, nat_le, Bool, false, if◌then◌else◌, List, [], ◌∷◌, length, Option, Some, None, option_and_then}
+use Rattle.std.specs.Prelude.{ℕ, ◌+◌, ◌-◌, ◌*◌, ◌==◌, ◌&&◌, ◌||◌, nat_lt, nat_le, Bool, false, if◌then◌else◌, List, [], ◌∷◌, length}
+use Rattle.std.specs.Prelude.{Option, Some, None, option_and_then}
 use Rattle.rad_text.specs.Splits.{split_once}
 
 infixl 10 ◌>>=◌

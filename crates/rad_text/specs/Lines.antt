@@ -1,6 +1,7 @@
 -- The lines of a transcript: a configuration, a line `---`, and a line for each datagram. A text is a list of octets,
 -- which are numbers below 256.
-use Rattle.std.specs.Prelude.{◌≡◌, ◌⊎◌, ℕ, ◌<◌, ◌==◌, Bool, true, not, if◌then◌else◌, List, [], ◌∷◌, ◌++◌, length, codes, filter, map, Option, Some, None, option_map}
+use Rattle.std.specs.Prelude.{◌≡◌, ◌⊎◌, ℕ, ◌<◌, ◌==◌, Bool, true, not, if◌then◌else◌, List, [], ◌∷◌, ◌++◌, length, codes, filter}
+use Rattle.std.specs.Prelude.{map, Option, Some, None, option_map}
 use Rattle.std.specs.List.{flat_map}
 use lib.Pointwise.{pointwise}
 
@@ -33,7 +34,8 @@ is_divider line = pointwise ◌==◌ (without_return line) (codes "---")
 -- the lines before the first divider and those after it
 abbrev pub divided : List (List ℕ) → Option (List (List ℕ) × List (List ℕ))
 divided [] = None
-divided (line ∷ lines) = if is_divider line then Some ([], lines) else option_map (λ parts. (line ∷ parts.0, parts.1)) (divided lines)
+divided (line ∷ lines) =
+    if is_divider line then Some ([], lines) else option_map (λ parts. (line ∷ parts.0, parts.1)) (divided lines)
 
 -- lines as the text that they stood in, each ended by its line feed
 abbrev pub text_of : List (List ℕ) → List ℕ

@@ -4,4 +4,5 @@ use Rattle.std.specs.Prelude.{ℕ, ◌==◌, if◌then◌else◌, List, [], ◌�
 -- the text before the first separator, and the text after it
 abbrev pub split_once : ℕ → List ℕ → Option (List ℕ × List ℕ)
 split_once separator [] = None
-split_once separator (octet ∷ text) = if octet == separator then Some ([], text) else option_map (λ parts. (octet ∷ parts.0, parts.1)) (split_once separator text)
+split_once separator (octet ∷ text) =
+    if octet == separator then Some ([], text) else option_map (λ parts. (octet ∷ parts.0, parts.1)) (split_once separator text)

@@ -1,7 +1,8 @@
 //! The lines of a transcript: a configuration, a line `---`, and a line for each datagram.
 ghost use Rattle.std.specs.Prelude.{◌≡◌, ℕ, List, [], None, MatchOption};
 ghost use Rattle.std.specs.Iterator.{YieldsFirstRef, item_count};
-ghost use Rattle.rad_text.specs.Lines.{IsFirstLine, Divides, lines_of, without_return, is_divider, divided, is_skipped, datagram_lines};
+ghost use Rattle.rad_text.specs.Lines.{IsFirstLine, Divides, lines_of, without_return, is_divider, divided, is_skipped};
+ghost use Rattle.rad_text.specs.Lines.{datagram_lines};
 
 use crate::split::split_once;
 use std::marker::Model;

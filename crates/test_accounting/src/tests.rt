@@ -6,8 +6,8 @@ use sqlite_value::value::ValueRef;
 use std::process::Abort;
 use std::test::Fail;
 
-/// The octets of an Accounting-Request: an Interim-Update of mira's session, whose Acct-Input-Octets have begun anew twice, with a second
-/// User-Name, an Acct-Delay-Time of three octets, and a Calling-Station-Id that is no text.
+/// The octets of an Accounting-Request: an Interim-Update of mira's session, whose Acct-Input-Octets have begun anew twice, with a
+/// second User-Name, an Acct-Delay-Time of three octets, and a Calling-Station-Id that is no text.
 const UPDATE: &[u8] = b"\
     \x04\x01\x00\x63\x00\x00\x00\x00\x00\x00\x00\x00\x00\x00\x00\x00\x00\x00\x00\x00\
     \x28\x06\x00\x00\x00\x03\x01\x06mira\x01\x05kay\x2c\x0a80f3e2c1\

@@ -6,7 +6,8 @@ use std::alloc::{AllocError, Global};
 use std::str;
 use std::test::Fail;
 
-/// A Stop with a value in each column. The Acct-Multi-Session-Id has what both formats escape, and the Calling-Station-Id is no UTF-8.
+/// A Stop with a value in each column. The Acct-Multi-Session-Id has what both formats escape, and the Calling-Station-Id is no
+/// UTF-8.
 const STOP: &[ValueRef<'static>] = &[
     ValueRef::Int(9),
     ValueRef::Null,

@@ -90,7 +90,8 @@ enum Handed {
     Neither,
 }
 
-/// What the first seat is told and then the second, which are handed in, how closing ends, and what that shows. There are two batches.
+/// What the first seat is told and then the second, which are handed in, how closing ends, and what that shows. There are two
+/// batches.
 type Row = (
     &'static [Option<u64>],
     &'static [Option<u64>],

@@ -9,4 +9,5 @@ returns-in-Ok c = sym (ap (option_map octets_of) (whole-spelled c.args.text.now 
 
 pub returns-in-Err : goal.returns-in-Err
 returns-in-Err c =
-    sym (ap (option_map octets_of) (whole-unspelled c.args.text.now (λ segments. c.in-Err.ensures (record { segments = segments }))))
+    sym (ap (option_map octets_of)
+    (whole-unspelled c.args.text.now (λ segments. c.in-Err.ensures (record { segments = segments }))))

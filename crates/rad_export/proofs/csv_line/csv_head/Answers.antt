@@ -8,5 +8,7 @@ use Rattle.rad_export.proofs.csv_line.csv_head.Goals as goal
 pub returns : goal.returns
 returns c =
     IfOk-weaker c.line_of.result _ _
-    (λ line is. is ∙ ap (row_text default_writer) (first-field _ _ _ _ _ _ generation_name c.new-fields.ensures.fields c.new-fields.ensures.partial c.as_bytes.ensures.value c.in_ok-push_field.ensures.fields c.in_ok-push_names.ensures))
+    (λ line is. is ∙ ap (row_text default_writer)
+    (first-field _ _ _ _ _ _ generation_name c.new-fields.ensures.fields c.new-fields.ensures.partial c.as_bytes.ensures.value
+    c.in_ok-push_field.ensures.fields c.in_ok-push_names.ensures))
     c.line_of.ensures

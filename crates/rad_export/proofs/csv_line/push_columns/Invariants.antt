@@ -9,6 +9,7 @@ use Rattle.rad_export.proofs.csv_line.push_columns.Given as goal
 abbrev pub invariant-loop-at : goal.invariant-loop-at
 invariant-loop-at l =
     record {
-      fields : fields_of l.fields ≡ fields_of l.fn.fields ++ map (λ c. field (shown_of (option_copied l.time) l.row c)) (take l.at-index l.columns);
+      fields : fields_of l.fields ≡ fields_of l.fn.fields
+          ++ map (λ c. field (shown_of (option_copied l.time) l.row c)) (take l.at-index l.columns);
       whole : partial_of l.fields ≡ [];
     }

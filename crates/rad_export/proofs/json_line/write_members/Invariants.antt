@@ -8,6 +8,7 @@ use Rattle.rad_export.proofs.json_line.write_members.Given as goal
 abbrev pub invariant-loop-at : goal.invariant-loop-at
 invariant-loop-at l =
     record {
-      tokens : l.out.tokens ≡ l.fn.out.tokens ++ flat_map (λ c. member (name_of c) (shown_of (option_copied l.time) l.row c)) (take l.at-index l.columns);
+      tokens : l.out.tokens ≡ l.fn.out.tokens
+          ++ flat_map (λ c. member (name_of c) (shown_of (option_copied l.time) l.row c)) (take l.at-index l.columns);
       before : l.out.before ≡ l.fn.out.before;
     }

@@ -9,6 +9,8 @@ use Rattle.rad_export.proofs.shown.shown_address.Goals as goal
 
 pub returns : goal.returns
 returns c =
-    ap Text (c.in_ok-format.ensures.ok ∙ ap ipv4_text (octets-of c.from_bits-address.result c.in-Ok.address c.from_bits-address.ensures ∙ ap (to_be_bytes w32) c.in-Ok.ensures.1))
+    ap Text (c.in_ok-format.ensures.ok
+    ∙ ap ipv4_text (octets-of c.from_bits-address.result c.in-Ok.address c.from_bits-address.ensures
+    ∙ ap (to_be_bytes w32) c.in-Ok.ensures.1))
     ∙ sym (address-shown _ c.in-Ok.ensures.0)
     ∙ ap shown_address (to_z-of_z w64 c.args.address c.ranges.address)

@@ -14,5 +14,6 @@ returns-in-Ok c = let octets = c.in-Text.octets.now in
 
 pub returns-in-Err : goal.returns-in-Err
 returns-in-Err c = let octets = c.in-Text.octets.now in
-    sym (ap (λ b. cond b (Text octets) (Blob octets)) (false_from_ne_true _ (λ e. c.in-Err.ensures.cases.0 (IsUtf8-from_is_utf8 octets e))))
+    sym (ap (λ b. cond b (Text octets) (Blob octets))
+    (false_from_ne_true _ (λ e. c.in-Err.ensures.cases.0 (IsUtf8-from_is_utf8 octets e))))
     ∙ ap (λ v. shown_text (owned v)) (sym c.in-Text.is)

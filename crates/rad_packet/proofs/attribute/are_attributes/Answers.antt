@@ -5,7 +5,8 @@ use Rattle.rad_packet.proofs.attribute.are_attributes.Goals as goal
 
 pub returns-then-len-lt2 : goal.returns-then-len-lt2
 returns-then-len-lt2 c =
-    sym (are-not c.loop-rest.rest.now c.in-len2-up.len_at_least (elim c.then-len-lt2.either [ inl short ↦ inl short | inr long ↦ inr long.1 ])) ∙ c.loop-rest.invariant
+    sym (are-not c.loop-rest.rest.now c.in-len2-up.len_at_least
+    (elim c.then-len-lt2.either [ inl short ↦ inl short | inr long ↦ inr long.1 ])) ∙ c.loop-rest.invariant
 
 pub loop-rest-preserved : goal.loop-rest-preserved
 loop-rest-preserved c =

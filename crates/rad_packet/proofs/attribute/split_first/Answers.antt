@@ -15,4 +15,5 @@ split_at-requires-2 c =
 
 pub returns : goal.returns
 returns c =
-    rw (c.split_at-2.ensures.back, c.split_at.ensures.front, c.split_at.ensures.back) ((first-at c.args.octets.now (omega arith) c.requires).2)
+    rw (c.split_at-2.ensures.back, c.split_at.ensures.front, c.split_at.ensures.back)
+    ((first-at c.args.octets.now (omega arith) c.requires).2)

@@ -16,7 +16,8 @@ returns-in-Ok g c =
     let is : c.insert.new.self.entries ≡ es ++ (key, b) ∷ [] =
     c.in-Ok.ensures.entries ∙ insert_entry-new nat_eq c.args.blocks.now key b new.0 in
     subst (λ (l : List (ℕ × SeenBlock g.row.T.Denot g.row.S.Denot)). IsSound g.T.Row.number c.args.spans.now key l
-    × (all_rows l ≡ all_rows es) × IsGrouped g.T.Row.is_live 0 c.args.bounds.now l × (has_room_at key l ≡ true) × Unit {0}) (sym is) (
+    × (all_rows l ≡ all_rows es) × IsGrouped g.T.Row.is_live 0 c.args.bounds.now l × (has_room_at key l ≡ true) × Unit {0})
+    (sym is) (
       sound_add g.T.Row.number c.args.spans.now key es b c.requires.sound (new.1 b) none c.in_ok-block.ensures.spans,
       rows_add key es b none,
       grouped_add g.T.Row.is_live c.args.bounds.now es key b c.requires.enough none c.requires.grouped,

@@ -38,7 +38,11 @@ returns-clause-entries g c =
 pub lower-requires : goal.lower-requires
 lower-requires g c =
     let v = c.index_mut-block.result.now in
-    omega (arith, c.requires.grouped.enough, (get_value c.args.blocks.now.entries c.in-Some.at v (0, v) c.index_mut-block.ensures.value).0)
+    omega (
+      arith,
+      c.requires.grouped.enough,
+      (get_value c.args.blocks.now.entries c.in-Some.at v (0, v) c.index_mut-block.ensures.value).0,
+    )
 
 pub returns-clause-grouped : goal.returns-clause-grouped
 returns-clause-grouped g c =

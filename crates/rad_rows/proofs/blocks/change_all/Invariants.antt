@@ -5,4 +5,5 @@ use Rattle.rad_rows.proofs.blocks.change_all.Given as goal
 
 abbrev pub invariant-loop-at : goal.invariant-loop-at
 invariant-loop-at g l =
-    l.blocks.entries ≡ on_blocks (block_mapped (g.C.Change.to l.by)) (take l.at l.fn.blocks.entries) ++ drop l.at l.fn.blocks.entries
+    l.blocks.entries ≡ on_blocks (block_mapped (g.C.Change.to l.by)) (take l.at l.fn.blocks.entries)
+    ++ drop l.at l.fn.blocks.entries

@@ -13,5 +13,6 @@ returns g c =
     ∙
     sym (find_at g.T.Row.number c.args.number 0 c.args.blocks.now.entries c.in-Some.at c.index.result.now c.requires.ascends
     c.requires.placed
-    (entry_at_key g.T.Row.number c.args.number c.args.blocks.now.entries c.in-Some.at _ c.index.result.now (sym c.in-Some.ensures.index)
+    (entry_at_key g.T.Row.number c.args.number c.args.blocks.now.entries c.in-Some.at _ c.index.result.now
+    (sym c.in-Some.ensures.index)
     c.index.ensures))

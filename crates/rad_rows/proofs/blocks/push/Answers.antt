@@ -12,9 +12,13 @@ returns-clause-sound g c =
     let top = key_of (number c.args.row) in
     let es = c.args.blocks.now.entries in
     let v = c.index_mut-block.result.now in
-    sound_set number c.args.spans.now top es (c.len-at.result - 1) v c.push.new.self c.index_mut-block.ensures.value c.push.ensures.spans
+    sound_set number c.args.spans.now top es (c.len-at.result - 1) v c.push.new.self c.index_mut-block.ensures.value
+    c.push.ensures.spans
     (λ key here h. subst (All (BelongsTo number key)) (sym c.push.ensures.rows) (All-push (BelongsTo number key) v.rows c.args.row h
-    (record { belongs = sym (room_key top es (c.len-at.result - 1) key v (ap (λ n. n - 1) c.len-at.ensures.len) c.requires.room here) })))
+    (record {
+      belongs = sym (room_key top es (c.len-at.result - 1) key v (ap (λ n. n - 1) c.len-at.ensures.len) c.requires.room
+          here);
+    })))
     c.requires.sound
 
 pub returns-clause-rows : goal.returns-clause-rows

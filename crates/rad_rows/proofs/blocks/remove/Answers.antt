@@ -6,7 +6,8 @@ use Rattle.rad_rows.proofs.blocks.remove.Goals as goal
 
 pub returns-in_default-clause-entries : goal.returns-in_default-clause-entries
 returns-in_default-clause-entries g c =
-    sym (none_touched g.T.Row.number c.args.number (block_without g.T.Row.number c.args.number) (skip_without g.T.Row.number c.args.number)
+    sym (none_touched g.T.Row.number c.args.number (block_without g.T.Row.number c.args.number)
+    (skip_without g.T.Row.number c.args.number)
     c.args.blocks.now.entries c.requires.placed (no_some _ c.in_default.ensures.found))
 
 pub overflow_sub-result : goal.overflow_sub-result
@@ -19,7 +20,8 @@ overflow_sub-result-2 g c =
 
 pub returns-clause-entries : goal.returns-clause-entries
 returns-clause-entries g c =
-    one_touched g.T.Row.number c.args.number (block_without g.T.Row.number c.args.number) (skip_without g.T.Row.number c.args.number) 0
+    one_touched g.T.Row.number c.args.number (block_without g.T.Row.number c.args.number)
+    (skip_without g.T.Row.number c.args.number) 0
     c.args.blocks.now.entries c.in-Some.at c.index_mut-block.result.now c.remove.new.self
     c.requires.ascends c.requires.placed
     (entry_at_key g.T.Row.number c.args.number c.args.blocks.now.entries c.in-Some.at _ c.index_mut-block.result.now
@@ -28,7 +30,8 @@ returns-clause-entries g c =
 
 pub returns-clause-count : goal.returns-clause-count
 returns-clause-count g c =
-    count_more c.args.blocks.now.entries c.in-Some.at c.index_mut-block.result.now c.remove.new.self c.args.count c.len-before.result
+    count_more c.args.blocks.now.entries c.in-Some.at c.index_mut-block.result.now c.remove.new.self c.args.count
+    c.len-before.result
     c.len-after.result c.index_mut-block.ensures.value c.len-before.ensures c.len-after.ensures
     (omega (arith, without_length g.T.Row.number c.args.number c.index_mut-block.result.now c.remove.new.self c.remove.ensures))
     c.requires.count

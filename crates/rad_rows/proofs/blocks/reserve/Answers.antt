@@ -18,8 +18,10 @@ returns g c =
     let rows = c.reserve.ensures.rows in (
       sound_set number c.args.spans.now c.args.key es i v w at c.reserve.ensures.spans
           (λ key here h. subst (All (BelongsTo number key)) (sym rows) h) c.requires.sound,
-      rows_last es i v w [] (omega (arith, c.len-at.ensures.len, (get_value es i v (0, v) at).0)) at (rows ∙ sym (append-nil v.rows))
+      rows_last es i v w [] (omega (arith, c.len-at.ensures.len, (get_value es i v (0, v) at).0)) at
+          (rows ∙ sym (append-nil v.rows))
           ∙ append-nil (all_rows es),
       grouped_same g.T.Row.is_live c.args.bounds.now es i v w at rows c.reserve.ensures.spans c.requires.grouped,
-      on_ok c.reserve.result (room_last c.args.key es i w (ap (λ n. n - 1) c.len-at.ensures.len) c.requires.last) c.reserve.ensures.ready,
+      on_ok c.reserve.result (room_last c.args.key es i w (ap (λ n. n - 1) c.len-at.ensures.len) c.requires.last)
+          c.reserve.ensures.ready,
     )

@@ -4,7 +4,8 @@ use Rattle.indexmap.specs.IndexMap.{set_value_at}
 use Rattle.rad_rows.specs.Blocks.{cut_block}
 use Rattle.rad_rows.specs.Entries.{HasSpans, IsGrouped, all_rows, on_blocks}
 use Rattle.rad_rows.specs.Rows.{Tells}
-use Rattle.rad_rows.proofs.EntryLemmas.{as_many, block_holds, count_more, cut_length, entries_more, length_part, old_block, told_step}
+use Rattle.rad_rows.proofs.EntryLemmas.{as_many, block_holds, count_more, cut_length, entries_more, length_part, old_block}
+use Rattle.rad_rows.proofs.EntryLemmas.{told_step}
 use Rattle.rad_rows.proofs.ExpiryLemmas.{AreSpared, spared_bounds, spared_entries, spared_told, still_spared}
 use Rattle.rad_rows.proofs.GroupLemmas.{grouped_all, grouped_pass, grouped_renew}
 use Rattle.rad_rows.proofs.expiry.sweep.Goals as goal
@@ -16,7 +17,8 @@ loop-at-init g c =
     let es = c.args.blocks.now.entries in
     let next = c.next_due-at in
     let spared : AreSpared live now c.requires.now es 0 next.result =
-    spared_bounds live now c.requires.now c.args.bounds.now es 0 next.result c.requires.grouped next.ensures.begun next.ensures.later in
+    spared_bounds live now c.requires.now c.args.bounds.now es 0 next.result c.requires.grouped next.ensures.begun
+    next.ensures.later in
     record {
       within = next.ensures.to;
       entries = spared_entries live now c.requires.now es 0 next.result next.ensures.from spared;
@@ -67,7 +69,8 @@ loop-at-preserved g c =
           (Tells told live spans now (all_rows es) c.args.tally.now) next.ensures.from c.requires.spans spared
           (told_step live told spans now es at v (all_rows es) c.args.tally.now c.loop-at.tally c.sweep.new.tally old
           (block_holds (HasSpans spans) es at v old c.requires.spans).1.same c.sweep.ensures.told c.loop-at.invariant.told);
-      count = count_more ys at v w c.loop-at.count c.len-before.result c.len-after.result here c.len-before.ensures c.len-after.ensures
+      count = count_more ys at v w c.loop-at.count c.len-before.result c.len-after.result here c.len-before.ensures
+          c.len-after.ensures
           (omega (arith, cut_length live now v w c.sweep.ensures.cut)) c.loop-at.invariant.count;
       grouped = grouped_pass live (at + 1) next.result c.renew.new.self new next.ensures.from next.ensures.begun grouped;
     }

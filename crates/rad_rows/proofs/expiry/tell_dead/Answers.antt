@@ -35,8 +35,11 @@ loop-at-preserved g c =
       within = next.ensures.to;
       told = spared_told live now c.requires.now told spans es (at + 1) next.result c.tell_dead.new.tally
           (Tells told live spans now (all_rows es) c.args.tally.now) next.ensures.from c.requires.spans
-          (spared_bounds live now c.requires.now bounds es (at + 1) next.result (grouped_any live (at + 1) bounds es c.requires.grouped)
+          (spared_bounds live now c.requires.now bounds es (at + 1) next.result
+          (grouped_any live (at + 1) bounds es c.requires.grouped)
           next.ensures.begun next.ensures.later)
-          (told_step live told spans now es at v (all_rows es) c.args.tally.now c.loop-at.tally c.tell_dead.new.tally c.index.ensures
-          (block_holds (HasSpans spans) es at v c.index.ensures c.requires.spans).1.same c.tell_dead.ensures c.loop-at.invariant.told);
+          (told_step live told spans now es at v (all_rows es) c.args.tally.now c.loop-at.tally c.tell_dead.new.tally
+          c.index.ensures
+          (block_holds (HasSpans spans) es at v c.index.ensures c.requires.spans).1.same c.tell_dead.ensures
+          c.loop-at.invariant.told);
     }

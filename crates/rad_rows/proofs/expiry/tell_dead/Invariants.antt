@@ -6,7 +6,8 @@ use Rattle.rad_rows.proofs.expiry.tell_dead.Given as goal
 abbrev pub invariant-loop-at : goal.invariant-loop-at
 invariant-loop-at g l = record {
   within : l.at ≤ l.len;
-  told : (last : g.row.G.Denot) → Tells g.G.Tally.told g.T.Row.is_live l.spans l.now (all_rows (drop l.at l.blocks.entries)) l.tally last
+  told : (last : g.row.G.Denot) → Tells g.G.Tally.told g.T.Row.is_live l.spans l.now (all_rows (drop l.at l.blocks.entries))
+      l.tally last
       → Tells g.G.Tally.told g.T.Row.is_live l.spans l.now (all_rows l.blocks.entries) l.fn.tally last;
 }
 

@@ -27,7 +27,8 @@ loop-at-preserved g c =
       })
       | goal.else-now-ends w ↦ rw (w.rows-is, w.kept-is, w.tally-is, w.bound-is) (record {
         swept =
-            swept_goes told live spans now old xs ys k i tally w.leave.new.self bound ends row c.loop-at.invariant.swept (omega arith)
+            swept_goes told live spans now old xs ys k i tally w.leave.new.self bound ends row c.loop-at.invariant.swept
+            (omega arith)
             c.index-row.ensures c.requires c.ends-ends.ensures
             w.if-now-ends.false w.leave.ensures;
         capacity = c.loop-at.invariant.capacity;

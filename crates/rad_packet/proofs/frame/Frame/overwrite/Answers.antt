@@ -10,7 +10,8 @@ returns c =
     let len = c.self.inside.len in
     let buffer : List ℕ = c.self.inside.buffer.items in
     let within : place + length octets ≤ len = omega (arith, c.requires, ap length c.self.view_is, length-take-le len buffer) in
-    let whole : c.put.new.buffer ≡ take place buffer ++ octets ++ drop (place + length octets) buffer = rw (← c.deref_mut.ensures.value) c.put.ensures.whole in
+    let whole : c.put.new.buffer ≡ take place buffer ++ octets ++ drop (place + length octets) buffer =
+    rw (← c.deref_mut.ensures.value) c.put.ensures.whole in
     let e : take len c.put.new.buffer ≡ take place (take len buffer) ++ octets ++ drop (place + length octets) (take len buffer) =
     ap (take len) whole ∙ front_written place len buffer octets within (omega (arith, c.self.invariant)) in
     let same : length c.put.new.buffer ≡ c.self.inside.buffer.len = omega (arith, c.put.auto.buffer, c.deref_mut.ensures.len) in

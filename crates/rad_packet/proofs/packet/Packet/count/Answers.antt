@@ -8,7 +8,13 @@ loop-attribute-init c = grind (arith, common_steps)
 
 pub overflow_add-count : goal.overflow_add-count
 overflow_add-count c =
-    omega (arith, count-size c.args.kind c.args.self.now.attributes, c.loop-attribute.invariant, c.attributes-rest.ensures.packet_fits)
+    omega (
+      arith,
+      count-size c.args.kind c.args.self.now.attributes,
+      c.loop-attribute.invariant,
+      c.attributes-rest.ensures.packet_fits,
+    )
 
 pub returns-clause-bound : goal.returns-clause-bound
-returns-clause-bound c = omega (arith, count-size c.args.kind c.args.self.now.attributes, c.loop-attribute.invariant, c.attributes-rest.ensures.packet_fits)
+returns-clause-bound c = omega
+    (arith, count-size c.args.kind c.args.self.now.attributes, c.loop-attribute.invariant, c.attributes-rest.ensures.packet_fits)

@@ -10,7 +10,8 @@ invariant_of-self g c =
     let to = g.C.Change.to c.args.by.now in
     let old = c.self.inside in
     consistent_mapped number g.T.Row.is_live old.spans old.last old.count old.bounds c.change.new.bounds old.ready
-    (change_row number c.args.number to) old.blocks.entries c.change.new.blocks.entries (changed_number number c.args.number to c.requires)
+    (change_row number c.args.number to) old.blocks.entries c.change.new.blocks.entries
+    (changed_number number c.args.number to c.requires)
     c.self.invariant c.change.ensures.entries c.change.ensures.grouped
 
 pub returns-clause-was : goal.returns-clause-was

@@ -8,7 +8,8 @@ pub loop-row-init : goal.loop-row-init
 loop-row-init g c =
     let number = g.T.Row.number in
     let rest : c.iter-rest.result ≡ c.args.self.now.rows = c.iter-rest.ensures in
-    let given : All (IsGiven number c.args.self.now.last) c.args.self.now.rows = rw (← c.self.view_is) c.self.invariant.order.given in
+    let given : All (IsGiven number c.args.self.now.last) c.args.self.now.rows =
+    rw (← c.self.view_is) c.self.invariant.order.given in
     let rising : AllPairs (IsBefore number) c.args.self.now.rows = rw (← c.self.view_is) c.self.invariant.order.rising in
     record {
       rows = ap (λ l. l ++ c.iter-rest.result) c.open-copy.ensures.rows ∙ rest;
@@ -31,12 +32,14 @@ loop-row-preserved g c =
     let rows = c.in_ok-restore.ensures.rows ∙ ap (λ row. c.loop-row.copy.rows ++ row ∷ []) c.in_ok-copy.ensures in
     let last = c.in_ok-restore.ensures.last ∙ ap number c.in_ok-copy.ensures in
     record {
-      rows = moved c.in-Some.row.now c.loop-row.copy.rows c.restore.new.self.rows c.next.new.self c.loop-row.rest c.args.self.now.rows is
+      rows = moved c.in-Some.row.now c.loop-row.copy.rows c.restore.new.self.rows c.next.new.self c.loop-row.rest
+          c.args.self.now.rows is
           c.loop-row.invariant.rows rows;
       spans = c.in_ok-restore.ensures.spans ∙ c.loop-row.invariant.spans;
       after = subst (λ n. All (IsAfter number n) c.next.new.self) (sym last)
           (rest_after number c.in-Some.row.now c.next.new.self c.loop-row.rest is c.loop-row.invariant.rising);
-      given = given_rest number c.args.self.now.last c.in-Some.row.now c.next.new.self c.loop-row.rest is c.loop-row.invariant.given;
+      given = given_rest number c.args.self.now.last c.in-Some.row.now c.next.new.self c.loop-row.rest is
+          c.loop-row.invariant.given;
       last =
           omega (
             arith,

@@ -6,9 +6,11 @@ use Rattle.rad_rows.proofs.rows.Rows.expire.Goals as goal
 pub invariant_of-self : goal.invariant_of-self
 invariant_of-self g c =
     let old = c.self.inside in
-    consistent_cut g.T.Row.number g.T.Row.is_live old.spans c.args.now old.last old.count c.sweep.result old.bounds c.sweep.new.bounds
+    consistent_cut g.T.Row.number g.T.Row.is_live old.spans c.args.now old.last old.count c.sweep.result old.bounds
+    c.sweep.new.bounds
     old.ready
-    old.blocks.entries c.sweep.new.blocks.entries c.self.invariant c.sweep.ensures.entries c.sweep.ensures.count c.sweep.ensures.grouped
+    old.blocks.entries c.sweep.new.blocks.entries c.self.invariant c.sweep.ensures.entries c.sweep.ensures.count
+    c.sweep.ensures.grouped
 
 pub returns-clause-rows : goal.returns-clause-rows
 returns-clause-rows g c =
