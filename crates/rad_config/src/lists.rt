@@ -176,7 +176,8 @@ fn shares_from(alloc: Global, items: &[Value]) -> Result<Vec<Option<u32>>, Confi
 #[tactic(auto, unfolding(crate::specs::Entries::and_entry))]
 fn add_share(index: u32, item: &Value, shares: &mut Vec<Option<u32>>) -> Result<(), ConfigFault>
     requires { All HasShare shares.old.items }
-    ensures read { Gives (λ _. shares.new.items) result (and_share index shares.old.items (view item.now)) }
+    ensures read { Gives (λ _. shares.new.items) result
+        (and_share index shares.old.items (view item.now)) }
     ensures range { IfOk result (λ _. All HasShare shares.new.items) }
 {
     let entry = entry_at(Part::Client, index, item)?;
@@ -206,7 +207,8 @@ fn add_pool(
     pools: &mut Vec<Pool>,
 ) -> Result<(), ConfigFault>
     requires { All IsPool pools.old.items }
-    ensures read { Gives (λ _. pools.new.items) result (and_pool index pools.old.items (view item.now)) }
+    ensures read { Gives (λ _. pools.new.items) result
+        (and_pool index pools.old.items (view item.now)) }
     ensures range { IfOk result (λ _. All IsPool pools.new.items) }
 {
     let entry = entry_at(Part::Pool, index, item)?;
@@ -293,10 +295,11 @@ fn add_user<'a>(
 ) -> Result<(), ConfigFault>
     requires room { length users.old < users_max }
     requires pools { length beside.now.pools.now ≤ pools_max }
-    requires groups { All (IsGroup (length beside.now.pools.now)) (groups_seen beside.now.groups.now) }
+    requires groups { All (IsGroup (length beside.now.pools.now))
+        (groups_seen beside.now.groups.now) }
     requires range { All (IsUser (length beside.now.pools.now)) users.old }
-    ensures read { Gives (λ _. users.new) result
-        (and_user beside.now.pools.now (groups_seen beside.now.groups.now) index users.old (view item.now)) }
+    ensures read { Gives (λ _. users.new) result (and_user beside.now.pools.now
+        (groups_seen beside.now.groups.now) index users.old (view item.now)) }
     ensures range { IfOk result (λ _. All (IsUser (length beside.now.pools.now)) users.new) }
 {
     let entry = entry_at(Part::User, index, item)?;

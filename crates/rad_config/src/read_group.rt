@@ -110,7 +110,8 @@ pub fn names_no_group(group: Option<&Group<'_>>, entry: &Entry<'_>) -> bool
 
 /// What a group says of its users, if there is one.
 pub fn profile_of<'a>(group: Option<&Group<'a>>) -> Profile<'a>
-    ensures { profile_seen result ≡ profile_of (option_map (λ group. group_seen group.now) group.entry) }
+    ensures { profile_seen result
+        ≡ profile_of (option_map (λ group. group_seen group.now) group.entry) }
 {
     match group {
         Some(group) => group.profile,

@@ -69,7 +69,8 @@ impl Model for Users {
 
     ghost view = { λ users. users.rows.items };
 
-    ghost invariant = { λ users. KeepsUsers users.names.keys users.addresses.keys users.rows.items };
+    ghost invariant = { λ users.
+        KeepsUsers users.names.keys users.addresses.keys users.rows.items };
 }
 
 impl Users {
