@@ -2,38 +2,29 @@
 ghost use Rattle.std.specs.Prelude.{◌≡◌};
 ghost use Rattle.rad_config_fault.specs.Faults.{fault_number, fault_name, part_name, key_name};
 
+use std::error::Error;
 use std::fmt;
-use thiserror::Error;
 
 /// The first fault of a configuration text.
-#[derive(Clone, Copy, Debug, PartialEq, Eq, Error)]
+#[derive(Clone, Copy, Debug, PartialEq, Eq)]
 pub enum ConfigFault {
     /// The text is no TOML document.
-    #[error("config fault {number} {name}", number = self.label().0, name = self.label().1)]
     Syntax,
     /// A required key is absent.
-    #[error("config fault {number} {name} at {0}", number = self.label().0, name = self.label().1)]
     Missing(Spot),
     /// The value of a key doesn't fit.
-    #[error("config fault {number} {name} at {0}", number = self.label().0, name = self.label().1)]
     BadValue(Spot),
     /// `hold` is less than `window`.
-    #[error("config fault {number} {name}", number = self.label().0, name = self.label().1)]
     HoldBelowWindow,
     /// Two pools share an address.
-    #[error("config fault {number} {name}", number = self.label().0, name = self.label().1)]
     PoolsOverlap,
     /// A list is too long.
-    #[error("config fault {number} {name} at {0}", number = self.label().0, name = self.label().1)]
     TooMany(Part),
     /// An allocation failed.
-    #[error("config fault {number} {name}", number = self.label().0, name = self.label().1)]
     NoMemory,
     /// `stale` is less than `window`.
-    #[error("config fault {number} {name}", number = self.label().0, name = self.label().1)]
     StaleBelowWindow,
     /// A key of an attribute of a `reply` is absent, or its value doesn't fit.
-    #[error("config fault {number} {name} at {0}", number = self.label().0, name = self.label().1)]
     BadReply(ReplySpot),
 }
 
@@ -56,6 +47,25 @@ impl ConfigFault {
         }
     }
 }
+
+impl fmt::Display for ConfigFault {
+    fn fmt<W: fmt::Write>(&self, f: &mut fmt::Formatter<W>) -> fmt::Result {
+        let (number, name) = self.label();
+        write!(f, "config fault {number} {name}")?;
+        match self {
+            ConfigFault::Missing(spot) | ConfigFault::BadValue(spot) => write!(f, " at {spot}"),
+            ConfigFault::TooMany(part) => write!(f, " at {part}"),
+            ConfigFault::BadReply(spot) => write!(f, " at {spot}"),
+            ConfigFault::Syntax
+            | ConfigFault::HoldBelowWindow
+            | ConfigFault::PoolsOverlap
+            | ConfigFault::NoMemory
+            | ConfigFault::StaleBelowWindow => Ok(()),
+        }
+    }
+}
+
+impl Error for ConfigFault {}
 
 /// Where a fault is: a part, an entry's index in it, and a key.
 ///
