@@ -1,6 +1,6 @@
 //! The names that each table of a configuration has.
 ghost use Rattle.std.specs.Prelude.{◌≡◌};
-ghost use Rattle.rad_check.specs.Names.{has_reply, is_known, is_of_entry, is_of_reply, is_of_top, is_top_key, names_of, names_of_part};
+ghost use Rattle.rad_check.specs.Names.{has_reply, is_known, is_of_entry, is_of_reply, is_of_top, some_key, some_list};
 
 use rad_config_fault::{Key, Part};
 
@@ -21,75 +21,9 @@ pub enum Known {
 /// The lists of a configuration.
 pub const LISTS: &[Part] = &[Part::Client, Part::Pool, Part::User, Part::Group];
 
-const TOP: &[Known] = &[
-    Known::Key(Key::Window),
-    Known::Key(Key::Hold),
-    Known::Key(Key::Stale),
-    Known::Key(Key::Users),
-    Known::List(Part::Client),
-    Known::List(Part::Pool),
-    Known::List(Part::User),
-    Known::List(Part::Group),
-];
-
-const CLIENT: &[Known] = &[
-    Known::Key(Key::Address),
-    Known::Key(Key::Secret),
-    Known::Key(Key::RequireMessageAuthenticator),
-    Known::Key(Key::Share),
-];
-
-const POOL: &[Known] = &[
-    Known::Key(Key::Name),
-    Known::Key(Key::First),
-    Known::Key(Key::Last),
-];
-
-const USER: &[Known] = &[
-    Known::Key(Key::Name),
-    Known::Key(Key::Password),
-    Known::Key(Key::Pool),
-    Known::Key(Key::Sessions),
-    Known::Key(Key::Service),
-    Known::Key(Key::Protocol),
-    Known::Key(Key::Timeout),
-    Known::Key(Key::Message),
-    Known::Key(Key::Challenge),
-    Known::Key(Key::Answer),
-    Known::Key(Key::Challenges),
-    Known::Key(Key::Grants),
-    Known::Key(Key::Address),
-    Known::Key(Key::Group),
-    Known::Key(Key::Reply),
-];
-
-const GROUP: &[Known] = &[
-    Known::Key(Key::Name),
-    Known::Key(Key::Pool),
-    Known::Key(Key::Sessions),
-    Known::Key(Key::Service),
-    Known::Key(Key::Protocol),
-    Known::Key(Key::Timeout),
-    Known::Key(Key::Message),
-    Known::Key(Key::Challenge),
-    Known::Key(Key::Answer),
-    Known::Key(Key::Challenges),
-    Known::Key(Key::Grants),
-    Known::Key(Key::Group),
-    Known::Key(Key::Reply),
-];
-
-const ATTRIBUTE: &[Known] = &[
-    Known::Key(Key::Attribute),
-    Known::Key(Key::Vendor),
-    Known::Key(Key::Value),
-    Known::Key(Key::Hex),
-    Known::Key(Key::Tag),
-];
-
 impl Known {
     ghost use Rattle.std.specs.Prelude.{◌≡◌};
-    ghost use Rattle.rad_check.specs.Names.{is_key, name_of};
+    ghost use Rattle.rad_check.specs.Names.{name_of};
 
     /// The name as a text spells it.
     pub fn name(self) -> &'static str
@@ -100,37 +34,30 @@ impl Known {
             Known::List(part) => part.name(),
         }
     }
+}
 
-    // Whether it is the name of a key.
-    fn is_key(self) -> bool
-        ensures { result ≡ is_key self }
+impl Scope {
+    ghost use Rattle.std.specs.Prelude.{◌≡◌};
+    ghost use Rattle.rad_check.specs.Names.{keys_in, lists_in};
+
+    /// The keys that the table has.
+    pub fn keys(self) -> &'static [Key]
+        ensures { result.now ≡ keys_in self }
     {
         match self {
-            Known::Key(_) => true,
-            Known::List(_) => false,
+            Scope::Part(part) => part.keys(),
+            Scope::Reply(_) => Key::of_reply(),
         }
     }
-}
 
-/// The names that a table has.
-pub fn names_of(scope: Scope) -> &'static [Known]
-    ensures { result.now ≡ names_of scope }
-{
-    match scope {
-        Scope::Part(part) => names_of_part(part),
-        Scope::Reply(_) => ATTRIBUTE,
-    }
-}
-
-fn names_of_part(part: Part) -> &'static [Known]
-    ensures { result.now ≡ names_of_part part }
-{
-    match part {
-        Part::Top => TOP,
-        Part::Client => CLIENT,
-        Part::Pool => POOL,
-        Part::User => USER,
-        Part::Group => GROUP,
+    /// The lists that the table has.
+    pub fn lists(self) -> &'static [Part]
+        ensures { result.now ≡ lists_in self }
+    {
+        match self {
+            Scope::Part(Part::Top) => LISTS,
+            _ => &[],
+        }
     }
 }
 
@@ -138,7 +65,7 @@ fn names_of_part(part: Part) -> &'static [Known]
 pub fn is_known(scope: Scope, name: &str) -> bool
     ensures { result ≡ is_known scope name.now }
 {
-    names_of(scope).iter().any(|known| name == known.name())
+    some_key(scope.keys(), name) || some_list(scope.lists(), name)
 }
 
 /// Whether the entries of a part may have a reply.
@@ -154,7 +81,7 @@ pub fn is_of_top(scope: Scope, name: &str) -> bool
 {
     match scope {
         Scope::Part(Part::Top) => false,
-        _ => is_top_key(name),
+        _ => some_key(Part::Top.keys(), name),
     }
 }
 
@@ -178,10 +105,16 @@ pub fn is_of_reply(scope: Scope, name: &str) -> bool
     }
 }
 
-// Whether a key at the top has a name.
-fn is_top_key(name: &str) -> bool
-    ensures { result ≡ is_top_key name.now }
+// Whether one of these keys has a name.
+fn some_key(keys: &[Key], name: &str) -> bool
+    ensures { result ≡ some_key keys.now name.now }
 {
-    TOP.iter()
-        .any(|known| known.is_key() && name == known.name())
+    keys.iter().any(|key| name == key.name())
+}
+
+// Whether one of these lists has a name.
+fn some_list(lists: &[Part], name: &str) -> bool
+    ensures { result ≡ some_list lists.now name.now }
+{
+    lists.iter().any(|part| name == part.name())
 }

@@ -1,5 +1,5 @@
 -- The faults of a configuration text, its parts and its keys: numbers and names.
-use Rattle.std.specs.Prelude.{◌≡◌, ◌⊎◌, ℕ, List, codes, Result, Ok, Err}
+use Rattle.std.specs.Prelude.{◌≡◌, ◌⊎◌, ℕ, List, [], ◌∷◌, codes, Result, Ok, Err}
 use Rattle.rad_config_fault.specs.declared.config_fault.ConfigFault.{ConfigFault}
 use Rattle.rad_config_fault.specs.declared.config_fault.ConfigFault.TheVariants.{Syntax, Missing, BadValue, HoldBelowWindow, PoolsOverlap, TooMany, NoMemory, StaleBelowWindow, BadReply}
 use Rattle.rad_config_fault.specs.declared.config_fault.Key.{Key}
@@ -75,3 +75,15 @@ key_name keys.Value = codes "value"
 key_name keys.Hex = codes "hex"
 key_name keys.Tag = codes "tag"
 key_name keys.Users = codes "users"
+
+-- the keys that a table of a part has, but for the lists at the top
+abbrev pub keys_of : Part → List Key
+keys_of parts.Top = keys.Window ∷ keys.Hold ∷ keys.Stale ∷ keys.Users ∷ []
+keys_of parts.Client = keys.Address ∷ keys.Secret ∷ keys.RequireMessageAuthenticator ∷ keys.Share ∷ []
+keys_of parts.Pool = keys.Name ∷ keys.First ∷ keys.Last ∷ []
+keys_of parts.User = keys.Name ∷ keys.Password ∷ keys.Pool ∷ keys.Sessions ∷ keys.Service ∷ keys.Protocol ∷ keys.Timeout ∷ keys.Message ∷ keys.Challenge ∷ keys.Answer ∷ keys.Challenges ∷ keys.Grants ∷ keys.Address ∷ keys.Group ∷ keys.Reply ∷ []
+keys_of parts.Group = keys.Name ∷ keys.Pool ∷ keys.Sessions ∷ keys.Service ∷ keys.Protocol ∷ keys.Timeout ∷ keys.Message ∷ keys.Challenge ∷ keys.Answer ∷ keys.Challenges ∷ keys.Grants ∷ keys.Group ∷ keys.Reply ∷ []
+
+-- the keys that an attribute of a reply has
+abbrev pub reply_keys : List Key
+reply_keys = keys.Attribute ∷ keys.Vendor ∷ keys.Value ∷ keys.Hex ∷ keys.Tag ∷ []

@@ -1,6 +1,6 @@
 //! What is wrong with a configuration text.
 ghost use Rattle.std.specs.Prelude.{◌≡◌};
-ghost use Rattle.rad_config_fault.specs.Faults.{fault_number, fault_name, part_name, key_name};
+ghost use Rattle.rad_config_fault.specs.Faults.{fault_number, fault_name, part_name, key_name, keys_of, reply_keys};
 
 use std::error::Error;
 use std::fmt;
@@ -117,6 +117,53 @@ pub enum Part {
     Group,
 }
 
+const TOP: &[Key] = &[Key::Window, Key::Hold, Key::Stale, Key::Users];
+
+const CLIENT: &[Key] = &[
+    Key::Address,
+    Key::Secret,
+    Key::RequireMessageAuthenticator,
+    Key::Share,
+];
+
+const POOL: &[Key] = &[Key::Name, Key::First, Key::Last];
+
+const USER: &[Key] = &[
+    Key::Name,
+    Key::Password,
+    Key::Pool,
+    Key::Sessions,
+    Key::Service,
+    Key::Protocol,
+    Key::Timeout,
+    Key::Message,
+    Key::Challenge,
+    Key::Answer,
+    Key::Challenges,
+    Key::Grants,
+    Key::Address,
+    Key::Group,
+    Key::Reply,
+];
+
+const GROUP: &[Key] = &[
+    Key::Name,
+    Key::Pool,
+    Key::Sessions,
+    Key::Service,
+    Key::Protocol,
+    Key::Timeout,
+    Key::Message,
+    Key::Challenge,
+    Key::Answer,
+    Key::Challenges,
+    Key::Grants,
+    Key::Group,
+    Key::Reply,
+];
+
+const REPLY: &[Key] = &[Key::Attribute, Key::Vendor, Key::Value, Key::Hex, Key::Tag];
+
 impl Part {
     /// The part as it is printed; a list of entries has this key.
     pub fn name(self) -> &'static str
@@ -128,6 +175,19 @@ impl Part {
             Part::Pool => "pool",
             Part::User => "user",
             Part::Group => "group",
+        }
+    }
+
+    /// The keys that a table of the part has, but for the lists at the top.
+    pub fn keys(self) -> &'static [Key]
+        ensures { result.now ≡ keys_of self }
+    {
+        match self {
+            Part::Top => TOP,
+            Part::Client => CLIENT,
+            Part::Pool => POOL,
+            Part::User => USER,
+            Part::Group => GROUP,
         }
     }
 }
@@ -212,6 +272,13 @@ impl Key {
             Key::Tag => "tag",
             Key::Users => "users",
         }
+    }
+
+    /// The keys that an attribute of a `reply` has.
+    pub fn of_reply() -> &'static [Key]
+        ensures { result.now ≡ reply_keys }
+    {
+        REPLY
     }
 }
 
