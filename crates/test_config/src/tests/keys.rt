@@ -1,7 +1,9 @@
-//! The values of keys: numbers in their ranges, texts of their lengths, and flags.
-use super::{read_as, reads_as};
+//! The values of keys: numbers in their ranges, texts of their lengths, and flags; and that they are compared.
+use super::{holds, read_as, reads_as};
+use rad_config::Config;
 use std::alloc::AllocError;
 use std::process::Abort;
+use std::test::Fail;
 
 // Keys that hold a number, each with values that fit, values that don't, and the fault of these.
 const NUMBERS: &[(&str, [i64; 2], [i64; 2], &str)] = &[
@@ -179,6 +181,45 @@ fn no_number_is_past_its_range(rt: HostRuntime) {
     }
 }
 
+// The configuration of a text with this value at a key.
+fn config_at(rt: &impl AllocGlobal, key: &str, value: &str, after: &str) -> Result<Config, Fail> {
+    let text = format!(in rt.alloc(); "{key} = {value}{after}")?;
+    Ok(Config::read(rt.alloc(), text.as_str())?)
+}
+
+// Asserts that a key's value is compared. What a group says counts only for its users, and the text has none.
+fn is_compared<R: Abort + AllocGlobal>(
+    rt: &R,
+    key: &str,
+    (value, other): (&str, &str),
+    after: &str,
+) -> Result<(), Fail> {
+    let config = config_at(rt, key, value, after)?;
+    let other = config_at(rt, key, other, after)?;
+    holds(rt, config.same(&other) == key.starts_with("[[group]]"), key);
+    Ok(())
+}
+
+// The same of a key with these numbers.
+fn numbers_are_compared<R: Abort + AllocGlobal>(
+    rt: &R,
+    key: &str,
+    numbers: [i64; 2],
+) -> Result<(), Fail> {
+    let [number, other] = numbers;
+    let number = number.to_string(rt.alloc())?;
+    let other = other.to_string(rt.alloc())?;
+    is_compared(rt, key, (number.as_str(), other.as_str()), "")
+}
+
+#[test]
+fn each_number_is_compared(rt: HostRuntime) -> Result<(), Fail> {
+    for (key, fit, _, _) in NUMBERS.iter() {
+        numbers_are_compared(&rt, key, *fit)?;
+    }
+    Ok(())
+}
+
 #[test]
 fn only_numbers_are_numbers(rt: HostRuntime) {
     // What fits no key that holds a number.
@@ -333,6 +374,27 @@ fn no_text_is_past_its_lengths(rt: HostRuntime) {
     for (key, after, _, refused, bad) in TEXTS.iter() {
         lengths_read_as(&rt, key, refused, after, bad);
     }
+}
+
+// Asserts that texts of these lengths are compared.
+fn lengths_are_compared<R: Abort + AllocGlobal>(
+    rt: &R,
+    key: &str,
+    lengths: [usize; 2],
+    after: &str,
+) -> Result<(), Fail> {
+    let [length, other] = lengths;
+    let text = spelled(rt, "x", length)?;
+    let other = spelled(rt, "x", other)?;
+    is_compared(rt, key, (text.as_str(), other.as_str()), after)
+}
+
+#[test]
+fn each_text_is_compared(rt: HostRuntime) -> Result<(), Fail> {
+    for (key, after, fit, _, _) in TEXTS.iter() {
+        lengths_are_compared(&rt, key, *fit, after)?;
+    }
+    Ok(())
 }
 
 #[test]
