@@ -1,5 +1,6 @@
 //! What a turn received.
-ghost use Rattle.std.specs.Prelude.{◌≡◌, ◌≤◌, ◌<◌, ◌+◌, [], ◌∷◌, All, IfErr, IfOk, OnErr, OnOk, length, map, true, vec_capacity, vec_len};
+ghost use Rattle.std.specs.Prelude.{◌≡◌, ◌≤◌, ◌<◌, ◌+◌, ◌*◌, [], ◌∷◌, All, IfErr, IfOk, OnErr, OnOk, length, map, true, vec_capacity, vec_len};
+ghost use Rattle.rad_packet.specs.Packets.{length_max};
 ghost use Rattle.rad_round.specs.Rounds.{AreMoments, arrivals_max};
 ghost use Rattle.rad_shell.specs.Passages.{Fault, HavePassed, Out, came_by, reported_by};
 ghost use Rattle.rad_shell.specs.Serving.{AreSent, IsReceived, after_draws, came_in, came_of, draws, is_replied, octet_count, received_all, replies, reply_to};
@@ -18,9 +19,9 @@ pub(crate) struct Received {
     octets: Vec<u8>,
     got: Vec<Got>,
     draws: Vec<[u8; 16]>,
-    ghost octets_fit: { 2097152 ≤ vec_capacity octets },
-    ghost got_fit: { 512 ≤ vec_capacity got },
-    ghost draws_fit: { 512 ≤ vec_capacity draws },
+    ghost octets_fit: { length_max * arrivals_max ≤ vec_capacity octets },
+    ghost got_fit: { arrivals_max ≤ vec_capacity got },
+    ghost draws_fit: { arrivals_max ≤ vec_capacity draws },
     ghost few: { vec_len got ≤ arrivals_max },
     ghost all: { All IsReceived got.items },
     ghost sum: { octet_count got.items ≡ vec_len octets },

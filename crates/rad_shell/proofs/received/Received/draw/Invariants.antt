@@ -1,5 +1,6 @@
-use Rattle.std.proofs.Common.{◌≡◌, ◌≤◌, All, vec_capacity, vec_len}
+use Rattle.std.proofs.Common.{◌≡◌, ◌≤◌, ◌*◌, All, vec_capacity, vec_len}
 use Rattle.rad_round.specs.Rounds.{arrivals_max}
+use Rattle.rad_packet.specs.Packets.{length_max}
 use Rattle.rad_shell.specs.Serving.{IsReceived, after_draws, draws, octet_count}
 use Rattle.rad_shell.proofs.received.Received.draw.Given as goal
 
@@ -8,9 +9,9 @@ invariant-loop g l =
     record {
       count : vec_len l.self.draws ≡ l.counter;
       end : l.end ≡ vec_len l.self.got;
-      octets_fit : 2097152 ≤ vec_capacity l.self.octets;
-      got_fit : 512 ≤ vec_capacity l.self.got;
-      draws_fit : 512 ≤ vec_capacity l.self.draws;
+      octets_fit : length_max * arrivals_max ≤ vec_capacity l.self.octets;
+      got_fit : arrivals_max ≤ vec_capacity l.self.got;
+      draws_fit : arrivals_max ≤ vec_capacity l.self.draws;
       few : vec_len l.self.got ≤ arrivals_max;
       all : All IsReceived l.self.got.items;
       sum : octet_count l.self.got.items ≡ vec_len l.self.octets;
