@@ -1,6 +1,6 @@
 use Rattle.std.proofs.Common.{◌≡◌, ◌≤◌, ◌*◌, All, vec_capacity, vec_len}
-use Rattle.rad_round.specs.Rounds.{arrivals_max}
 use Rattle.rad_packet.specs.Packets.{length_max}
+use Rattle.rad_round.specs.Rounds.{arrivals_max}
 use Rattle.rad_shell.specs.Serving.{IsReceived, after_draws, draws, octet_count}
 use Rattle.rad_shell.proofs.received.Received.draw.Given as goal
 
