@@ -31,29 +31,10 @@ pub fn check8<'a>(
     ensures verdicts { result ≡ map (lane_admission clients.now) arrivals.now }
     ensures requests { All (HoldsAdmitted clients.now) result }
 {
-    let [a, b, c, d, e, f, g, h] = arrivals;
-    let lanes = [
-        read_lane(clients, a),
-        read_lane(clients, b),
-        read_lane(clients, c),
-        read_lane(clients, d),
-        read_lane(clients, e),
-        read_lane(clients, f),
-        read_lane(clients, g),
-        read_lane(clients, h),
-    ];
+    let lanes = each_lane!(arrival of arrivals => read_lane(clients, arrival));
     let digests = accounting_authenticators(clients, &lanes);
     let macs = message_authenticators(clients, &lanes);
-    [
-        verdict_on_lane(clients, &lanes[0], &digests[0], &macs[0]),
-        verdict_on_lane(clients, &lanes[1], &digests[1], &macs[1]),
-        verdict_on_lane(clients, &lanes[2], &digests[2], &macs[2]),
-        verdict_on_lane(clients, &lanes[3], &digests[3], &macs[3]),
-        verdict_on_lane(clients, &lanes[4], &digests[4], &macs[4]),
-        verdict_on_lane(clients, &lanes[5], &digests[5], &macs[5]),
-        verdict_on_lane(clients, &lanes[6], &digests[6], &macs[6]),
-        verdict_on_lane(clients, &lanes[7], &digests[7], &macs[7]),
-    ]
+    each_lane!(j => verdict_on_lane(clients, &lanes[j], &digests[j], &macs[j]))
 }
 
 /// Every admitted request may be answered: the law on which those who answer requests rest.

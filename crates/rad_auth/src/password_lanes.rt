@@ -16,17 +16,7 @@ pub fn passwords_right8(checks: &[Option<PasswordCheck>; 8]) -> [bool; 8]
     ensures { result ≡ map is_right_in checks.now }
 {
     let digests = digests(checks);
-    let [a, b, c, d, e, f, g, h] = checks;
-    [
-        is_right_by(a, &digests[0]),
-        is_right_by(b, &digests[1]),
-        is_right_by(c, &digests[2]),
-        is_right_by(d, &digests[3]),
-        is_right_by(e, &digests[4]),
-        is_right_by(f, &digests[5]),
-        is_right_by(g, &digests[6]),
-        is_right_by(h, &digests[7]),
-    ]
+    each_lane!(j, check of checks => is_right_by(check, &digests[j]))
 }
 
 // The digests of the lanes.
@@ -36,29 +26,8 @@ fn digests(checks: &[Option<PasswordCheck>; LANES]) -> [[u8; DIGEST_LEN]; LANES]
     if !checks.iter().any(uses_lane) {
         return [[0; DIGEST_LEN]; LANES];
     }
-    let [a, b, c, d, e, f, g, h] = checks;
-    digest_some(
-        &[
-            lane_text(a),
-            lane_text(b),
-            lane_text(c),
-            lane_text(d),
-            lane_text(e),
-            lane_text(f),
-            lane_text(g),
-            lane_text(h),
-        ],
-        &[
-            uses_lane(a),
-            uses_lane(b),
-            uses_lane(c),
-            uses_lane(d),
-            uses_lane(e),
-            uses_lane(f),
-            uses_lane(g),
-            uses_lane(h),
-        ],
-    )
+    let (texts, wanted) = each_lane!(check of checks => lane_text(check), uses_lane(check));
+    digest_some(&texts, &wanted)
 }
 
 fn uses_lane(check: &Option<PasswordCheck>) -> bool

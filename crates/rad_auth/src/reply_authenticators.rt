@@ -24,17 +24,7 @@ pub(crate) fn headers(jobs: &[Option<Job>; LANES]) -> [[u8; HEADER_SIZE]; LANES]
     requires { AreJobs jobs.now }
     ensures { result ≡ map lane_header jobs.now }
 {
-    let [a, b, c, d, e, f, g, h] = jobs;
-    [
-        lane_header(a),
-        lane_header(b),
-        lane_header(c),
-        lane_header(d),
-        lane_header(e),
-        lane_header(f),
-        lane_header(g),
-        lane_header(h),
-    ]
+    each_lane!(job of jobs => lane_header(job))
 }
 
 fn lane_header(job: &Option<Job>) -> [u8; HEADER_SIZE]
@@ -71,29 +61,10 @@ pub(crate) fn reply_hmacs<'x>(
     if !jobs.iter().any(has_hmac) {
         return [SIXTEEN_ZEROS; LANES];
     }
-    let [a, b, c, d, e, f, g, h] = jobs;
-    hmac_some(
-        &[
-            (key(a, no_key), hmac_text(a, &headers[0])),
-            (key(b, no_key), hmac_text(b, &headers[1])),
-            (key(c, no_key), hmac_text(c, &headers[2])),
-            (key(d, no_key), hmac_text(d, &headers[3])),
-            (key(e, no_key), hmac_text(e, &headers[4])),
-            (key(f, no_key), hmac_text(f, &headers[5])),
-            (key(g, no_key), hmac_text(g, &headers[6])),
-            (key(h, no_key), hmac_text(h, &headers[7])),
-        ],
-        &[
-            has_hmac(a),
-            has_hmac(b),
-            has_hmac(c),
-            has_hmac(d),
-            has_hmac(e),
-            has_hmac(f),
-            has_hmac(g),
-            has_hmac(h),
-        ],
-    )
+    let (keyed, wanted) = each_lane!(
+        j, job of jobs => (key(job, no_key), hmac_text(job, &headers[j])), has_hmac(job)
+    );
+    hmac_some(&keyed, &wanted)
 }
 
 // Whether a reply has a Message-Authenticator.
@@ -156,29 +127,9 @@ pub(crate) fn reply_digests(
     requires macs { AreReplyHmacs jobs.now macs.now }
     ensures { AreReplyDigests jobs.now result }
 {
-    let [a, b, c, d, e, f, g, h] = jobs;
-    digest_some(
-        &[
-            digested_text(a, &headers[0], &macs[0]),
-            digested_text(b, &headers[1], &macs[1]),
-            digested_text(c, &headers[2], &macs[2]),
-            digested_text(d, &headers[3], &macs[3]),
-            digested_text(e, &headers[4], &macs[4]),
-            digested_text(f, &headers[5], &macs[5]),
-            digested_text(g, &headers[6], &macs[6]),
-            digested_text(h, &headers[7], &macs[7]),
-        ],
-        &[
-            a.is_some(),
-            b.is_some(),
-            c.is_some(),
-            d.is_some(),
-            e.is_some(),
-            f.is_some(),
-            g.is_some(),
-            h.is_some(),
-        ],
-    )
+    let (texts, wanted) =
+        each_lane!(j, job of jobs => digested_text(job, &headers[j], &macs[j]), job.is_some());
+    digest_some(&texts, &wanted)
 }
 
 // The message of a lane's digest.

@@ -23,29 +23,9 @@ pub(crate) fn accounting_authenticators(
     if !lanes.iter().any(is_accounting) {
         return [[0; DIGEST_LEN]; LANES];
     }
-    let [a, b, c, d, e, f, g, h] = lanes;
-    digest_some(
-        &[
-            accounting_text(clients, a),
-            accounting_text(clients, b),
-            accounting_text(clients, c),
-            accounting_text(clients, d),
-            accounting_text(clients, e),
-            accounting_text(clients, f),
-            accounting_text(clients, g),
-            accounting_text(clients, h),
-        ],
-        &[
-            is_accounting(a),
-            is_accounting(b),
-            is_accounting(c),
-            is_accounting(d),
-            is_accounting(e),
-            is_accounting(f),
-            is_accounting(g),
-            is_accounting(h),
-        ],
-    )
+    let (texts, wanted) =
+        each_lane!(lane of lanes => accounting_text(clients, lane), is_accounting(lane));
+    digest_some(&texts, &wanted)
 }
 
 fn is_accounting(lane: &Lane) -> bool
@@ -92,29 +72,10 @@ pub(crate) fn message_authenticators(
         return [[0; DIGEST_LEN]; LANES];
     }
     let no_key = Key::new(&[]);
-    let [a, b, c, d, e, f, g, h] = lanes;
-    hmac_some(
-        &[
-            (key(clients, &no_key, a), hmac_text(a)),
-            (key(clients, &no_key, b), hmac_text(b)),
-            (key(clients, &no_key, c), hmac_text(c)),
-            (key(clients, &no_key, d), hmac_text(d)),
-            (key(clients, &no_key, e), hmac_text(e)),
-            (key(clients, &no_key, f), hmac_text(f)),
-            (key(clients, &no_key, g), hmac_text(g)),
-            (key(clients, &no_key, h), hmac_text(h)),
-        ],
-        &[
-            has_hmac_to_check(a),
-            has_hmac_to_check(b),
-            has_hmac_to_check(c),
-            has_hmac_to_check(d),
-            has_hmac_to_check(e),
-            has_hmac_to_check(f),
-            has_hmac_to_check(g),
-            has_hmac_to_check(h),
-        ],
-    )
+    let (keyed, wanted) = each_lane!(
+        lane of lanes => (key(clients, &no_key, lane), hmac_text(lane)), has_hmac_to_check(lane)
+    );
+    hmac_some(&keyed, &wanted)
 }
 
 fn has_hmac_to_check(lane: &Lane) -> bool
