@@ -6,7 +6,6 @@ ghost use Rattle.rad_packet.specs.Attributes.{value_max};
 mod accounting;
 mod changed_bits;
 mod clients;
-mod discards;
 mod doors;
 mod example;
 mod lanes;
