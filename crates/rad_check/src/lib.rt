@@ -26,7 +26,7 @@ mod warning;
 
 pub use detail::{Detail, detail_of};
 pub use lines::{push_warning, warn, warn_of_file};
-pub use named::{Counts, UsersFile, users_named};
+pub use named::{Counts, UsersFile, entry_count, users_named};
 pub use source::{Source, SourceFault, path_beside};
 pub use user_warning::UserWarning;
 pub use users_fault::{UsersFault, misfit};

@@ -122,9 +122,16 @@ fn counts_of(document: &Table) -> Counts
     ensures { result ≡ counts_of (table_view document.now) }
 {
     Counts {
-        users: count_of(list_at(document, Part::User)),
-        groups: count_of(list_at(document, Part::Group)),
+        users: entry_count(document, Part::User),
+        groups: entry_count(document, Part::Group),
     }
+}
+
+/// How many entries the list of a part has.
+pub fn entry_count(document: &Table, part: Part) -> usize
+    ensures { result ≡ count_of (get_member (part_name part) (table_view document.now)) }
+{
+    count_of(list_at(document, part))
 }
 
 fn list_at(document: &Table, part: Part) -> Option<&Value>

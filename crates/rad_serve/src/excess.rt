@@ -1,18 +1,17 @@
 //! How many entries there are where there are too many.
-ghost use Rattle.std.specs.Prelude.{◌≡◌, IfSome, option_map};
+ghost use Rattle.std.specs.Prelude.{◌≡◌, IfSome};
 ghost use Rattle.toml.specs.Data.{get_member};
 ghost use Rattle.toml.specs.Parse.{parse_document};
-ghost use Rattle.toml.specs.View.{table_view, view};
 ghost use Rattle.rad_check.specs.UsersFiles.{count_of};
 ghost use Rattle.rad_config_fault.specs.Faults.{part_name};
 ghost use Rattle.rad_config_fault.specs.declared.config_fault.ConfigFault.TheVariants.{TooMany};
 ghost use Rattle.rad_serve.specs.Excesses.{most_of};
 
 use rad_auth::CLIENTS_MAX;
+use rad_check::entry_count;
 use rad_config::{ConfigFault, GROUPS_MAX, POOLS_MAX, Part, USERS_MAX};
 use std::alloc::Global;
 use std::fmt;
-use toml::{Table, Value};
 
 /// How many entries a part of a configuration has that has too many, and how many there may be.
 #[derive(Clone, Copy, Debug, PartialEq, Eq)]
@@ -43,29 +42,9 @@ pub fn excess_of(alloc: Global, text: &[u8], fault: ConfigFault) -> Option<Exces
     let document = toml::table_from_slice(alloc, text).ok()?;
     Some(Excess {
         part,
-        count: count_of(list_at(&document, part)),
+        count: entry_count(&document, part),
         most: most_of(part),
     })
-}
-
-fn list_at(document: &Table, part: Part) -> Option<&Value>
-    ensures { option_map (λ value. view value.now) result
-        ≡ get_member (part_name part) (table_view document.now) }
-{
-    document.get(part.name())
-}
-
-// How many entries a list has.
-fn count_of(list: Option<&Value>) -> usize
-    ensures { result ≡ count_of (option_map (λ value. view value.now) list.entry) }
-{
-    let Some(list) = list else {
-        return 0;
-    };
-    match list.as_array() {
-        Some(items) => items.len(),
-        None => 0,
-    }
 }
 
 // How many entries a part may have.
