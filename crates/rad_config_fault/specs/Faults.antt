@@ -81,8 +81,12 @@ abbrev pub keys_of : Part → List Key
 keys_of parts.Top = keys.Window ∷ keys.Hold ∷ keys.Stale ∷ keys.Users ∷ []
 keys_of parts.Client = keys.Address ∷ keys.Secret ∷ keys.RequireMessageAuthenticator ∷ keys.Share ∷ []
 keys_of parts.Pool = keys.Name ∷ keys.First ∷ keys.Last ∷ []
-keys_of parts.User = keys.Name ∷ keys.Password ∷ keys.Pool ∷ keys.Sessions ∷ keys.Service ∷ keys.Protocol ∷ keys.Timeout ∷ keys.Message ∷ keys.Challenge ∷ keys.Answer ∷ keys.Challenges ∷ keys.Grants ∷ keys.Address ∷ keys.Group ∷ keys.Reply ∷ []
-keys_of parts.Group = keys.Name ∷ keys.Pool ∷ keys.Sessions ∷ keys.Service ∷ keys.Protocol ∷ keys.Timeout ∷ keys.Message ∷ keys.Challenge ∷ keys.Answer ∷ keys.Challenges ∷ keys.Grants ∷ keys.Group ∷ keys.Reply ∷ []
+keys_of parts.User =
+    keys.Name ∷ keys.Password ∷ keys.Pool ∷ keys.Sessions ∷ keys.Service ∷ keys.Protocol ∷ keys.Timeout ∷ keys.Message ∷
+    keys.Challenge ∷ keys.Answer ∷ keys.Challenges ∷ keys.Grants ∷ keys.Address ∷ keys.Group ∷ keys.Reply ∷ []
+keys_of parts.Group =
+    keys.Name ∷ keys.Pool ∷ keys.Sessions ∷ keys.Service ∷ keys.Protocol ∷ keys.Timeout ∷ keys.Message ∷ keys.Challenge ∷
+    keys.Answer ∷ keys.Challenges ∷ keys.Grants ∷ keys.Group ∷ keys.Reply ∷ []
 
 -- the keys that an attribute of a reply has
 abbrev pub reply_keys : List Key
