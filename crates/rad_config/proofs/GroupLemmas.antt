@@ -1,5 +1,5 @@
 -- What is said over what a group says: it stays in range, and a challenge goes with an answer. What an entry says once its keys are read.
-use Rattle.std.proofs.Common.{◌≡◌, ℕ, ◌<◌, Bool, true, false, ◌&&◌, ◌||◌, not, List, [], ◌∷◌, ◌++◌, length, get_or, map, All, Option, Some, None, IfSome, arith, refl, ap, ◌∙◌, subst, sym}
+use Rattle.std.proofs.Common.{◌≡◌, ℕ, ◌<◌, Bool, true, false, ◌&&◌, ◌||◌, not, List, [], ◌∷◌, ◌++◌, length, get_or, map, All, Option, Some, None, IfSome, arith, rules, refl, ap, ◌∙◌, subst, sym}
 use Rattle.std.specs.Borrow.{Bor}
 use Rattle.std.specs.Int.{IsInRange}
 use Rattle.std.specs.Prelude.{Ok, Result, is_some, option_copied, option_map, unwrap_or}
@@ -16,12 +16,11 @@ use Rattle.rad_dictionary.specs.Meant.{IsGrantable}
 use Rattle.rad_config_fault.specs.declared.config_fault.ConfigFault.{ConfigFault}
 use Rattle.rad_config_fault.specs.declared.config_fault.ConfigFault.TheVariants.{BadValue}
 use Rattle.rad_config_fault.specs.declared.config_fault.Key.TheVariants as keys
-use Rattle.rad_config.specs.Configurations.{accept_max, accept_size, group_in, group_of, is_too_long, own_in, profile_in, user_in, user_place, user_with}
+use Rattle.rad_config.specs.Configurations.{accept_max, accept_size, group_in, group_of, is_too_long, own_in, user_in, user_place}
 use Rattle.rad_config.specs.Entries.{EntryData, has_key, spot, value}
-use Rattle.rad_config.specs.Keys.{group_place}
 use Rattle.rad_config.specs.Keys as rows
-use Rattle.rad_config.specs.Profiles.{Group, Profile, blank, over, profile_of, reply_of, unless_placed}
-use Rattle.rad_config.specs.Ranges.{HasLength, IsGroup, IsProfile, IsUser}
+use Rattle.rad_config.specs.Profiles.{Group, IsProfile, Profile, blank, group_place, over, profile_in, profile_of, reply_of, unless_placed, user_with}
+use Rattle.rad_config.specs.Ranges.{HasLength, IsGroup, IsUser}
 use Rattle.rad_config.specs.Replies.{reply_in}
 use Rattle.rad_config.specs.declared.pool.Pool.{Pool}
 use Rattle.rad_config.specs.declared.user.User.{User}
@@ -36,35 +35,10 @@ placed_both P None said placed one other = one
 placed_both P (Some at) said placed one other = other
 
 pub over-in_range : (pools : ℕ) (own group : Profile) → IsProfile pools own → IsProfile pools group → IsProfile pools (over own group)
-over-in_range pools own group is other = record {
-  address = is.address;
-  pool = placed_both _ own.address (option_or own.pool group.pool) None (or_both _ own.pool group.pool is.pool other.pool) tt;
-  sessions = placed_both _ own.address (option_or own.sessions group.sessions) (Some 1)
-      (or_both _ own.sessions group.sessions is.sessions other.sessions) (omega arith, omega arith);
-  service = or_both _ own.service group.service is.service other.service;
-  protocol = or_both _ own.protocol group.protocol is.protocol other.protocol;
-  timeout = or_both _ own.timeout group.timeout is.timeout other.timeout;
-  message = or_both _ own.message group.message is.message other.message;
-  challenge = or_both _ own.challenge group.challenge is.challenge other.challenge;
-  answer = or_both _ own.answer group.answer is.answer other.answer;
-  challenges = or_both _ own.challenges group.challenges is.challenges other.challenges;
-  grants = or_both _ own.grants group.grants is.grants other.grants;
-}
+over-in_range pools own group is other = search (rules, or_both, placed_both, is, other)
 
 pub profile_of-in_range : (pools : ℕ) (group : Option Group) → IfSome group (IsGroup pools) → IsProfile pools (profile_of group)
-profile_of-in_range pools None is = record {
-  address = tt;
-  pool = tt;
-  sessions = tt;
-  service = tt;
-  protocol = tt;
-  timeout = tt;
-  message = tt;
-  challenge = tt;
-  answer = tt;
-  challenges = tt;
-  grants = tt;
-}
+profile_of-in_range pools None is = search rules
 profile_of-in_range pools (Some group) is = is.profile
 
 pub reply_of-granted : (pools : ℕ) (group : Option Group) (own : List Attribute) → IfSome group (IsGroup pools) → All IsGrantable own → All IsGrantable (reply_of group ++ own)
@@ -132,19 +106,7 @@ pub user-in_range : (pools : ℕ) (name password : List ℕ) (said : Profile) (r
 user-in_range pools name password said reply named known is paired granted short = record {
   name = named;
   password = known;
-  said = record {
-    address = is.address;
-    pool = is.pool;
-    sessions = or_one said.sessions is.sessions;
-    service = is.service;
-    protocol = is.protocol;
-    timeout = is.timeout;
-    message = is.message;
-    challenge = is.challenge;
-    answer = is.answer;
-    challenges = is.challenges;
-    grants = is.grants;
-  };
+  said = search (rules, or_one, is);
   paired = paired;
   code = refl;
   reply = granted;

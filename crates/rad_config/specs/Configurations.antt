@@ -1,6 +1,6 @@
 -- What a configuration text says, or its first fault. A text is a list of octets, which are numbers below 256; an index counts
 -- from 1, and a place from 0.
-use Rattle.std.specs.Prelude.{ℕ, ◌+◌, ◌&&◌, ◌||◌, nat_eq, nat_le, nat_lt, Bool, false, not, if◌then◌else◌, List, [], ◌∷◌, ◌++◌, length, position, slice_get, Option, option_and_then, Some, None, Result, Ok, Err, ok_or, is_some, unwrap_or}
+use Rattle.std.specs.Prelude.{ℕ, ◌+◌, ◌&&◌, ◌||◌, nat_eq, nat_le, nat_lt, Bool, false, not, if◌then◌else◌, List, [], ◌∷◌, ◌++◌, length, position, slice_get, Option, option_and_then, Some, None, Result, Ok, Err, ok_or, is_some}
 use Rattle.std.specs.List.{list_any}
 use Rattle.std.specs.Str.{bytes_eq, is_utf8}
 use Rattle.toml.specs.Data.{Members}
@@ -17,9 +17,9 @@ use Rattle.rad_config.specs.declared.pool.Pool.{Pool}
 use Rattle.rad_config.specs.declared.spans.Times.{Times}
 use Rattle.rad_config.specs.declared.user.User.{User}
 use Rattle.rad_config.specs.Entries.{EntryData, at_key, has_key, list_of, spot, value}
-use Rattle.rad_config.specs.Keys.{group_place, named_group, pool_place}
+use Rattle.rad_config.specs.Keys.{pool_place}
 use Rattle.rad_config.specs.Keys as rows
-use Rattle.rad_config.specs.Profiles.{Group, Profile, blank, group_at, over, profile_of, reply_of}
+use Rattle.rad_config.specs.Profiles.{Group, Profile, blank, group_at, group_place, named_group, over, profile_in, profile_of, reply_of, user_with}
 use Rattle.rad_config.specs.Replies.{reply_in}
 
 -- how many pools, groups and users there may be
@@ -88,33 +88,6 @@ share p q = nat_le p.first q.last && nat_le q.first p.last
 abbrev pub overlap : List Pool → Bool
 overlap [] = false
 overlap (pool ∷ pools) = list_any (share pool) pools || overlap pools
-
--- What an entry says of users beside these pools; a challenge or an answer may be missing unless it is needed.
-unfoldable pub profile_in : List Pool → Bool → Bool → EntryData → Result Profile ConfigFault
-profile_in pools needs_challenge needs_answer e = do
-  pool ← value e (rows.user_pool pools)
-  sessions ← value e rows.sessions
-  service ← value e rows.service
-  protocol ← value e rows.protocol
-  timeout ← value e rows.timeout
-  message ← value e rows.message
-  challenge ← value e (rows.challenge needs_challenge)
-  answer ← value e (rows.answer needs_answer)
-  challenges ← value e rows.user_challenges
-  grants ← value e rows.grants
-  Ok (record {
-    address = None;
-    pool = pool;
-    sessions = sessions;
-    service = service;
-    protocol = protocol;
-    timeout = timeout;
-    message = message;
-    challenge = challenge;
-    answer = answer;
-    challenges = challenges;
-    grants = grants;
-  })
 
 -- the group that an entry names, if there is one of that name
 abbrev pub group_of : List Group → EntryData → Option Group
@@ -210,25 +183,6 @@ own_in pools earlier group e = do
   address ← value e rows.user_address
   apart ← refuse_if (is_misplaced pools earlier address e) (BadValue (spot e keys.Address))
   Ok (record own { address = address })
-
--- a user of whom this is said
-abbrev pub user_with : List ℕ → List ℕ → Profile → List Attribute → User
-user_with name password said reply = record {
-  name = name;
-  password = password;
-  address = said.address;
-  pool = said.pool;
-  sessions = unwrap_or said.sessions 1;
-  service = said.service;
-  protocol = said.protocol;
-  timeout = said.timeout;
-  message = said.message;
-  challenge = said.challenge;
-  answer = said.answer;
-  challenges = said.challenges;
-  grants = said.grants;
-  reply = record { code = code_access_accept; attributes = reply };
-}
 
 -- A user, whose name no earlier one has. What the entry doesn't say its group says.
 unfoldable pub user_in : List Pool → List Group → List User → EntryData → Result User ConfigFault

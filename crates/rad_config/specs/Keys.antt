@@ -16,7 +16,6 @@ use Rattle.rad_config_fault.specs.declared.config_fault.Key.{Key}
 use Rattle.rad_config_fault.specs.declared.config_fault.Key.TheVariants as keys
 use Rattle.rad_config.specs.Networks.{network_of}
 use Rattle.rad_config.specs.declared.network.Network.{Network}
-use Rattle.rad_config.specs.Profiles.{Group}
 use Rattle.rad_config.specs.declared.pool.Pool.{Pool}
 
 -- ---- rows
@@ -97,13 +96,6 @@ pool_place pools name = position (λ pool. bytes_eq name pool.name) pools
 
 abbrev pub named_pool : List Pool → Data → Option ℕ
 named_pool pools d = option_and_then (pool_place pools) (as_str d)
-
--- the place of the group with this name
-abbrev pub group_place : List Group → List ℕ → Option ℕ
-group_place groups name = position (λ group. bytes_eq name group.name) groups
-
-abbrev pub named_group : List Group → Data → Option ℕ
-named_group groups d = option_and_then (group_place groups) (as_str d)
 
 -- a text as a name, or a number as a Type
 abbrev pub name_or_type : Option (List ℕ) → Data → Option Naming

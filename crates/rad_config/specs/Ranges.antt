@@ -1,14 +1,14 @@
 -- What holds of each configuration that was read, and of its pools and users: lengths, ranges of numbers, and what the checks of
 -- a whole list leave. Texts are lists of octets, times are in seconds. Clients keep their own ranges.
-use Rattle.std.specs.Prelude.{◌≡◌, ℕ, ◌+◌, ◌≤◌, ◌<◌, List, Option, length, slice_get, All, Some, IfSome, is_some}
+use Rattle.std.specs.Prelude.{◌≡◌, ℕ, ◌+◌, ◌≤◌, List, Option, length, slice_get, All, Some, IfSome, is_some}
 use Rattle.std.specs.Int.{IsInRange}
 use Rattle.rad_packet.specs.Codes.{code_access_accept}
 use Rattle.rad_packet.specs.Attributes.{value_max}
 use Rattle.rad_auth.specs.Passwords.{password_max}
 use Rattle.rad_dictionary.specs.Meant.{IsGrantable}
 use Rattle.rad_config.specs.Configurations.{Configuration, accept_max, accept_size, pools_max, user_place, users_max}
-use Rattle.rad_config.specs.Profiles.{Group, Profile}
-use Rattle.rad_config.specs.Keys.{above_first_max, address_max, number_max}
+use Rattle.rad_config.specs.Profiles.{Group, IsProfile, profile_of_user}
+use Rattle.rad_config.specs.Keys.{above_first_max, address_max}
 use Rattle.rad_config.specs.declared.pool.Pool.{Pool}
 use Rattle.rad_config.specs.declared.user.User.{User}
 
@@ -30,41 +30,11 @@ HasAddress pool address = IsInRange pool.first pool.last address
 abbrev pub AreApart : List Pool → Type 0
 AreApart pools = (i j : ℕ) (p q : Pool) (address : ℕ) → slice_get pools i ≡ Some p → slice_get pools j ≡ Some q → HasAddress p address → HasAddress q address → i ≡ j
 
--- what is said of users, beside so many pools
-pub record IsProfile (pools : ℕ) (said : Profile) : Type 0 where
-  pub address : IfSome said.address (IsInRange 1 address_max)
-  pub pool : IfSome said.pool (λ place. place < pools)
-  pub sessions : IfSome said.sessions (IsInRange 1 4096)
-  pub service : IfSome said.service (λ number. number ≤ number_max)
-  pub protocol : IfSome said.protocol (λ number. number ≤ number_max)
-  pub timeout : IfSome said.timeout (IsInRange 1 number_max)
-  pub message : IfSome said.message (HasLength 1 value_max)
-  pub challenge : IfSome said.challenge (HasLength 1 value_max)
-  pub answer : IfSome said.answer (HasLength 1 password_max)
-  pub challenges : IfSome said.challenges (IsInRange 1 1024)
-  pub grants : IfSome said.grants (IsInRange 1 65536)
-
 -- a group beside so many pools
 pub record IsGroup (pools : ℕ) (group : Group) : Type 0 where
   pub profile : IsProfile pools group.profile
   pub code : group.reply.code ≡ code_access_accept
   pub reply : All IsGrantable group.reply.attributes
-
--- what is said of a user
-abbrev pub profile_of_user : User → Profile
-profile_of_user user = record {
-  address = user.address;
-  pool = user.pool;
-  sessions = Some user.sessions;
-  service = user.service;
-  protocol = user.protocol;
-  timeout = user.timeout;
-  message = user.message;
-  challenge = user.challenge;
-  answer = user.answer;
-  challenges = user.challenges;
-  grants = user.grants;
-}
 
 -- a user beside so many pools
 pub record IsUser (pools : ℕ) (user : User) : Type 0 where

@@ -19,7 +19,7 @@ use crate::read_client::read_client;
 use crate::read_group::{GROUPS_MAX, Group, read_group};
 use crate::read_pool::read_pool;
 use crate::read_user::read_user;
-use crate::user::{USERS_MAX, Users};
+use crate::users::{USERS_MAX, Users};
 use rad_auth::{CLIENTS_MAX, Clients};
 use rad_config_fault::{ConfigFault, Key, Part, Spot};
 use std::alloc::Global;

@@ -1,36 +1,24 @@
 //! Reading users.
 ghost use Rattle.std.specs.Prelude.{◌≡◌, ◌≤◌, ◌||◌, All, IfOk, None, is_some, length};
-ghost use Rattle.std.specs.Option.{option_copied};
 ghost use Rattle.rad_packet.specs.Codes.{code_access_accept};
 ghost use Rattle.rad_config.specs.Configurations.{is_given, is_misplaced, needs_answer, needs_challenge, own_in, pools_max, user_in, user_place};
 ghost use Rattle.rad_config_fault.specs.Faults.{Gives};
 ghost use Rattle.rad_config.specs.Entries.{has_key};
-ghost use Rattle.rad_config.specs.Ranges.{IsGroup, IsProfile, IsUser};
-ghost use Rattle.rad_config.specs.ReadEntries.{entry_user, groups_seen, profile_seen};
+ghost use Rattle.rad_config.specs.Profiles.{IsProfile, profile_seen};
+ghost use Rattle.rad_config.specs.Ranges.{IsGroup, IsUser};
+ghost use Rattle.rad_config.specs.ReadEntries.{entry_user, groups_seen};
 ghost use Rattle.rad_config.specs.Views.{entry_data};
 
 use crate::entry::Entry;
 use crate::keys::{PASSWORD, USER_ADDRESS, USER_NAME};
 use crate::pool::Pool;
-use crate::profile::Profile;
 use crate::read_group::{Group, after_group, group_of, is_too_long, names_no_group, profile_of};
 use crate::read_pool::some_has;
-use crate::read_profile::read_profile;
 use crate::read_reply::read_reply;
-use crate::text::Text;
-use crate::user::{User, Users};
+use crate::user::{Profile, UserEntry, read_profile};
+use crate::users::Users;
 use rad_config_fault::{ConfigFault, Key};
-use rad_packet::Body;
-use std::alloc::{AllocError, Global};
-
-/// What an entry says of a user, and what its group says.
-#[derive(Drop)]
-pub struct UserEntry<'a> {
-    pub name: &'a [u8],
-    pub password: &'a [u8],
-    pub profile: Profile<'a>,
-    pub reply: Body,
-}
+use std::alloc::Global;
 
 /// The user that an entry says beside these pools and groups, whose name no earlier one has.
 #[tactic(auto, unfolding(crate::specs::Configurations::user_in))]
@@ -135,49 +123,4 @@ fn needs_answer(group: &Profile<'_>, entry: &Entry<'_>) -> bool
     ensures { result ≡ needs_answer (profile_seen group.now) (entry_data entry.now) }
 {
     (entry.has(Key::Challenge) || group.challenge.is_some()) && group.answer.is_none()
-}
-
-impl<'a> UserEntry<'a> {
-    ghost use Rattle.std.specs.Prelude.{◌≡◌, IfOk};
-    ghost use Rattle.rad_packet.specs.Codes.{code_access_accept};
-    ghost use Rattle.rad_config.specs.ReadEntries.{entry_user};
-
-    /// The user with octets of their own.
-    pub fn into_user(self, alloc: Global) -> Result<User, AllocError>
-        requires { self.reply.code ≡ code_access_accept }
-        ensures { IfOk result (λ user. user ≡ entry_user self.entry) }
-    {
-        let UserEntry {
-            name,
-            password,
-            profile,
-            reply,
-        } = self;
-        Ok(User {
-            name: Text::copy_of(alloc, name)?,
-            password: Text::copy_of(alloc, password)?,
-            address: profile.address,
-            pool: profile.pool,
-            sessions: profile.sessions.unwrap_or(1),
-            service: profile.service,
-            protocol: profile.protocol,
-            timeout: profile.timeout,
-            message: copy_of_some(alloc, profile.message)?,
-            challenge: copy_of_some(alloc, profile.challenge)?,
-            answer: copy_of_some(alloc, profile.answer)?,
-            challenges: profile.challenges,
-            grants: profile.grants,
-            reply,
-        })
-    }
-}
-
-// The text of these octets, where there are any.
-fn copy_of_some(alloc: Global, octets: Option<&[u8]>) -> Result<Option<Text>, AllocError>
-    ensures { IfOk result (λ text. text ≡ option_copied octets.entry) }
-{
-    match octets {
-        Some(octets) => Ok(Some(Text::copy_of(alloc, octets)?)),
-        None => Ok(None),
-    }
 }

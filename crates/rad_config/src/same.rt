@@ -1,10 +1,8 @@
 //! Whether shares, pools and users are equal.
 ghost use Rattle.std.specs.Prelude.{◌≡◌, ◌↔◌, IsTrue};
-ghost use Rattle.rad_config.specs.UserTables.{HaveSameAccess, HaveSameAttributes, HaveSameChallenge, HaveSameLimits};
 
 use crate::pool::Pool;
-use crate::text::Text;
-use crate::user::User;
+use crate::user::{User, same_user};
 
 /// Whether both lists have the same pools in the same order.
 pub fn same_pools(pools: &[Pool], others: &[Pool]) -> bool
@@ -43,61 +41,4 @@ fn same_pool(pool: &Pool, other: &Pool) -> bool
     ensures { IsTrue result ↔ (pool.now ≡ other.now) }
 {
     pool.first == other.first && pool.last == other.last && pool.name.same(&other.name)
-}
-
-fn same_user(user: &User, other: &User) -> bool
-    ensures { IsTrue result ↔ (user.now ≡ other.now) }
-{
-    same_access(user, other)
-        && same_limits(user, other)
-        && same_attributes(user, other)
-        && same_challenge(user, other)
-}
-
-// Who may enter, and at which address or from which pool.
-fn same_access(user: &User, other: &User) -> bool
-    ensures { IsTrue result ↔ HaveSameAccess user.now other.now }
-{
-    user.name.same(&other.name)
-        && user.password.same(&other.password)
-        && user.address == other.address
-        && user.pool == other.pool
-}
-
-// How much they may have.
-fn same_limits(user: &User, other: &User) -> bool
-    ensures { IsTrue result ↔ HaveSameLimits user.now other.now }
-{
-    user.sessions == other.sessions
-        && user.challenges == other.challenges
-        && user.grants == other.grants
-}
-
-// What an Access-Accept says.
-fn same_attributes(user: &User, other: &User) -> bool
-    ensures { IsTrue result ↔ HaveSameAttributes user.now other.now }
-{
-    user.service == other.service
-        && user.protocol == other.protocol
-        && user.timeout == other.timeout
-        && same_text(&user.message, &other.message)
-        && user.reply.same(&other.reply)
-}
-
-// What an Access-Challenge asks.
-fn same_challenge(user: &User, other: &User) -> bool
-    ensures { IsTrue result ↔ HaveSameChallenge user.now other.now }
-{
-    same_text(&user.challenge, &other.challenge) && same_text(&user.answer, &other.answer)
-}
-
-// Whether both are the same text, or neither is there.
-fn same_text(text: &Option<Text>, other: &Option<Text>) -> bool
-    ensures { IsTrue result ↔ (text.now ≡ other.now) }
-{
-    match (text, other) {
-        (Some(text), Some(other)) => text.same(other),
-        (None, None) => true,
-        _ => false,
-    }
 }

@@ -6,10 +6,9 @@ use Rattle.rad_dictionary.specs.Meant.{IsGrantable}
 use Rattle.rad_config_fault.specs.declared.config_fault.Key.TheVariants as keys
 use Rattle.rad_config.specs.Configurations.{is_too_long}
 use Rattle.rad_config.specs.Entries.{has_key}
-use Rattle.rad_config.specs.Keys.{group_place}
-use Rattle.rad_config.specs.Profiles.{Group, blank, over, profile_of, reply_of}
-use Rattle.rad_config.specs.Ranges.{IsGroup, IsProfile}
-use Rattle.rad_config.specs.ReadEntries.{group_seen, groups_seen, profile_seen}
+use Rattle.rad_config.specs.Profiles.{Group, IsProfile, blank, group_place, over, profile_of, profile_seen, reply_of}
+use Rattle.rad_config.specs.Ranges.{IsGroup}
+use Rattle.rad_config.specs.ReadEntries.{group_seen, groups_seen}
 use Rattle.rad_config.specs.Views.{entry_data}
 use Rattle.rad_config.proofs.GroupLemmas.{IfSome-mapped, group_in-is, is_some-mapped, over-in_range, profile_of-in_range, reply_of-granted}
 use Rattle.rad_config.proofs.read_group.read_group.Goals as goal

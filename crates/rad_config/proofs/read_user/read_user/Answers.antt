@@ -3,11 +3,11 @@ use Rattle.std.specs.Prelude.{is_some, option_map}
 use Rattle.std.proofs.lemmas.Option.{IfSome_then}
 use Rattle.rad_dictionary.specs.Meant.{IsGrantable}
 use Rattle.rad_config_fault.specs.declared.config_fault.Key.TheVariants as keys
-use Rattle.rad_config.specs.Configurations.{is_too_long, own_in, user_in, user_place, user_with}
+use Rattle.rad_config.specs.Configurations.{is_too_long, own_in, user_in, user_place}
 use Rattle.rad_config.specs.Entries.{has_key}
-use Rattle.rad_config.specs.Profiles.{Group, Profile, over, profile_of, reply_of}
-use Rattle.rad_config.specs.Ranges.{IsGroup, IsProfile}
-use Rattle.rad_config.specs.ReadEntries.{group_seen, groups_seen, profile_seen}
+use Rattle.rad_config.specs.Profiles.{Group, IsProfile, Profile, over, profile_of, profile_seen, reply_of, user_with}
+use Rattle.rad_config.specs.Ranges.{IsGroup}
+use Rattle.rad_config.specs.ReadEntries.{group_seen, groups_seen}
 use Rattle.rad_config.specs.Views.{entry_data}
 use Rattle.rad_config.proofs.GroupLemmas.{IfSome-mapped, are-paired, is_some-copied, is_some-mapped, last_check, over-in_range, profile_of-in_range, reply_of-granted, user-in_range, user_in-is}
 use Rattle.rad_config.proofs.read_user.read_user.Goals as goal

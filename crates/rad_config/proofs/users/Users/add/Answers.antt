@@ -5,7 +5,7 @@ use Rattle.std.proofs.lemmas.List.{length_push}
 use Rattle.rad_config.specs.Configurations.{is_that, user_place}
 use Rattle.rad_config.proofs.NameLemmas.{named-push}
 use Rattle.rad_config.proofs.UserLemmas.{names-add, own-add}
-use Rattle.rad_config.proofs.user.Users.add.Goals as goal
+use Rattle.rad_config.proofs.users.Users.add.Goals as goal
 
 pub invariant_of-self-2 : goal.invariant_of-self-2
 invariant_of-self-2 c =

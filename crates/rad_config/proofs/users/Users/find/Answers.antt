@@ -1,5 +1,5 @@
 use Rattle.rad_config.proofs.UserLemmas.{user_place-names}
-use Rattle.rad_config.proofs.user.Users.find.Goals as goal
+use Rattle.rad_config.proofs.users.Users.find.Goals as goal
 
 pub returns-in_err-place-clause-value : goal.returns-in_err-place-clause-value
 returns-in_err-place-clause-value c =
