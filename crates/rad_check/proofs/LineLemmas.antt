@@ -18,7 +18,8 @@ place-within text p place is =
     let within = position-within p (lines_of text) place is in
     omega (arith, within, length-slice_split ends_line text, count_by-le-length ends_line text)
 
-stray_step : (text : List ℕ) (place : ℕ) (b : Bool) → begins_with_entry (lines_of text) ≡ b → Some place ≡ stray_place (lines_of text) → place ≤ length text
+stray_step : (text : List ℕ) (place : ℕ) (b : Bool) → begins_with_entry (lines_of text) ≡ b
+    → Some place ≡ stray_place (lines_of text) → place ≤ length text
 stray_step text place true is found = place-within text is_other_header place (sym (rw is at found))
 stray_step text place false is found = place-within text (λ line. not (is_skipped line)) place (sym (rw is at found))
 

@@ -1,5 +1,6 @@
 -- A file of users that a configuration names, and both texts as one.
-use Rattle.std.specs.Prelude.{◌≡◌, ℕ, ◌-◌, nat_lt, Bool, true, if◌then◌else◌, List, ◌∷◌, ◌++◌, length, Option, Some, None, option_map, Result, Ok, Err, is_some, string_bytes}
+use Rattle.std.specs.Prelude.{◌≡◌, ℕ, ◌-◌, nat_lt, Bool, true, if◌then◌else◌, List, ◌∷◌, ◌++◌, length, Option, Some, None}
+use Rattle.std.specs.Prelude.{option_map, Result, Ok, Err, is_some, string_bytes}
 use Rattle.std.specs.Str.{is_utf8}
 use Rattle.toml.specs.Data.{Data, Items, Members, as_array, get_member}
 use Rattle.toml.specs.Parse.{parse_document}
@@ -47,7 +48,10 @@ count_of None = 0
 count_of (Some d) = count_in (as_array d)
 
 abbrev pub counts_of : Members → Counts
-counts_of members = record { users = count_of (get_member (part_name parts.User) members); groups = count_of (get_member (part_name parts.Group) members) }
+counts_of members = record {
+  users = count_of (get_member (part_name parts.User) members);
+  groups = count_of (get_member (part_name parts.Group) members);
+}
 
 -- a file of users: its name, and the entries of the configuration's own file, which come before those of this one
 pub record Named : Type 0 where
@@ -127,7 +131,8 @@ detail_in_users before detail = detail
 
 -- ---- the file in which a fault is told
 
--- the fault of a configuration, seen from the file of users, if it is there: what names a file is a document, so a fault of syntax is
+-- the fault of a configuration, seen from the file of users, if it is there: what names a file is a document, so a fault of syntax
+-- is
 abbrev pub seen_in_users : Option UsersFile → ConfigFault → Option ConfigFault
 seen_in_users None fault = None
 seen_in_users (Some file) faults.Syntax = Some faults.Syntax
@@ -142,4 +147,6 @@ fault_told other = None
 -- what is seen in the file of users is told with its name, and else the fault of the configuration
 abbrev pub IsTold : Option UsersFile → ConfigFault → SourceFault → Type 0
 IsTold users fault (Own told detail) = (seen_in_users users fault ≡ None) × (told ≡ fault)
-IsTold users fault (Users name found) = (told : ConfigFault) × (seen_in_users users fault ≡ Some told) × (fault_told found ≡ Some told) × (option_map (λ file. file.name) users ≡ Some name)
+IsTold users fault (Users name found) =
+    (told : ConfigFault) × (seen_in_users users fault ≡ Some told) × (fault_told found ≡ Some told)
+    × (option_map (λ file. file.name) users ≡ Some name)

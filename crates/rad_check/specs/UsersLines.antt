@@ -1,6 +1,7 @@
--- The lines of a file of users, and the head of a configuration that may name it. A text is a list of octets, which are numbers below
--- 256; a line has no line feed.
-use Rattle.std.specs.Prelude.{ℕ, ◌+◌, ◌==◌, ◌&&◌, ◌||◌, not, Bool, true, false, if◌then◌else◌, List, [], ◌∷◌, length, drop, codes, position, Option, Some, None, option_map, option_and_then}
+-- The lines of a file of users, and the head of a configuration that may name it. A text is a list of octets, which are numbers
+-- below 256; a line has no line feed.
+use Rattle.std.specs.Prelude.{ℕ, ◌+◌, ◌==◌, ◌&&◌, ◌||◌, not, Bool, true, false, if◌then◌else◌, List, [], ◌∷◌, length, drop, codes}
+use Rattle.std.specs.Prelude.{position, Option, Some, None, option_map, option_and_then}
 use Rattle.std.specs.List.{find, slice_split, starts_with}
 use Rattle.rad_config_fault.specs.declared.config_fault.Part.{Part}
 use Rattle.rad_config_fault.specs.declared.config_fault.Part.TheVariants as parts
@@ -55,7 +56,8 @@ is_skipped line = is_void (unindented line)
 
 -- what comes after a part's `[[..]]`
 abbrev pub after_header : Part → List ℕ → Option (List ℕ)
-after_header part line = option_and_then (after_word (codes "]]")) (option_and_then (after_word (part_name part)) (after_word (codes "[[") line))
+after_header part line =
+    option_and_then (after_word (codes "]]")) (option_and_then (after_word (part_name part)) (after_word (codes "[[") line))
 
 abbrev pub is_header_end : Option (List ℕ) → Bool
 is_header_end None = false
@@ -85,7 +87,8 @@ begins_with_entry lines = is_entry_or_none (find (λ line. not (is_skipped line)
 
 -- the place of the first line that may not stand in a file of users
 abbrev pub stray_place : List (List ℕ) → Option ℕ
-stray_place lines = if begins_with_entry lines then position is_other_header lines else position (λ line. not (is_skipped line)) lines
+stray_place lines =
+    if begins_with_entry lines then position is_other_header lines else position (λ line. not (is_skipped line)) lines
 
 -- the first line, from 1, that may not stand in a file of users
 abbrev pub first_stray_line : List ℕ → Option ℕ

@@ -1,9 +1,10 @@
-//! What may be wrong with a configuration that has no fault, and what more there is to say of a fault; and the file of users that it may
-//! name, whose text with its own is one text: a `Source`.
+//! What may be wrong with a configuration that has no fault, and what more there is to say of a fault; and the file of users that
+//! it may name, whose text with its own is one text: a `Source`.
 //!
-//! Others rest on this: a warning applies exactly where `specs/Warnings.antt` says so, or `specs/Intervals.antt` of which users, and
-//! the names that a table doesn't have are those that `specs/Names.antt` doesn't list. Which file of users is named, what may stand there
-//! (`specs/UsersLines.antt`), and in which file a fault is told, `specs/UsersFiles.antt` says. No contract can say what is printed.
+//! Others rest on this: a warning applies exactly where `specs/Warnings.antt` says so, or `specs/Intervals.antt` of which users,
+//! and the names that a table doesn't have are those that `specs/Names.antt` doesn't list. Which file of users is named, what may
+//! stand there (`specs/UsersLines.antt`), and in which file a fault is told, `specs/UsersFiles.antt` says. No contract can say what
+//! is printed.
 #![tactic(auto)]
 
 mod detail;

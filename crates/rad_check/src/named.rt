@@ -4,7 +4,8 @@ ghost use Rattle.std.specs.List.{list_any};
 ghost use Rattle.toml.specs.View.{table_view, view};
 ghost use Rattle.rad_config_fault.specs.Faults.{Gives, part_name};
 ghost use Rattle.toml.specs.Data.{get_member};
-ghost use Rattle.rad_check.specs.UsersFiles.{count_of, counts_of, document_of, file_name, may_name, named_at, named_in, named_view, users_at, users_named};
+ghost use Rattle.rad_check.specs.UsersFiles.{count_of, counts_of, document_of, file_name, may_name, named_at, named_in, named_view};
+ghost use Rattle.rad_check.specs.UsersFiles.{users_at, users_named};
 ghost use Rattle.rad_check.specs.UsersLines.{head_of};
 
 use crate::users_lines::head_of;

@@ -1,6 +1,7 @@
 //! What may be wrong with a file of users.
 ghost use Rattle.std.specs.Prelude.{◌≡◌, Some};
-ghost use Rattle.rad_check.specs.UsersFiles.{detail_in_users, fault_in_users, fault_told, index_after, index_in_users, misfit, spot_in_users};
+ghost use Rattle.rad_check.specs.UsersFiles.{detail_in_users, fault_in_users, fault_told, index_after, index_in_users, misfit};
+ghost use Rattle.rad_check.specs.UsersFiles.{spot_in_users};
 
 use crate::detail::{Detail, detail_of};
 use crate::named::Counts;

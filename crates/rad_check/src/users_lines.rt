@@ -1,11 +1,13 @@
 //! The lines of a file of users, and the head of a configuration that may name it.
 ghost use Rattle.std.specs.Prelude.{◌≡◌, ◌==◌, option_copied};
-ghost use Rattle.rad_check.specs.UsersLines.{after_header, after_word, begins_with_bracket, begins_with_entry, ends_line, first_stray_line, goes_on, head_of, is_blank, is_entry, is_header, is_other_header, is_skipped, lines_of, stray_place, unindented};
+ghost use Rattle.rad_check.specs.UsersLines.{after_header, after_word, begins_with_bracket, begins_with_entry, ends_line};
+ghost use Rattle.rad_check.specs.UsersLines.{first_stray_line, goes_on, head_of, is_blank, is_entry, is_header, is_other_header};
+ghost use Rattle.rad_check.specs.UsersLines.{is_skipped, lines_of, stray_place, unindented};
 
 use rad_config_fault::Part;
 
-/// What comes before the first line that begins with `[`, but for blanks: only there a TOML document has its keys at the top. It may end in
-/// the blanks of that line.
+/// What comes before the first line that begins with `[`, but for blanks: only there a TOML document has its keys at the top. It
+/// may end in the blanks of that line.
 pub fn head_of(text: &[u8]) -> &[u8]
     ensures { result.now ≡ head_of text.now }
 {
@@ -28,9 +30,9 @@ fn goes_on(starts: bool, octet: u8) -> bool
 
 /// The first line, from 1, that may not stand in a file of users.
 ///
-/// Each line that begins with `[`, but for blanks, must be `[[user]]` or `[[group]]`, and the first one that is neither empty nor a comment
-/// such a header. So what such a text adds to another one that is a document are entries of these lists. An array that is spread over
-/// lines, or a text with lines of its own, may be refused too.
+/// Each line that begins with `[`, but for blanks, must be `[[user]]` or `[[group]]`, and the first one that is neither empty nor a
+/// comment such a header. So what such a text adds to another one that is a document are entries of these lists. An array that is
+/// spread over lines, or a text with lines of its own, may be refused too.
 pub fn first_stray_line(text: &[u8]) -> Option<usize>
     ensures { result ≡ first_stray_line text.now }
 {

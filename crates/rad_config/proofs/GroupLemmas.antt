@@ -1,5 +1,7 @@
--- What is said over what a group says: it stays in range, and a challenge goes with an answer. What an entry says once its keys are read.
-use Rattle.std.proofs.Common.{◌≡◌, ℕ, ◌<◌, Bool, true, false, ◌&&◌, ◌||◌, not, List, [], ◌∷◌, ◌++◌, length, get_or, map, All, Option, Some, None, IfSome, arith, rules, refl, ap, ◌∙◌, subst, sym}
+-- What is said over what a group says: it stays in range, and a challenge goes with an answer. What an entry says once its keys are
+-- read.
+use Rattle.std.proofs.Common.{◌≡◌, ℕ, ◌<◌, Bool, true, false, ◌&&◌, ◌||◌, not, List, [], ◌∷◌, ◌++◌, length, get_or, map, All}
+use Rattle.std.proofs.Common.{Option, Some, None, IfSome, arith, rules, refl, ap, ◌∙◌, subst, sym}
 use Rattle.std.specs.Borrow.{Bor}
 use Rattle.std.specs.Int.{IsInRange}
 use Rattle.std.specs.Prelude.{Ok, Result, is_some, option_copied, option_map, unwrap_or}
@@ -19,7 +21,8 @@ use Rattle.rad_config_fault.specs.declared.config_fault.Key.TheVariants as keys
 use Rattle.rad_config.specs.Configurations.{accept_max, accept_size, group_in, group_of, is_too_long, own_in, user_in, user_place}
 use Rattle.rad_config.specs.Entries.{EntryData, has_key, spot, value}
 use Rattle.rad_config.specs.Keys as rows
-use Rattle.rad_config.specs.Profiles.{Group, IsProfile, Profile, blank, group_place, over, profile_in, profile_of, reply_of, unless_placed, user_with}
+use Rattle.rad_config.specs.Profiles.{Group, IsProfile, Profile, blank, group_place, over, profile_in, profile_of, reply_of}
+use Rattle.rad_config.specs.Profiles.{unless_placed, user_with}
 use Rattle.rad_config.specs.Ranges.{HasLength, IsGroup, IsUser}
 use Rattle.rad_config.specs.Replies.{reply_in}
 use Rattle.rad_config.specs.declared.pool.Pool.{Pool}
@@ -34,14 +37,16 @@ placed_both : {A : Type 0} (P : A → Type 0) (address : Option ℕ) (said place
 placed_both P None said placed one other = one
 placed_both P (Some at) said placed one other = other
 
-pub over-in_range : (pools : ℕ) (own group : Profile) → IsProfile pools own → IsProfile pools group → IsProfile pools (over own group)
+pub over-in_range : (pools : ℕ) (own group : Profile) → IsProfile pools own → IsProfile pools group
+    → IsProfile pools (over own group)
 over-in_range pools own group is other = search (rules, or_both, placed_both, is, other)
 
 pub profile_of-in_range : (pools : ℕ) (group : Option Group) → IfSome group (IsGroup pools) → IsProfile pools (profile_of group)
 profile_of-in_range pools None is = search rules
 profile_of-in_range pools (Some group) is = is.profile
 
-pub reply_of-granted : (pools : ℕ) (group : Option Group) (own : List Attribute) → IfSome group (IsGroup pools) → All IsGrantable own → All IsGrantable (reply_of group ++ own)
+pub reply_of-granted : (pools : ℕ) (group : Option Group) (own : List Attribute) → IfSome group (IsGroup pools)
+    → All IsGrantable own → All IsGrantable (reply_of group ++ own)
 reply_of-granted pools None own is granted = granted
 reply_of-granted pools (Some group) own is granted = All-append IsGrantable group.reply.attributes own is.reply granted
 
@@ -61,8 +66,8 @@ is_some-or : {A : Type 0} (o p : Option A) → is_some (option_or o p) ≡ (is_s
 is_some-or None p = refl
 is_some-or (Some x) p = refl
 
--- With the own ones that are needed, both are there, or neither: `c` and `a` say whether the entry has the keys, `gc` and `ga` whether the
--- group has a challenge and an answer.
+-- With the own ones that are needed, both are there, or neither: `c` and `a` say whether the entry has the keys, `gc` and `ga`
+-- whether the group has a challenge and an answer.
 both : (c a gc ga : Bool) → ((((a || ga) && not gc) || c) || gc) ≡ ((((c || gc) && not ga) || a) || ga)
 both false false false false = refl
 both false false false true = refl
@@ -101,7 +106,8 @@ or_one (Some n) is = is
 
 -- a user of whom this is said
 pub user-in_range : (pools : ℕ) (name password : List ℕ) (said : Profile) (reply : List Attribute) → HasLength 1 value_max name
-    → HasLength 1 password_max password → IsProfile pools said → is_some said.challenge ≡ is_some said.answer → All IsGrantable reply
+    → HasLength 1 password_max password → IsProfile pools said → is_some said.challenge ≡ is_some said.answer
+    → All IsGrantable reply
     → is_too_long said reply ≡ false → IsUser pools (user_with name password said reply)
 user-in_range pools name password said reply named known is paired granted short = record {
   name = named;
@@ -138,10 +144,13 @@ module _ (pools : List Pool) (e : EntryData) (name : List ℕ) (own : Profile) (
   unfolding group_in
   group_in-is earlier named new is said short = rw (named, new, is, there, said, listed, short) refl
 
-  pub user_in-is : (groups : List Group) (earlier : List User) (password : List ℕ) (too_long : Bool) → value e rows.user_name ≡ Ok name
+  pub user_in-is : (groups : List Group) (earlier : List User) (password : List ℕ) (too_long : Bool)
+      → value e rows.user_name ≡ Ok name
       → is_some (user_place earlier name) ≡ false → value e rows.password ≡ Ok password → group_of groups e ≡ group
       → own_in pools earlier (profile_of group) e ≡ Ok own
       → is_too_long (over own (profile_of group)) (reply_of group ++ reply) ≡ too_long
-      → user_in pools groups earlier e ≡ last_check e too_long (user_with name password (over own (profile_of group)) (reply_of group ++ reply))
+      → user_in pools groups earlier e
+      ≡ last_check e too_long (user_with name password (over own (profile_of group)) (reply_of group ++ reply))
   unfolding user_in
-  user_in-is groups earlier password too_long named new known is said long = rw (named, new, known, is, there, said, listed, long) refl
+  user_in-is groups earlier password too_long named new known is said long =
+      rw (named, new, known, is, there, said, listed, long) refl

@@ -22,7 +22,8 @@ pub position-map : {A B : Type 0} (p : B → Bool) (f : A → B) (xs : List A) �
 position-map p f xs = rw (prefix_len-map (λ y. not (p y)) f xs, length-map xs f)
 
 -- an element has a place exactly where one passes
-is_some-step : {A : Type 0} (p : A → Bool) (x : A) (xs : List A) (b : Bool) → p x ≡ b → is_some (position p xs) ≡ list_any p xs → is_some (position p (x ∷ xs)) ≡ list_any p (x ∷ xs)
+is_some-step : {A : Type 0} (p : A → Bool) (x : A) (xs : List A) (b : Bool) → p x ≡ b → is_some (position p xs) ≡ list_any p xs
+    → is_some (position p (x ∷ xs)) ≡ list_any p (x ∷ xs)
 is_some-step p x xs true here rest = grind (arith, here)
 is_some-step p x xs false other rest = grind (arith, other, rest)
 
@@ -39,7 +40,8 @@ module _ (names : List (Vec ℕ Global)) (users : List User) (same : map (λ n. 
   -- the place of a name in the index is the place of its user
   pub user_place-names : (name : List ℕ) → position (λ n. bytes_eq name n.items) names ≡ user_place users name
   user_place-names name =
-      sym (position-map (bytes_eq name) (λ n. n.items) names) ∙ ap (position (bytes_eq name)) same ∙ position-map (bytes_eq name) (λ u. u.name) users
+      sym (position-map (bytes_eq name) (λ n. n.items) names) ∙ ap (position (bytes_eq name)) same
+      ∙ position-map (bytes_eq name) (λ u. u.name) users
 
   -- the names after a user whose name is new
   pub names-add : (new_names : List (Vec ℕ Global)) (name : Vec ℕ Global) (user : User)
@@ -50,7 +52,8 @@ module _ (names : List (Vec ℕ Global)) (users : List User) (same : map (λ n. 
       let absent : list_any (λ n. bytes_eq name.items n.items) names ≡ false =
       rw copied (sym (is_some-position (λ n. bytes_eq user.name n.items) names) ∙ ap is_some (user_place-names user.name ∙ new)) in
       let pushed : new_names ≡ names ++ name ∷ [] = names_are ∙ rw absent refl in
-      ap (map (λ n. n.items)) pushed ∙ map-push (λ n. n.items) names name ∙ (λ j. same j ++ copied j ∷ []) ∙ sym (map-push (λ u. u.name) users user)
+      ap (map (λ n. n.items)) pushed ∙ map-push (λ n. n.items) names name ∙ (λ j. same j ++ copied j ∷ [])
+      ∙ sym (map-push (λ u. u.name) users user)
 
 -- ---- addresses of users' own
 
@@ -60,7 +63,8 @@ pub inserted : (addresses : List ℕ) (address other : ℕ)
 inserted addresses address other = at (list_any (nat_eq address) addresses) (nat_eq other address) refl refl
   where
     at : (b d : Bool) → list_any (nat_eq address) addresses ≡ b → nat_eq other address ≡ d
-        → list_any (nat_eq other) (insert_key nat_eq addresses address) ≡ (list_any (nat_eq other) addresses || nat_eq other address)
+        → list_any (nat_eq other) (insert_key nat_eq addresses address)
+        ≡ (list_any (nat_eq other) addresses || nat_eq other address)
     at true true there same =
         let found : list_any (nat_eq other) addresses ≡ true = rw (eqb-true other address same) there in
         rw (there, found)
@@ -70,8 +74,10 @@ inserted addresses address other = at (list_any (nat_eq address) addresses) (nat
 -- the addresses after one more user
 pub own-add : (addresses new_addresses : List ℕ) (users : List User) (user : User)
     → ((address : ℕ) → list_any (nat_eq address) addresses ≡ list_any (has_own address) users)
-    → ((address : ℕ) → list_any (nat_eq address) new_addresses ≡ (list_any (nat_eq address) addresses || is_that address user.address))
+    → ((address : ℕ) → list_any (nat_eq address) new_addresses
+    ≡ (list_any (nat_eq address) addresses || is_that address user.address))
     → (address : ℕ) → list_any (nat_eq address) new_addresses ≡ list_any (has_own address) (users ++ user ∷ [])
 own-add addresses new_addresses users user kept added address =
     added address ∙ ap (λ b. b || is_that address user.address) (kept address)
-    ∙ sym (list_any-append (has_own address) users (user ∷ []) ∙ ap (λ b. list_any (has_own address) users || b) (or-false (has_own address user)))
+    ∙ sym (list_any-append (has_own address) users (user ∷ [])
+    ∙ ap (λ b. list_any (has_own address) users || b) (or-false (has_own address user)))

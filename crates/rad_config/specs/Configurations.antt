@@ -1,6 +1,7 @@
 -- What a configuration text says, or its first fault. A text is a list of octets, which are numbers below 256; an index counts
 -- from 1, and a place from 0.
-use Rattle.std.specs.Prelude.{ℕ, ◌+◌, ◌&&◌, ◌||◌, nat_eq, nat_le, nat_lt, Bool, false, not, if◌then◌else◌, List, [], ◌∷◌, ◌++◌, length, position, slice_get, Option, option_and_then, Some, None, Result, Ok, Err, ok_or, is_some}
+use Rattle.std.specs.Prelude.{ℕ, ◌+◌, ◌&&◌, ◌||◌, nat_eq, nat_le, nat_lt, Bool, false, not, if◌then◌else◌, List, [], ◌∷◌, ◌++◌}
+use Rattle.std.specs.Prelude.{length, position, slice_get, Option, option_and_then, Some, None, Result, Ok, Err, ok_or, is_some}
 use Rattle.std.specs.List.{list_any}
 use Rattle.std.specs.Str.{bytes_eq, is_utf8}
 use Rattle.toml.specs.Data.{Members}
@@ -12,14 +13,16 @@ use Rattle.rad_auth.specs.Clients.{Client, clients_max, has_network}
 use Rattle.rad_config_fault.specs.declared.config_fault.Key.TheVariants as keys
 use Rattle.rad_config_fault.specs.declared.config_fault.Part.TheVariants as parts
 use Rattle.rad_config_fault.specs.declared.config_fault.ConfigFault.{ConfigFault}
-use Rattle.rad_config_fault.specs.declared.config_fault.ConfigFault.TheVariants.{Syntax, BadValue, HoldBelowWindow, PoolsOverlap, StaleBelowWindow}
+use Rattle.rad_config_fault.specs.declared.config_fault.ConfigFault.TheVariants.{Syntax, BadValue, HoldBelowWindow, PoolsOverlap}
+use Rattle.rad_config_fault.specs.declared.config_fault.ConfigFault.TheVariants.{StaleBelowWindow}
 use Rattle.rad_config.specs.declared.pool.Pool.{Pool}
 use Rattle.rad_config.specs.declared.spans.Times.{Times}
 use Rattle.rad_config.specs.declared.user.User.{User}
 use Rattle.rad_config.specs.Entries.{EntryData, at_key, has_key, list_of, spot, value}
 use Rattle.rad_config.specs.Keys.{pool_place}
 use Rattle.rad_config.specs.Keys as rows
-use Rattle.rad_config.specs.Profiles.{Group, Profile, blank, group_at, group_place, named_group, over, profile_in, profile_of, reply_of, user_with}
+use Rattle.rad_config.specs.Profiles.{Group, Profile, blank, group_at, group_place, named_group, over, profile_in, profile_of}
+use Rattle.rad_config.specs.Profiles.{reply_of, user_with}
 use Rattle.rad_config.specs.Replies.{reply_in}
 
 -- how many pools, groups and users there may be
@@ -32,7 +35,8 @@ groups_max = 256
 abbrev pub users_max : ℕ
 users_max = 65536
 
--- Times are in seconds; without `stale` an active session lives on until it is stopped. Each client has a share in percent, or none.
+-- Times are in seconds; without `stale` an active session lives on until it is stopped. Each client has a share in percent, or
+-- none.
 pub record Configuration : Type 0 where
   pub window : ℕ
   pub hold : ℕ
@@ -97,7 +101,8 @@ group_of groups e = group_at groups (option_and_then (named_group groups) (at_ke
 abbrev pub names_no_group : List Group → EntryData → Bool
 names_no_group groups e = has_key e keys.Group && not (is_some (group_of groups e))
 
--- what an Access-Accept has room for: 4,096 octets are the packet's header, its Message-Authenticator, this, and 3,584 of Proxy-States
+-- what an Access-Accept has room for: 4,096 octets are the packet's header, its Message-Authenticator, this, and 3,584 of
+-- Proxy-States
 abbrev pub accept_max : ℕ
 accept_max = 474
 

@@ -1,5 +1,5 @@
--- Tables of a configuration's text, the values at their keys, and lists of them. A text is a list of octets, which are numbers below 256; an
--- index counts from 1.
+-- Tables of a configuration's text, the values at their keys, and lists of them. A text is a list of octets, which are numbers
+-- below 256; an index counts from 1.
 use Rattle.std.specs.Prelude.{ℕ, ◌+◌, nat_lt, Bool, List, [], ◌∷◌, ◌++◌, Option, Some, None, Result, Ok, ok_or, is_some}
 use Rattle.toml.specs.Data.{Data, as_array, as_table, Items, no_items, item, Members, get_member}
 use Rattle.rad_packet.specs.Ladders.{◌>>=◌, refuse_if}
@@ -51,14 +51,16 @@ entry_of part index d = do
   Ok (record { part = part; index = index; members = members })
 
 -- the earlier entries, and one more
-unfoldable pub and_entry : {A : Type 0} → Part → (List A → EntryData → Result A ConfigFault) → ℕ → List A → Data → Result (List A) ConfigFault
+unfoldable pub and_entry : {A : Type 0} → Part → (List A → EntryData → Result A ConfigFault) → ℕ → List A → Data
+    → Result (List A) ConfigFault
 and_entry part read index earlier d = do
   entry ← entry_of part index d
   value ← read earlier entry
   Ok (earlier ++ value ∷ [])
 
 -- The entries from this index on, after the earlier ones: the first fault is that of the first entry that has one.
-unfoldable pub entries_from : {A : Type 0} → Part → (List A → EntryData → Result A ConfigFault) → ℕ → List A → Items → Result (List A) ConfigFault
+unfoldable pub entries_from : {A : Type 0} → Part → (List A → EntryData → Result A ConfigFault) → ℕ → List A → Items
+    → Result (List A) ConfigFault
 entries_from part read index earlier no_items = Ok earlier
 entries_from part read index earlier (item d ds) = do
   entries ← and_entry part read index earlier d
@@ -77,7 +79,8 @@ abbrev pub items_at : Part → ℕ → Members → Result Items ConfigFault
 items_at part most members = items_in part most (get_member (part_name part) members)
 
 -- a part's list of at most so many entries
-unfoldable pub list_of : {A : Type 0} → Part → ℕ → (List A → EntryData → Result A ConfigFault) → Members → Result (List A) ConfigFault
+unfoldable pub list_of : {A : Type 0} → Part → ℕ → (List A → EntryData → Result A ConfigFault) → Members
+    → Result (List A) ConfigFault
 list_of part most read members = do
   ds ← items_at part most members
   entries_from part read 1 [] ds

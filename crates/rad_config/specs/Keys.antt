@@ -1,7 +1,8 @@
 -- The table of keys of a configuration: what may be at each, and what is meant where it is absent. The text is TOML, whose
 -- values are toml's `Data`. A text is a list of octets, which are numbers below 256; an address is a number below 2 ^ 32, most
 -- significant octet first.
-use Rattle.std.specs.Prelude.{ℕ, ◌+◌, ℤ, pos, negsuc, min, nat_le, nat_eq, ◌&&◌, Bool, false, if◌then◌else◌, List, length, position, Option, Some, None, option_map, option_and_then}
+use Rattle.std.specs.Prelude.{ℕ, ◌+◌, ℤ, pos, negsuc, min, nat_le, nat_eq, ◌&&◌, Bool, false, if◌then◌else◌, List, length, position}
+use Rattle.std.specs.Prelude.{Option, Some, None, option_map, option_and_then}
 use Rattle.std.specs.List.{list_any}
 use Rattle.std.specs.Str.{bytes_eq}
 use Rattle.toml.specs.Data.{Data, as_str, as_integer, as_bool}
@@ -20,8 +21,8 @@ use Rattle.rad_config.specs.declared.pool.Pool.{Pool}
 
 -- ---- rows
 
--- A row of the table: a key, the value of the data at it where that fits, and the value that is meant where the key is absent, if it
--- may be.
+-- A row of the table: a key, the value of the data at it where that fits, and the value that is meant where the key is absent, if
+-- it may be.
 pub record Row (A : Type 0) : Type 0 where
   pub key : Key
   pub fit : Data → Option A
@@ -41,7 +42,8 @@ optional key fit = record { key = key; fit = λ d. option_map Some (fit d); abse
 
 -- a key that may be absent unless it is needed
 abbrev pub optional_unless : {A : Type 0} → Bool → Key → (Data → Option A) → Row (Option A)
-optional_unless needed key fit = record { key = key; fit = λ d. option_map Some (fit d); absent = if needed then None else Some None }
+optional_unless needed key fit =
+    record { key = key; fit = λ d. option_map Some (fit d); absent = if needed then None else Some None }
 
 -- ---- bounds
 

@@ -1,5 +1,5 @@
--- Networks of clients, as texts spell them: an address, or an address, `/` and a prefix (RFC 4632, section 3.1). A text is a list of
--- octets, which are numbers below 256.
+-- Networks of clients, as texts spell them: an address, or an address, `/` and a prefix (RFC 4632, section 3.1). A text is a list
+-- of octets, which are numbers below 256.
 use Rattle.std.specs.Prelude.{ℕ, IsTrue, if◌then◌else◌, List, Option, Some, None}
 use Rattle.rad_auth.specs.Clients.{address_bits, network_fits}
 use Rattle.rad_text.specs.Decimals.{◌>>=◌, address_of, has_leading_zero, number_of}

@@ -1,5 +1,6 @@
 -- What is said of users: of one, or in a group of all that name it. Texts are lists of octets; a place counts from 0.
-use Rattle.std.specs.Prelude.{ℕ, ◌≤◌, ◌<◌, Bool, List, [], length, position, Option, Some, None, IfSome, slice_get, option_and_then, unwrap_or, Result, Ok}
+use Rattle.std.specs.Prelude.{ℕ, ◌≤◌, ◌<◌, Bool, List, [], length, position, Option, Some, None, IfSome, slice_get, option_and_then}
+use Rattle.std.specs.Prelude.{unwrap_or, Result, Ok}
 use Rattle.std.specs.Int.{IsInRange}
 use Rattle.std.specs.Option.{option_copied, option_or}
 use Rattle.std.specs.Str.{bytes_eq}
@@ -53,8 +54,8 @@ abbrev pub unless_placed : {A : Type 0} → Option ℕ → Option A → Option A
 unless_placed None said placed = said
 unless_placed (Some address) said placed = placed
 
--- What is said, and where nothing is, what a group says. An address of the user's own stands in place of a pool, and one session at a
--- time has it.
+-- What is said, and where nothing is, what a group says. An address of the user's own stands in place of a pool, and one session at
+-- a time has it.
 abbrev pub over : Profile → Profile → Profile
 over own group = record {
   address = own.address;
@@ -146,7 +147,8 @@ pub record IsProfile (pools : ℕ) (said : Profile) : Type 0 where
   pub challenges : IfSome said.challenges (IsInRange 1 1024)
   pub grants : IfSome said.grants (IsInRange 1 65536)
 
--- what the code read of users, whose octets it has borrowed from the document; only the contracts of private functions use this word
+-- what the code read of users, whose octets it has borrowed from the document; only the contracts of private functions use this
+-- word
 abbrev pub profile_seen : ProfileOfCode → Profile
 profile_seen said = record {
   address = said.address;

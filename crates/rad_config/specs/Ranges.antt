@@ -28,7 +28,8 @@ HasAddress pool address = IsInRange pool.first pool.last address
 
 -- no address is in two pools, which have the places i and j
 abbrev pub AreApart : List Pool → Type 0
-AreApart pools = (i j : ℕ) (p q : Pool) (address : ℕ) → slice_get pools i ≡ Some p → slice_get pools j ≡ Some q → HasAddress p address → HasAddress q address → i ≡ j
+AreApart pools = (i j : ℕ) (p q : Pool) (address : ℕ) → slice_get pools i ≡ Some p → slice_get pools j ≡ Some q
+    → HasAddress p address → HasAddress q address → i ≡ j
 
 -- a group beside so many pools
 pub record IsGroup (pools : ℕ) (group : Group) : Type 0 where

@@ -5,7 +5,8 @@ use Rattle.toml.specs.Data.{Data, as_bool}
 use Rattle.toml.specs.View.{view, table_view}
 use Rattle.toml.specs.declared.value.Value.{Value}
 use Rattle.rad_config.specs.Entries.{EntryData}
-use Rattle.rad_config.specs.Keys.{Row, required, with_default, optional, optional_unless, number, address, network, text, text_without_zero}
+use Rattle.rad_config.specs.Keys.{Row, required, with_default, optional, optional_unless, number, address, network, text}
+use Rattle.rad_config.specs.Keys.{text_without_zero}
 use Rattle.rad_config.specs.declared.entry.Entry.{Entry}
 use Rattle.rad_config.specs.declared.keys.AddressRow.{AddressRow}
 use Rattle.rad_config.specs.declared.keys.DefaultRow.{DefaultRow}

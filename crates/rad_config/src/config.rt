@@ -72,10 +72,10 @@ impl Config {
 
     /// The configuration that a text says, or its first fault.
     ///
-    /// The text is TOML; `docs/FORMATS.md` has the table of its keys. Checks are made in this order: `Syntax`; the keys at the
-    /// top, then `HoldBelowWindow`, then `StaleBelowWindow`; the clients, and then their shares; the pools, then `PoolsOverlap`;
-    /// the groups; the users. A list must be an array (`BadValue`), and not too long (`TooMany`); then each entry is checked in order, key by
-    /// key in the table's order. If an allocation fails, `NoMemory` is returned before any later check.
+    /// The text is TOML; `docs/FORMATS.md` has the table of its keys. Checks are made in this order: `Syntax`; the keys at the top,
+    /// then `HoldBelowWindow`, then `StaleBelowWindow`; the clients, and then their shares; the pools, then `PoolsOverlap`; the
+    /// groups; the users. A list must be an array (`BadValue`), and not too long (`TooMany`); then each entry is checked in order,
+    /// key by key in the table's order. If an allocation fails, `NoMemory` is returned before any later check.
     #[tactic(auto, unfolding(crate::specs::Configurations::configuration_of, crate::specs::Configurations::separate_pools))]
     pub fn read(alloc: Global, text: &str) -> Result<Config, ConfigFault>
         ensures { Gives (λ config. config) result (configuration_of text.now) }

@@ -20,7 +20,8 @@ impl<'a> Entry<'a> {
     ghost use Rattle.rad_config.specs.Entries.{at_key, has_key, spot};
     ghost use Rattle.rad_config.specs.Networks.{IsNetwork};
     ghost use Rattle.rad_config.specs.Readers.{FoundIf, GivesValue, HasRowLength};
-    ghost use Rattle.rad_config.specs.Views.{address_row, data_of, entry_data, flag_row, network_row, number_row, optional_address_row, required_text_row, default_row, text_row, text_row_unless};
+    ghost use Rattle.rad_config.specs.Views.{address_row, data_of, entry_data, flag_row, network_row, number_row};
+    ghost use Rattle.rad_config.specs.Views.{optional_address_row, required_text_row, default_row, text_row, text_row_unless};
 
     /// Where a fault at a key is.
     pub fn spot(&self, key: Key) -> Spot

@@ -1,4 +1,5 @@
-//! The table of keys: which values fit each, and the defaults. A user's pool and group are names of entries, so they have no rows here.
+//! The table of keys: which values fit each, and the defaults. A user's pool and group are names of entries, so they have no rows
+//! here.
 ghost use Rattle.std.specs.Prelude.{◌≡◌, ◌+◌, min, IfSome};
 ghost use Rattle.std.specs.Int.{IsInRange};
 ghost use Rattle.std.specs.Option.{option_copied};

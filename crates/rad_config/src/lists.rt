@@ -3,12 +3,14 @@ ghost use Rattle.std.specs.Prelude.{◌≡◌, ◌<◌, ◌≤◌, length, All, 
 ghost use Rattle.toml.specs.View.{view, items_view, table_view};
 ghost use Rattle.toml.specs.Data.{get_member};
 ghost use Rattle.rad_auth.specs.Clients.{clients_max};
-ghost use Rattle.rad_config.specs.Configurations.{clients_of, groups_max, groups_of, pools_max, pools_of, shares_of, users_max, users_of};
+ghost use Rattle.rad_config.specs.Configurations.{clients_of, groups_max, groups_of, pools_max, pools_of, shares_of, users_max};
+ghost use Rattle.rad_config.specs.Configurations.{users_of};
 ghost use Rattle.rad_config.specs.Entries.{entry_of, items_at};
 ghost use Rattle.rad_config_fault.specs.Faults.{Gives};
 ghost use Rattle.rad_config_fault.specs.Faults.{part_name};
 ghost use Rattle.rad_config.specs.Ranges.{HasShare, IsGroup, IsPool, IsUser};
-ghost use Rattle.rad_config.specs.Readers.{and_client, and_group, and_pool, and_share, and_user, clients_from, found_items, groups_from, pools_from, shares_from, users_from};
+ghost use Rattle.rad_config.specs.Readers.{and_client, and_group, and_pool, and_share, and_user, clients_from, found_items};
+ghost use Rattle.rad_config.specs.Readers.{groups_from, pools_from, shares_from, users_from};
 ghost use Rattle.rad_config.specs.ReadEntries.{groups_seen};
 ghost use Rattle.rad_config.specs.Views.{data_of, entry_data};
 

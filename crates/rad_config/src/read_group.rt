@@ -1,5 +1,6 @@
 //! Reading groups.
-ghost use Rattle.std.specs.Prelude.{◌≡◌, ◌+◌, ◌++◌, ◌&&◌, ◌<◌, ◌≤◌, All, IfErr, IfOk, IfSome, is_some, length, not, option_copied, option_map, position, ℕ};
+ghost use Rattle.std.specs.Prelude.{◌≡◌, ◌+◌, ◌++◌, ◌&&◌, ◌<◌, ◌≤◌, All, IfErr, IfOk, IfSome, is_some, length, not, option_copied};
+ghost use Rattle.std.specs.Prelude.{option_map, position, ℕ};
 ghost use Rattle.std.specs.Str.{bytes_eq};
 ghost use Rattle.rad_packet.specs.Attributes.{value_max};
 ghost use Rattle.rad_packet.specs.Bodies.{with_attributes};

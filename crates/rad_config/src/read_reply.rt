@@ -8,7 +8,8 @@ ghost use Rattle.toml.specs.View.{items_view, view};
 ghost use Rattle.rad_config.specs.Entries.{has_key, value};
 ghost use Rattle.rad_config.specs.Keys.{given_hex, given_value, named_attribute};
 ghost use Rattle.rad_config.specs.Readers.{and_attribute};
-ghost use Rattle.rad_config.specs.Replies.{FaultOf, attribute_of, attributes_from, given_row, in_reply, in_reply_spot, naming_in, reply_in, reply_max};
+ghost use Rattle.rad_config.specs.Replies.{FaultOf, attribute_of, attributes_from, given_row, in_reply, in_reply_spot, naming_in};
+ghost use Rattle.rad_config.specs.Replies.{reply_in, reply_max};
 ghost use Rattle.rad_config.specs.Views.{entry_data};
 ghost use Rattle.rad_config_fault.specs.Faults.{Gives};
 

@@ -1,7 +1,8 @@
 //! Reading users.
 ghost use Rattle.std.specs.Prelude.{◌≡◌, ◌≤◌, ◌||◌, All, IfOk, None, is_some, length};
 ghost use Rattle.rad_packet.specs.Codes.{code_access_accept};
-ghost use Rattle.rad_config.specs.Configurations.{is_given, is_misplaced, needs_answer, needs_challenge, own_in, pools_max, user_in, user_place};
+ghost use Rattle.rad_config.specs.Configurations.{is_given, is_misplaced, needs_answer, needs_challenge, own_in, pools_max};
+ghost use Rattle.rad_config.specs.Configurations.{user_in, user_place};
 ghost use Rattle.rad_config_fault.specs.Faults.{Gives};
 ghost use Rattle.rad_config.specs.Entries.{has_key};
 ghost use Rattle.rad_config.specs.Profiles.{IsProfile, profile_seen};

@@ -1,7 +1,9 @@
 -- The faults of a configuration text, its parts and its keys: numbers and names.
 use Rattle.std.specs.Prelude.{◌≡◌, ◌⊎◌, ℕ, List, [], ◌∷◌, codes, Result, Ok, Err}
 use Rattle.rad_config_fault.specs.declared.config_fault.ConfigFault.{ConfigFault}
-use Rattle.rad_config_fault.specs.declared.config_fault.ConfigFault.TheVariants.{Syntax, Missing, BadValue, HoldBelowWindow, PoolsOverlap, TooMany, NoMemory, StaleBelowWindow, BadReply}
+use Rattle.rad_config_fault.specs.declared.config_fault.ConfigFault.TheVariants.{Syntax, Missing, BadValue, HoldBelowWindow}
+use Rattle.rad_config_fault.specs.declared.config_fault.ConfigFault.TheVariants.{PoolsOverlap, TooMany, NoMemory, StaleBelowWindow}
+use Rattle.rad_config_fault.specs.declared.config_fault.ConfigFault.TheVariants.{BadReply}
 use Rattle.rad_config_fault.specs.declared.config_fault.Key.{Key}
 use Rattle.rad_config_fault.specs.declared.config_fault.Key.TheVariants as keys
 use Rattle.rad_config_fault.specs.declared.config_fault.Part.{Part}

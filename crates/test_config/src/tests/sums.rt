@@ -116,8 +116,8 @@ fn nested_reads_as<R: Abort + AllocGlobal>(rt: &R, row: Grouped, want: &str) {
 
 #[test]
 fn a_groups_reply_fits_a_packet(rt: HostRuntime) {
-    // What is said of the inner group and, beside the octets of both Filter-Ids, which users there are; and the outcome. What else is
-    // said counts with a user.
+    // What is said of the inner group and, beside the octets of both Filter-Ids, which users there are; and the outcome. What else
+    // is said counts with a user.
     const ROWS: &[(Grouped, &str)] = &[
         (("", 228, "", 228), "read"),
         (

@@ -6,7 +6,8 @@ use Rattle.rad_check.proofs.named.document_of.Goals as goal
 
 pub returns-in-Ok-table_from_str : goal.returns-in-Ok-table_from_str
 returns-in-Ok-table_from_str c =
-    rw (is_utf8-from_IsUtf8 c.args.octets.now c.in-Ok.ensures.cases.1, ← c.in-Ok.ensures.cases.0) (ap Ok c.in-Ok-table_from_str.ensures.ok)
+    rw (is_utf8-from_IsUtf8 c.args.octets.now c.in-Ok.ensures.cases.1, ← c.in-Ok.ensures.cases.0)
+    (ap Ok c.in-Ok-table_from_str.ensures.ok)
 
 pub returns-in-Err : goal.returns-in-Err
 returns-in-Err c =

@@ -15,5 +15,6 @@ returns-clause-read c =
 pub returns-clause-range : goal.returns-clause-range
 returns-clause-range c =
     let pushed = map-push group_seen c.args.groups.now.items c.in_ok-group.group in
-    let range = All-push (IsGroup (length c.args.pools.now)) (groups_seen c.args.groups.now.items) (group_seen c.in_ok-group.group) c.requires.range c.in_ok-group.ensures.range in
+    let range = All-push (IsGroup (length c.args.pools.now)) (groups_seen c.args.groups.now.items) (group_seen c.in_ok-group.group)
+    c.requires.range c.in_ok-group.ensures.range in
     search (rules, pushed, range)

@@ -8,13 +8,15 @@ use Rattle.rad_config.proofs.lists.clients_from.Goals as goal
 pub returns-in_err-add_client : goal.returns-in_err-add_client
 returns-in_err-add_client c =
     let p = err_from_is_err_and c.from_residual.result c.from_residual.ensures.1 in
-    let here = entries_from-refused part.Client client_in c.args.items.now c.loop-place.place c.index-items-place.result c.loop-place.clients in
+    let here = entries_from-refused part.Client client_in c.args.items.now c.loop-place.place c.index-items-place.result
+    c.loop-place.clients in
     rw (p.1, p.2) (here c.loop-place-test.true c.index-items-place.is _ _ c.in_err-add_client.ensures c.loop-place.invariant.as_all)
 
 pub loop-place-preserved : goal.loop-place-preserved
 loop-place-preserved c =
     let read = c.in_ok-add_client.ensures in
-    let here = entries_from-more part.Client client_in c.args.items.now c.loop-place.place c.index-items-place.result c.loop-place.clients in
+    let here = entries_from-more part.Client client_in c.args.items.now c.loop-place.place c.index-items-place.result
+    c.loop-place.clients in
     let next = here c.loop-place-test.true c.index-items-place.is _ read in
     record {
       one_each = rw (and_entry-length _ _ _ _ _ _ read) (omega arith);
@@ -24,4 +26,5 @@ loop-place-preserved c =
 pub returns : goal.returns
 returns c =
     sym c.loop-place.invariant.as_all
-    ∙ entries_from-all part.Client client_in c.args.items.now c.loop-place.place (c.loop-place.place + 1) c.loop-place.clients c.loop-place-test.false
+    ∙ entries_from-all part.Client client_in c.args.items.now c.loop-place.place (c.loop-place.place + 1) c.loop-place.clients
+    c.loop-place-test.false

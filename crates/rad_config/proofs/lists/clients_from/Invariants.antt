@@ -11,5 +11,6 @@ abbrev pub invariant-loop-place : goal.invariant-loop-place
 invariant-loop-place l =
     record {
       one_each : length l.clients ≡ l.place;
-      as_all : entries_from part.Client client_in (l.place + 1) l.clients (items_view (drop l.place l.items)) ≡ clients_from (items_view l.items);
+      as_all : entries_from part.Client client_in (l.place + 1) l.clients (items_view (drop l.place l.items))
+          ≡ clients_from (items_view l.items);
     }

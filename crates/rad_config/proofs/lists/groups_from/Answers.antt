@@ -9,13 +9,16 @@ use Rattle.rad_config.proofs.lists.groups_from.Goals as goal
 pub returns-in_err-add_group-clause-read : goal.returns-in_err-add_group-clause-read
 returns-in_err-add_group-clause-read c =
     let p = err_from_is_err_and c.from_residual.result c.from_residual.ensures.1 in
-    let here = entries_from-refused part.Group (group_in c.args.pools.now) c.args.items.now c.loop-place.place c.index-items-place.result (groups_seen c.loop-place.groups.items) in
-    rw (p.1, p.2) (here c.loop-place-test.true c.index-items-place.is _ _ c.in_err-add_group.ensures.read c.loop-place.invariant.as_all)
+    let here = entries_from-refused part.Group (group_in c.args.pools.now) c.args.items.now c.loop-place.place
+    c.index-items-place.result (groups_seen c.loop-place.groups.items) in
+    rw (p.1, p.2) (here c.loop-place-test.true c.index-items-place.is _ _ c.in_err-add_group.ensures.read
+    c.loop-place.invariant.as_all)
 
 pub loop-place-preserved : goal.loop-place-preserved
 loop-place-preserved c =
     let read = c.in_ok-add_group.ensures.read in
-    let here = entries_from-more part.Group (group_in c.args.pools.now) c.args.items.now c.loop-place.place c.index-items-place.result (groups_seen c.loop-place.groups.items) in
+    let here = entries_from-more part.Group (group_in c.args.pools.now) c.args.items.now c.loop-place.place
+    c.index-items-place.result (groups_seen c.loop-place.groups.items) in
     let next = here c.loop-place-test.true c.index-items-place.is _ read in
     record {
       one_each = rw (and_entry-length _ _ _ _ _ _ read) (omega arith);
@@ -26,4 +29,5 @@ loop-place-preserved c =
 pub returns-clause-read : goal.returns-clause-read
 returns-clause-read c =
     sym c.loop-place.invariant.as_all
-    ∙ entries_from-all part.Group (group_in c.args.pools.now) c.args.items.now c.loop-place.place (c.loop-place.place + 1) (groups_seen c.loop-place.groups.items) c.loop-place-test.false
+    ∙ entries_from-all part.Group (group_in c.args.pools.now) c.args.items.now c.loop-place.place (c.loop-place.place + 1)
+    (groups_seen c.loop-place.groups.items) c.loop-place-test.false

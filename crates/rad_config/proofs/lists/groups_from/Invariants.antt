@@ -14,6 +14,7 @@ abbrev pub invariant-loop-place : goal.invariant-loop-place
 invariant-loop-place l =
     record {
       one_each : length (groups_seen l.groups.items) ≡ l.place;
-      as_all : entries_from part.Group (group_in l.pools) (l.place + 1) (groups_seen l.groups.items) (items_view (drop l.place l.items)) ≡ groups_from l.pools (items_view l.items);
+      as_all : entries_from part.Group (group_in l.pools) (l.place + 1) (groups_seen l.groups.items)
+          (items_view (drop l.place l.items)) ≡ groups_from l.pools (items_view l.items);
       ranges : All (IsGroup (length l.pools)) (groups_seen l.groups.items);
     }

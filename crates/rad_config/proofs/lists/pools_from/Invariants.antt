@@ -13,6 +13,7 @@ abbrev pub invariant-loop-place : goal.invariant-loop-place
 invariant-loop-place l =
     record {
       one_each : length l.pools.items ≡ l.place;
-      as_all : entries_from part.Pool pool_in (l.place + 1) l.pools.items (items_view (drop l.place l.items)) ≡ pools_from (items_view l.items);
+      as_all : entries_from part.Pool pool_in (l.place + 1) l.pools.items (items_view (drop l.place l.items))
+          ≡ pools_from (items_view l.items);
       ranges : All IsPool l.pools.items;
     }

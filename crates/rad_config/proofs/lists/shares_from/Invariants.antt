@@ -13,6 +13,7 @@ abbrev pub invariant-loop-place : goal.invariant-loop-place
 invariant-loop-place l =
     record {
       one_each : length l.shares.items ≡ l.place;
-      as_all : entries_from part.Client share_in (l.place + 1) l.shares.items (items_view (drop l.place l.items)) ≡ shares_from (items_view l.items);
+      as_all : entries_from part.Client share_in (l.place + 1) l.shares.items (items_view (drop l.place l.items))
+          ≡ shares_from (items_view l.items);
       ranges : All HasShare l.shares.items;
     }

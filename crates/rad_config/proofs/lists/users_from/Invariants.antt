@@ -14,6 +14,7 @@ abbrev pub invariant-loop-place : goal.invariant-loop-place
 invariant-loop-place l =
     record {
       one_each : length l.users ≡ l.place;
-      as_all : entries_from part.User (user_in l.pools (groups_seen l.groups)) (l.place + 1) l.users (items_view (drop l.place l.items)) ≡ users_from l.pools (groups_seen l.groups) (items_view l.items);
+      as_all : entries_from part.User (user_in l.pools (groups_seen l.groups)) (l.place + 1) l.users
+          (items_view (drop l.place l.items)) ≡ users_from l.pools (groups_seen l.groups) (items_view l.items);
       ranges : All (IsUser (length l.pools)) l.users;
     }

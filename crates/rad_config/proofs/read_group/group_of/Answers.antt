@@ -6,4 +6,5 @@ use Rattle.rad_config.proofs.read_group.group_of.Goals as goal
 
 pub returns-clause-range : goal.returns-clause-range
 returns-clause-range c = λ pools all.
-    All-mapped (IsGroup pools) group_seen c.args.groups.now c.in_ok-place.place c.index-groups-place.result (search rules) c.index-groups-place.is all
+    All-mapped (IsGroup pools) group_seen c.args.groups.now c.in_ok-place.place c.index-groups-place.result (search rules)
+    c.index-groups-place.is all

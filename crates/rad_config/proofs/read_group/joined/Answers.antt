@@ -10,5 +10,6 @@ returns-then-size-eq0 c =
     let front = c.args.front.now in
     let none = none-of-size c.args.back.now.attributes (sym c.size.ensures ∙ c.if-size-eq0.true) in
     let same : with_attributes c.args.back.now.attributes front ≡ front =
-    ap (λ list. with_attributes list front) none ∙ ap (λ (list : List Attribute). record front { attributes = list }) (append-nil front.attributes) in
+    ap (λ list. with_attributes list front) none
+    ∙ ap (λ (list : List Attribute). record front { attributes = list }) (append-nil front.attributes) in
     subst (λ (b : Body). IfOk c.copy.result (λ body. body ≡ b)) (sym same) c.copy.ensures

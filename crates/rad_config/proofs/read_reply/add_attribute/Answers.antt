@@ -6,5 +6,6 @@ use Rattle.rad_config.proofs.read_reply.add_attribute.Goals as goal
 
 pub returns-clause-range : goal.returns-clause-range
 returns-clause-range c =
-    let range = All-push IsGrantable c.args.body.now.attributes (attribute_seen c.in_ok-meant.meant) c.requires c.in_ok-meant.ensures.range in
+    let range = All-push IsGrantable c.args.body.now.attributes (attribute_seen c.in_ok-meant.meant) c.requires
+    c.in_ok-meant.ensures.range in
     search (rules, range)

@@ -12,7 +12,8 @@ abbrev pub invariant-loop-place : goal.invariant-loop-place
 invariant-loop-place l =
     record {
       one_each : length l.body.attributes ≡ l.place;
-      as_all : entries_from l.part attribute_in (l.place + 1) l.body.attributes (items_view (drop l.place l.items)) ≡ attributes_from l.part (items_view l.items);
+      as_all : entries_from l.part attribute_in (l.place + 1) l.body.attributes (items_view (drop l.place l.items))
+          ≡ attributes_from l.part (items_view l.items);
       code : l.body.code ≡ code_access_accept;
       ranges : All IsGrantable l.body.attributes;
     }

@@ -19,14 +19,29 @@ returns-then-items-gt-REPLY_MAX-clause-read c =
     let items = c.in_ok-ok_or.field-0.now.items in
     let many : 158 < length items = omega (arith, c.if-items-gt-REPLY_MAX.true, c.as_slice-items.ensures.len) in
     let array = is_array (goal.at.returns-then-items-gt-REPLY_MAX-clause-read c).In_ok-ok_or in
-    inr (rw (← c.get.ensures, c.in-Some.is, array, count_items-view items, lt-ltb _ _ many, c.bad-then-items-gt-REPLY_MAX.ensures) refl)
+    inr (rw (
+      ← c.get.ensures,
+      c.in-Some.is,
+      array,
+      count_items-view items,
+      lt-ltb _ _ many,
+      c.bad-then-items-gt-REPLY_MAX.ensures,
+    ) refl)
 
 pub returns-in-Ok-clause-read : goal.returns-in-Ok-clause-read
 returns-in-Ok-clause-read c =
     let items = c.in_ok-ok_or.field-0.now.items in
     let few : length items ≤ 158 = omega (arith, c.if-items-gt-REPLY_MAX.false, c.as_slice-items.ensures.len) in
     let array = is_array (goal.at.returns-in-Ok-clause-read c).In_ok-ok_or in
-    rw (← c.get.ensures, c.in-Some.is, array, count_items-view items, le-ltb _ _ few, ← c.as_slice-items.ensures.value, c.in-Ok.ensures.read) refl
+    rw (
+      ← c.get.ensures,
+      c.in-Some.is,
+      array,
+      count_items-view items,
+      le-ltb _ _ few,
+      ← c.as_slice-items.ensures.value,
+      c.in-Ok.ensures.read,
+    ) refl
 
 pub returns-in-Err-clause-read : goal.returns-in-Err-clause-read
 returns-in-Err-clause-read c =
@@ -35,5 +50,14 @@ returns-in-Err-clause-read c =
     let array = is_array (goal.at.returns-in-Err-clause-read c).In_ok-ok_or in
     elim c.in-Err.ensures.read [
       | inl memory ↦ inl (c.in_reply.ensures ∙ ap (in_reply c.args.entry.now.index) memory)
-      | inr refused ↦ inr (rw (← c.get.ensures, c.in-Some.is, array, count_items-view items, le-ltb _ _ few, ← c.as_slice-items.ensures.value, refused, c.in_reply.ensures) refl)
+      | inr refused ↦ inr (rw (
+        ← c.get.ensures,
+        c.in-Some.is,
+        array,
+        count_items-view items,
+        le-ltb _ _ few,
+        ← c.as_slice-items.ensures.value,
+        refused,
+        c.in_reply.ensures,
+      ) refl)
     ]

@@ -4,5 +4,7 @@ use Rattle.rad_config.proofs.same.same_pools.Goals as goal
 
 pub returns-then-pools-others : goal.returns-then-pools-others
 returns-then-pools-others c =
-    same_from_all c.all.new.self _ _ _ _ c.all.ensures.ran (YieldsList-from_zip (YieldsList-from_slice c.args.pools.now cc) (YieldsList-from_slice c.args.others.now cc)) (search rules)
+    same_from_all c.all.new.self _ _ _ _ c.all.ensures.ran
+    (YieldsList-from_zip (YieldsList-from_slice c.args.pools.now cc) (YieldsList-from_slice c.args.others.now cc))
+    (search rules)
     (λ x q k. search (rules, tests)) (λ x q k. search (rules, tests))

@@ -4,5 +4,7 @@ use Rattle.rad_config.proofs.same.same_users.Goals as goal
 
 pub returns-then-users-others : goal.returns-then-users-others
 returns-then-users-others c =
-    same_from_all c.all.new.self _ _ _ _ c.all.ensures.ran (YieldsList-from_zip (YieldsList-from_slice c.args.users.now cc) (YieldsList-from_slice c.args.others.now cc)) (search rules)
+    same_from_all c.all.new.self _ _ _ _ c.all.ensures.ran
+    (YieldsList-from_zip (YieldsList-from_slice c.args.users.now cc) (YieldsList-from_slice c.args.others.now cc))
+    (search rules)
     (λ x q k. search (rules, tests)) (λ x q k. search (rules, tests))

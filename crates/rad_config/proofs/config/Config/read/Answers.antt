@@ -12,7 +12,8 @@ invariant_of-result c = record {
   hold = c.in_ok-spans.ensures.hold;
   stale = c.in_ok-spans.ensures.stale;
   shares = c.in_ok-shares.ensures.range;
-  share_each = same_lengths parts.Client clients_max client_in share_in _ c.in_ok-clients.clients c.in_ok-shares.shares.items c.in_ok-clients.ensures c.in_ok-shares.ensures.read;
+  share_each = same_lengths parts.Client clients_max client_in share_in _ c.in_ok-clients.clients c.in_ok-shares.shares.items
+      c.in_ok-clients.ensures c.in_ok-shares.ensures.read;
   pool_count = c.in_ok-pools.ensures.few;
   pools = c.in_ok-pools.ensures.range;
   apart = apart c.in_ok-pools.pools.items (search rules);

@@ -17,7 +17,8 @@ invariant_of-self-2 c =
     let added : (address : ℕ) → list_any (nat_eq address) c.add_address.new.addresses.keys
     ≡ (list_any (nat_eq address) c.self.inside.addresses.keys || is_that address user.address) = search rules in
     record {
-      index = rw pushed (names-add c.self.inside.names.keys users c.self.invariant.index c.insert.new.self.keys c.in_ok-name.name user new copied c.in_ok-insert.ensures.keys);
+      index = rw pushed (names-add c.self.inside.names.keys users c.self.invariant.index c.insert.new.self.keys c.in_ok-name.name
+          user new copied c.in_ok-insert.ensures.keys);
       own = rw pushed (own-add c.self.inside.addresses.keys c.add_address.new.addresses.keys users user c.self.invariant.own added);
       few = rw (pushed, length_push) (omega (arith, c.requires.room, ap length c.self.view_is));
       apart = rw pushed (named-push users user c.self.invariant.apart new);
