@@ -1,7 +1,7 @@
 //! Single calls on tables of sessions, kept replies and challenges: `bench/tables.c`.
 //!
-//! The export fills the tables and takes turns on them. In a turn one call is timed, made so many times; then as many rows go and come
-//! as are missing, so that the tables are as full as before.
+//! The export fills the tables and takes turns on them. In a turn one call is timed, made so many times; then as many rows go and
+//! come as are missing, so that the tables are as full as before.
 ghost use Rattle.std.specs.Prelude.{◌≤◌, ◌<◌, IfSome, length};
 ghost use Rattle.rad_config.specs.Spans.{moment_max};
 
@@ -348,9 +348,9 @@ fn fill_and_call(
     Some(take_turns(alloc, &mut tables, call, count, times))
 }
 
-/// Takes as many turns as there are times on tables of a size, and puts down the nanoseconds of each, in which a call is made so many
-/// times. Returns how many times it did what it should; 0 without memory, or if the tables can't be filled. The configuration has a
-/// client, sixteen users of 4,096 sessions and a pool with as many addresses as there are sessions.
+/// Takes as many turns as there are times on tables of a size, and puts down the nanoseconds of each, in which a call is made so
+/// many times. Returns how many times it did what it should; 0 without memory, or if the tables can't be filled. The configuration
+/// has a client, sixteen users of 4,096 sessions and a pool with as many addresses as there are sessions.
 #[unsafe(no_mangle)]
 pub extern "C" fn radpool_calls(
     alloc: Global,

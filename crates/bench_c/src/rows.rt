@@ -1,7 +1,7 @@
 //! Rows by themselves: `bench/tables.c`.
 //!
-//! The export fills a table of `rad_rows` and takes turns on it. A row comes and a row goes every millisecond. In a turn one operation is
-//! timed, made so many times; then rows go and come until there are as many as before.
+//! The export fills a table of `rad_rows` and takes turns on it. A row comes and a row goes every millisecond. In a turn one
+//! operation is timed, made so many times; then rows go and come until there are as many as before.
 ghost use Rattle.std.specs.Prelude.{◌+◌, nat_lt};
 
 use crate::clock;
@@ -220,9 +220,9 @@ fn take_turns(table: &mut Table, operation: Operation, count: usize, times: &mut
     right
 }
 
-/// Takes as many turns as there are times on a table of so many rows, and puts down the nanoseconds of each, in which an operation is
-/// made so many times. Returns how many times it did what it should; 0 without memory. The number of rows is a power of two, and at
-/// least that of the times that the operation is made in a turn.
+/// Takes as many turns as there are times on a table of so many rows, and puts down the nanoseconds of each, in which an operation
+/// is made so many times. Returns how many times it did what it should; 0 without memory. The number of rows is a power of two, and
+/// at least that of the times that the operation is made in a turn.
 #[unsafe(no_mangle)]
 pub extern "C" fn radpool_rows(
     alloc: Global,

@@ -1,9 +1,9 @@
 //! Steps of the server: `bench/step.c`.
 //!
-//! The export opens a server with the configuration that it is given, fills its tables, and takes steps on copies of it. Rows come one
-//! after the other, the same time apart, and so do steps: at each step the oldest row of each table is no longer live. It puts down
-//! how many nanoseconds the steps on each copy took, without the first, which may make room that the others find. It returns how many
-//! replies had the wanted Code; 0 without memory, or if the tables can't be filled.
+//! The export opens a server with the configuration that it is given, fills its tables, and takes steps on copies of it. Rows come
+//! one after the other, the same time apart, and so do steps: at each step the oldest row of each table is no longer live. It puts
+//! down how many nanoseconds the steps on each copy took, without the first, which may make room that the others find. It returns
+//! how many replies had the wanted Code; 0 without memory, or if the tables can't be filled.
 ghost use Rattle.std.specs.Prelude.{◌≡◌, All};
 ghost use Rattle.rad_auth.specs.Admission.{IsAdmitted};
 
@@ -157,8 +157,8 @@ pub extern "C" fn radpool_step(
     read_and_step(alloc, text, *work, times).unwrap_or(0)
 }
 
-/// Fills the tables of a server, and puts down the nanoseconds of the step that each row took. Returns how many rows there are; 0 without
-/// memory, or if a reply hasn't the wanted Code.
+/// Fills the tables of a server, and puts down the nanoseconds of the step that each row took. Returns how many rows there are; 0
+/// without memory, or if a reply hasn't the wanted Code.
 #[unsafe(no_mangle)]
 pub extern "C" fn radpool_fill(
     alloc: Global,
@@ -172,8 +172,8 @@ pub extern "C" fn radpool_fill(
     }
 }
 
-/// Fills the tables of a server, rebuilds it from its rows as often as there are times, and puts down the nanoseconds of each. Returns how
-/// many rows there are; 0 without memory, or if a rebuilt server isn't the same.
+/// Fills the tables of a server, rebuilds it from its rows as often as there are times, and puts down the nanoseconds of each.
+/// Returns how many rows there are; 0 without memory, or if a rebuilt server isn't the same.
 #[unsafe(no_mangle)]
 pub extern "C" fn radpool_rebuild(
     alloc: Global,

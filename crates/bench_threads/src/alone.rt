@@ -1,5 +1,5 @@
-//! The datagrams of a round, answered by one thread alone: eight are checked side by side, asked one after another, and sealed side by
-//! side.
+//! The datagrams of a round, answered by one thread alone: eight are checked side by side, asked one after another, and sealed side
+//! by side.
 ghost use Rattle.std.specs.Prelude.{◌≡◌, All, IfSome};
 ghost use Rattle.rad_auth.specs.Admission.{HoldsAdmitted};
 ghost use Rattle.rad_auth.specs.Sealing.{IsJob};

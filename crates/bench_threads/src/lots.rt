@@ -31,8 +31,8 @@ impl Size {
         }
     }
 
-    /// The moment of a round whose first request has this place among all requests. What came `rows` places before is no longer live
-    /// then, so a round finds room for as many rows as it has requests.
+    /// The moment of a round whose first request has this place among all requests. What came `rows` places before is no longer
+    /// live then, so a round finds room for as many rows as it has requests.
     pub fn moment(self, place: u64) -> u64
         ensures { result ≤ moment_max }
     {
@@ -72,8 +72,9 @@ impl Lot {
         ROUND_MAX / self.count.max(1)
     }
 
-    /// How many sessions are Active. Where log-ins are measured, the others are those of the last `rows` log-ins: no Start follows them.
-    /// The users have a pool, and on full tables a log-in is granted the place, and the address, of a session that is no longer live.
+    /// How many sessions are Active. Where log-ins are measured, the others are those of the last `rows` log-ins: no Start follows
+    /// them. The users have a pool, and on full tables a log-in is granted the place, and the address, of a session that is no
+    /// longer live.
     pub fn active(self) -> u64 {
         let rows = self.size.rows();
         match self.load {

@@ -1,5 +1,5 @@
-//! What a round costs. `bench/run round` runs this with the word `round`, and it prints its table. Without a word, as in the gate, it
-//! does nothing.
+//! What a round costs. `bench/run round` runs this with the word `round`, and it prints its table. Without a word, as in the gate,
+//! it does nothing.
 #![tactic(auto)]
 
 mod alone;
@@ -30,8 +30,8 @@ fn main(rt: HostRuntime) -> ExitCode {
     }
 }
 
-// Measures and prints. What is alive at a `?` is dropped there, and each such drop is proved: so in what this calls a function of its
-// own makes each big value, and lends it to the next.
+// Measures and prints. What is alive at a `?` is dropped there, and each such drop is proved: so in what this calls a function of
+// its own makes each big value, and lends it to the next.
 fn print_round<R: Threads + Wait + Sync + Clock + Print>(rt: &R, alloc: Global) -> Option<()> {
     let config = round_config::read_config(alloc)?;
     round_tables::print_table(rt, alloc, &config)

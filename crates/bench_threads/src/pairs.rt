@@ -217,7 +217,8 @@ fn time_alone<R: Clock>(
     if replies == wanted { Some(spent) } else { None }
 }
 
-// Nanoseconds of a round, with the look at its replies and the reuse of its frames; none if it fails or if replies aren't as wanted.
+// Nanoseconds of a round, with the look at its replies and the reuse of its frames; none if it fails or if replies aren't as
+// wanted.
 fn time_round<R: Threads + Wait + Sync + Clock>(
     rt: &R,
     service: &mut Service,

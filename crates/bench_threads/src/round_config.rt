@@ -3,7 +3,8 @@
 use rad_config::Config;
 use std::alloc::Global;
 
-// A reply is kept for 512 seconds, and a session without a Start lives as long. The client has sixteen addresses, and the pool 65,536.
+// A reply is kept for 512 seconds, and a session without a Start lives as long. The client has sixteen addresses, and the pool
+// 65,536.
 const HEAD: &str = "window = 512\nhold = 512\n\
     [[client]]\naddress = \"192.168.1.16/28\"\nsecret = \"xyzzy5461\"\n\
     [[pool]]\nname = \"hall\"\nfirst = \"10.0.0.0\"\nlast = \"10.0.255.255\"\n";

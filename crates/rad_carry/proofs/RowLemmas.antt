@@ -20,7 +20,8 @@ and_rows-append places new old [] ys state = refl
 and_rows-append places new old (x ∷ xs) ys state = and_rows-append places new old xs ys (and_moved new old (moved places x) state)
 
 -- the tables of a state, and the last numbers that they say
-pub record AreTables (state : State) (table : Sessions) (replies : Replies) (challenges : Challenges) (last given : ℕ) : Type 0 where
+pub record AreTables (state : State) (table : Sessions) (replies : Replies) (challenges : Challenges) (last given : ℕ) : Type
+    0 where
   pub table_is : table ≡ state.sessions
   pub replies_are : replies ≡ state.replies
   pub challenges_are : challenges ≡ state.challenges
@@ -30,13 +31,17 @@ pub record AreTables (state : State) (table : Sessions) (replies : Replies) (cha
 -- the rows of a state, table by table
 pub all_rows : (places : Places) (state : State) (table : Sessions) (replies : Replies) (challenges : Challenges) (last given : ℕ)
     → AreTables state table replies challenges last given → (begin one two three four : Server) (end : State)
-    → one.state ≡ and_rows places begin.configuration table (map rows.Session table.sessions) begin.state → one.configuration ≡ begin.configuration
+    → one.state ≡ and_rows places begin.configuration table (map rows.Session table.sessions) begin.state
+    → one.configuration ≡ begin.configuration
     → two.state ≡ and_row one.configuration table (rows.LastSession last) one.state → two.configuration ≡ one.configuration
-    → three.state ≡ and_rows places two.configuration table (map rows.Reply replies.kept) two.state → three.configuration ≡ two.configuration
-    → four.state ≡ and_rows places three.configuration table (map rows.Challenge challenges.challenges) three.state → four.configuration ≡ three.configuration
+    → three.state ≡ and_rows places two.configuration table (map rows.Reply replies.kept) two.state
+    → three.configuration ≡ two.configuration
+    → four.state ≡ and_rows places three.configuration table (map rows.Challenge challenges.challenges) three.state
+    → four.configuration ≡ three.configuration
     → end ≡ and_row four.configuration table (rows.LastChallenge given) four.state
     → end ≡ and_rows places begin.configuration state.sessions (rows_of state) begin.state
-all_rows places state table replies challenges last given are begin one two three four end first c1 second c2 third c3 fourth c4 fifth =
+all_rows places state table replies challenges last given are begin one two three four end first c1 second c2 third c3 fourth c4
+    fifth =
     let new : Configuration = begin.configuration in
     let old : Sessions = state.sessions in
     let on : List StateRow → State → State = and_rows places new old in
@@ -47,7 +52,8 @@ all_rows places state table replies challenges last given are begin one two thre
     let d2 : two.configuration ≡ new = c2 ∙ c1 in
     let d3 : three.configuration ≡ new = c3 ∙ d2 in
     let d4 : four.configuration ≡ new = c4 ∙ d3 in
-    let e1 : one.state ≡ on sessions begin.state = first ∙ ap (λ (t : Sessions). and_rows places new t (map rows.Session t.sessions) begin.state) are.table_is in
+    let e1 : one.state ≡ on sessions begin.state =
+    first ∙ ap (λ (t : Sessions). and_rows places new t (map rows.Session t.sessions) begin.state) are.table_is in
     let e2 : two.state ≡ and_row new old (rows.LastSession (old.next - 1)) one.state =
     second ∙ ap (λ (m : Configuration). and_row m table (rows.LastSession last) one.state) c1
     ∙ ap (λ (t : Sessions). and_row new t (rows.LastSession last) one.state) are.table_is

@@ -1,6 +1,7 @@
 -- What a server of a new configuration takes over of what one of an old configuration remembers: each row that still has its client
 -- and its user, and that the new configuration allows beside the rows before it.
-use Rattle.std.specs.Prelude.{ℕ, ◌==◌, ◌&&◌, not, Bool, false, is_some, if◌then◌else◌, List, [], ◌∷◌, filter, find, Option, Some, None, option_and_then, option_map}
+use Rattle.std.specs.Prelude.{ℕ, ◌==◌, ◌&&◌, not, Bool, false, is_some, if◌then◌else◌, List, [], ◌∷◌, filter, find, Option, Some}
+use Rattle.std.specs.Prelude.{None, option_and_then, option_map}
 use Rattle.std.specs.Result.{is_ok}
 use Rattle.rad_packet.specs.Attributes.{first_value}
 use Rattle.rad_packet.specs.Codes.{code_access_accept}
@@ -22,7 +23,8 @@ use Rattle.rad_carry.specs.Places.{Places, moved_place, places, places_by}
 -- a session with the new places of its client and its user, if both are still there
 abbrev pub moved_session : Places → Session → Option Session
 moved_session places session =
-    option_and_then (λ client. option_map (λ user. record session { client = client; user = user }) (moved_place places.users session.user))
+    option_and_then (λ client. option_map (λ user. record session { client = client; user = user })
+    (moved_place places.users session.user))
     (moved_place places.clients session.client)
 
 -- the same of a challenge
@@ -57,7 +59,8 @@ has_number number table = is_some (find (λ session. session.number == number) t
 -- the number in the Class of an Access-Accept, if it has the Class of a session
 abbrev pub session_given : Kept → Option ℕ
 session_given reply =
-    if reply.body.code == code_access_accept then option_and_then class_number_of (first_value type_class reply.body.attributes) else None
+    if reply.body.code == code_access_accept then option_and_then class_number_of (first_value type_class reply.body.attributes)
+    else None
 
 -- whether there is a number, and it is of a session that the old table has and the new one hasn't
 abbrev pub is_lost : Sessions → Sessions → Option ℕ → Bool
@@ -94,8 +97,8 @@ and_rows places new old (row ∷ rest) state = and_rows places new old rest (and
 
 -- ---- the whole
 
--- What a server of the new configuration remembers, by these places: it begins with nothing, at the clock of the old state, and takes
--- over the rows of the old state in their order.
+-- What a server of the new configuration remembers, by these places: it begins with nothing, at the clock of the old state, and
+-- takes over the rows of the old state in their order.
 abbrev pub carried_at : Places → Configuration → State → State
 carried_at places new state = and_rows places new state.sessions (rows_of state) (at_moment state.clock (opening new))
 

@@ -1,6 +1,7 @@
--- Where the clients and the users of one configuration are in another: clients by their networks, users by their names. Places count
--- from 0.
-use Rattle.std.specs.Prelude.{ℕ, ◌+◌, ◌==◌, ◌&&◌, Bool, false, if◌then◌else◌, List, [], ◌∷◌, map, position, slice_get, Option, Some, None, option_and_then}
+-- Where the clients and the users of one configuration are in another: clients by their networks, users by their names. Places
+-- count from 0.
+use Rattle.std.specs.Prelude.{ℕ, ◌+◌, ◌==◌, ◌&&◌, Bool, false, if◌then◌else◌, List, [], ◌∷◌, map, position, slice_get, Option, Some}
+use Rattle.std.specs.Prelude.{None, option_and_then}
 use Rattle.rad_auth.specs.Clients.{Client, network_of}
 use Rattle.rad_auth.specs.declared.network.Network.{Network}
 use Rattle.rad_config.specs.Configurations.{Configuration, user_place}

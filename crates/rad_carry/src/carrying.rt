@@ -22,8 +22,8 @@ pub struct Carried<'n> {
 
 /// A server of another configuration that remembers what this one does, as far as it fits.
 ///
-/// Users are found by their names, clients by their networks. The new server goes on at the clock of the old one, which stays as it is.
-/// A row that the new configuration refuses is left out; only memory ends the call. The key is that of the hashes.
+/// Users are found by their names, clients by their networks. The new server goes on at the clock of the old one, which stays as it
+/// is. A row that the new configuration refuses is left out; only memory ends the call. The key is that of the hashes.
 pub fn carry<'n>(
     alloc: Global,
     server: &Server,

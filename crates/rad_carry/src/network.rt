@@ -21,8 +21,8 @@ pub(crate) fn networks(alloc: Global, clients: &Clients) -> Result<Vec<Network>,
 
 /// The new place of each of the old networks, or None where it is gone.
 ///
-/// There are at most `CLIENTS_MAX` new ones. Where they have a network more than once, its old place counts first, and then the first
-/// place that has it.
+/// There are at most `CLIENTS_MAX` new ones. Where they have a network more than once, its old place counts first, and then the
+/// first place that has it.
 pub(crate) fn network_places(
     alloc: Global,
     old: &[Network],

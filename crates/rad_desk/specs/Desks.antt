@@ -17,9 +17,10 @@ pub record IsBlankOf (blank_name blank_parts name parts passes : ℕ) : Type 0 w
   pub same_parts : blank_parts ≡ parts
   pub part_each : blank_parts ≡ passes
 
--- the history leads from the opening to the server and has these marks, the ledger's total is its length, and the share that is left has no
--- part
-pub record IsConsistent (opening : Server) (history : List Entry) (marks : List Bool) (server : Server) (total parts amount : ℕ) : Type 0 where
+-- the history leads from the opening to the server and has these marks, the ledger's total is its length, and the share that is
+-- left has no part
+pub record IsConsistent (opening : Server) (history : List Entry) (marks : List Bool) (server : Server)
+    (total parts amount : ℕ) : Type 0 where
   pub run : IsHistory opening history server
   pub marked : IsMarkedHistory opening history marks server
   pub counted : total ≡ length history
@@ -34,5 +35,6 @@ pub record Appends (before after : List Entry) (receipt : Receipt) : Type 0 wher
 -- some server: the opening of `Brand`, until a call names another
 abbrev pub some_server : Server
 some_server =
-    let configuration : Configuration = record { window = 0; hold = 0; stale = None; clients = []; shares = []; pools = []; users = [] } in
+    let configuration : Configuration =
+    record { window = 0; hold = 0; stale = None; clients = []; shares = []; pools = []; users = [] } in
     record { configuration = configuration; state = opening configuration }

@@ -85,8 +85,8 @@ impl<'c, L: Opened> Desk<'c, L> {
 
     /// Closes the desk, and compares its history with the server given and with the receipts of the passes.
     ///
-    /// Mismatches are looked for in their order, and at the first the desk is dropped. `Opening` is returned exactly where the server
-    /// given isn't the opening, and `Count` never where all passes are given. The call takes no memory and doesn't wait.
+    /// Mismatches are looked for in their order, and at the first the desk is dropped. `Opening` is returned exactly where the
+    /// server given isn't the opening, and `Count` never where all passes are given. The call takes no memory and doesn't wait.
     pub fn close(self, server: &Server, passes: Vec<Pass<L>>) -> Result<Closed<'c>, Mismatch>
         ensures run { IfOk result (λ closed.
             IsHistory server.now closed.history.items closed.server) }

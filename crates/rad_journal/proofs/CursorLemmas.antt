@@ -24,19 +24,23 @@ pub with_reads : (old new : View) (rows : List Row) → new ≡ with_cursor old 
 with_reads old new rows is = is ∙ ap (λ cs. record old { cursors = cs }) (sym (ap (λ (v : View). v.cursors) is))
 
 -- a cursor at the first row, and all that follow
-pub seeks_first : (old new : View) (tree : ℕ) (key : Row) → key ≡ [] → new ≡ with_cursor old 0 (sought (order_of (old.shape tree)) Forward key (old.trees tree))
+pub seeks_first : (old new : View) (tree : ℕ) (key : Row) → key ≡ []
+    → new ≡ with_cursor old 0 (sought (order_of (old.shape tree)) Forward key (old.trees tree))
     → (new.cursors 0 ≡ Some (old.trees tree)) × OnlyReads old new
 seeks_first old new tree key none is =
     let all : from_key (order_of (old.shape tree)) key (old.trees tree) ≡ old.trees tree =
-    ap (λ (k : Row). from_key (order_of (old.shape tree)) k (old.trees tree)) none ∙ from_no_key (order_of (old.shape tree)) (old.trees tree) in
+    ap (λ (k : Row). from_key (order_of (old.shape tree)) k (old.trees tree)) none
+    ∙ from_no_key (order_of (old.shape tree)) (old.trees tree) in
     (ap (λ (v : View). v.cursors 0) is ∙ ap (λ (l : List Row). Some l) all, with_reads old new _ is)
 
 -- a cursor at the last row, and all before
-pub seeks_last : (old new : View) (tree : ℕ) (key : Row) → key ≡ [] → new ≡ with_cursor old 0 (sought (order_of (old.shape tree)) Backward key (old.trees tree))
+pub seeks_last : (old new : View) (tree : ℕ) (key : Row) → key ≡ []
+    → new ≡ with_cursor old 0 (sought (order_of (old.shape tree)) Backward key (old.trees tree))
     → (new.cursors 0 ≡ Some (reverse (old.trees tree))) × OnlyReads old new
 seeks_last old new tree key none is =
     let all : up_to_key (order_of (old.shape tree)) key (old.trees tree) ≡ old.trees tree =
-    ap (λ (k : Row). up_to_key (order_of (old.shape tree)) k (old.trees tree)) none ∙ up_to_no_key (order_of (old.shape tree)) (old.trees tree) in
+    ap (λ (k : Row). up_to_key (order_of (old.shape tree)) k (old.trees tree)) none
+    ∙ up_to_no_key (order_of (old.shape tree)) (old.trees tree) in
     (ap (λ (v : View). v.cursors 0) is ∙ ap (λ (l : List Row). Some (reverse l)) all, with_reads old new _ is)
 
 pub some_rows : (a b : List Row) → Some a ≡ Some b → a ≡ b
@@ -45,10 +49,18 @@ some_rows a b is = cc is
 -- the cursor gave the first of these rows
 pub gives : (old new : View) (rows : List Row) (row : Row) → Advances old new 0 row true → old.cursors 0 ≡ Some rows
     → (left : List Row) × (rows ≡ row ∷ left) × (new.cursors 0 ≡ Some left) × OnlyReads old new
-gives old new rows row step at =
-    (step.0, some_rows rows (row ∷ step.0) (sym at ∙ step.1), ap (λ (v : View). v.cursors 0) step.2, with_reads old new step.0 step.2)
+gives old new rows row step at = (
+  step.0,
+  some_rows rows (row ∷ step.0) (sym at ∙ step.1),
+  ap (λ (v : View). v.cursors 0) step.2,
+  with_reads old new step.0 step.2,
+)
 
 -- there was no row
-pub ends : (old new : View) (rows : List Row) (row : Row) → Advances old new 0 row false → old.cursors 0 ≡ Some rows → (rows ≡ []) × OnlyReads old new
-ends old new rows row step at =
-    (some_rows rows [] (sym at ∙ step.0), step.1 ∙ ap (λ cs. record old { cursors = cs }) (sym (ap (λ (v : View). v.cursors) step.1)))
+pub ends : (old new : View) (rows : List Row) (row : Row) → Advances old new 0 row false → old.cursors 0 ≡ Some rows
+    → (rows ≡ []) × OnlyReads old new
+ends old new rows row step at = (
+  some_rows rows [] (sym at ∙ step.0),
+  step.1
+      ∙ ap (λ cs. record old { cursors = cs }) (sym (ap (λ (v : View). v.cursors) step.1)),
+)

@@ -11,7 +11,8 @@ use Rattle.rad_journal.specs.Leads.{FreshAreKept, KeptLastOverTime, KeptLeadOn}
 use Rattle.rad_journal.specs.Restores.{AreKept, RepliedAreKept}
 use Rattle.rad_journal.specs.declared.kept.Kept.{Kept}
 
-kept_append : (first : List Entry) (kept : List Kept) (rest : List Entry) (others : List Kept) → AreKept first kept → AreKept rest others
+kept_append : (first : List Entry) (kept : List Kept) (rest : List Entry) (others : List Kept) → AreKept first kept
+    → AreKept rest others
     → AreKept (first ++ rest) (kept ++ others)
 kept_append [] [] rest others are more = more
 kept_append [] (one ∷ kept) rest others are more = absurd are
@@ -43,7 +44,8 @@ kept_lead_on before middle after kept more first second = record {
         state = two.state;
         run = run_append before.configuration other first.entries second.entries one.state two.state one.run two.run;
         like = two.like;
-        replied = All-append (λ (e : Entry). (body : Body) × (e.answer ≡ Send body)) first.entries second.entries one.replied two.replied;
+        replied = All-append (λ (e : Entry). (body : Body) × (e.answer ≡ Send body)) first.entries second.entries one.replied
+            two.replied;
       };
 }
 

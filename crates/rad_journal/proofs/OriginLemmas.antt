@@ -4,7 +4,8 @@ use Rattle.std.specs.Prelude.{ok_or}
 use Rattle.rad_packet.specs.Ladders.{◌>>=◌, refuse_if}
 use Rattle.rad_packet.specs.Packets.{Packet, packet_octets, packet_of}
 use Rattle.rad_packet.specs.declared.packet.ReadFault.{ReadFault}
-use Rattle.rad_auth.specs.Admission.{IsAdmitted, admission, content_checks, is_code_accepted, own_datagram, packet_or_discard, request_in, request_of}
+use Rattle.rad_auth.specs.Admission.{IsAdmitted, admission, content_checks, is_code_accepted, own_datagram, packet_or_discard}
+use Rattle.rad_auth.specs.Admission.{request_in, request_of}
 use Rattle.rad_auth.specs.Clients.{Client, client_at, client_place}
 use Rattle.rad_auth.specs.Datagrams.{Datagram}
 use Rattle.rad_auth.specs.declared.arrival.Request.{Request}
@@ -19,13 +20,16 @@ pub record IsOf (datagram : Datagram) (read : Result Packet Discard) (request : 
   pub door : request.door ≡ datagram.door
 
 read_of : (o : Option ℕ) (read : Result Packet Discard) (datagram : Datagram) (request : Request)
-    → (ok_or o UnknownClient >>= λ place. (read >>= λ p. (refuse_if (not (is_code_accepted datagram.door p.code)) WrongCode >>= λ taken. Ok (request_of datagram place p)))) ≡ Ok request
+    → (ok_or o UnknownClient >>= λ place.
+    (read >>= λ p. (refuse_if (not (is_code_accepted datagram.door p.code)) WrongCode
+    >>= λ taken. Ok (request_of datagram place p)))) ≡ Ok request
     → IsOf datagram read request
 read_of None read datagram request e = absurd (cc)
 read_of (Some place) (Err discard) datagram request e = absurd (cc)
 read_of (Some place) (Ok p) datagram request e = at (is_code_accepted datagram.door p.code) e
   where
-    at : (b : Bool) → (refuse_if (not b) WrongCode >>= λ taken. Ok (request_of datagram place p)) ≡ Ok request → IsOf datagram (Ok p) request
+    at : (b : Bool) → (refuse_if (not b) WrongCode >>= λ taken. Ok (request_of datagram place p)) ≡ Ok request
+        → IsOf datagram (Ok p) request
     at false e = absurd (cc)
     at true e =
         let same : request ≡ request_of datagram place p = cc in
@@ -39,14 +43,16 @@ read_of (Some place) (Ok p) datagram request e = at (is_code_accepted datagram.d
 held_of : (clients : List Client) (datagram : Datagram) (request : Request) → request_in clients datagram ≡ Ok request
     → IsOf datagram (packet_or_discard (packet_of datagram.octets)) request
 unfolding request_in
-held_of clients datagram request e = read_of (client_place clients datagram.source) (packet_or_discard (packet_of datagram.octets)) datagram request e
+held_of clients datagram request e =
+    read_of (client_place clients datagram.source) (packet_or_discard (packet_of datagram.octets)) datagram request e
 
 first : (clients : List Client) (read : Result Request Discard) (request : Request)
     → (read >>= λ r. (content_checks (client_at clients r.client) r.packet >>= λ checked. Ok r)) ≡ Ok request → read ≡ Ok request
 first clients (Err discard) request e = absurd (cc)
 first clients (Ok r) request e = at (content_checks (client_at clients r.client) r.packet) e
   where
-    at : (content : Result (Unit {0}) Discard) → ◌≡◌ {A = Result Request Discard} (content >>= λ checked. Ok r) (Ok request) → ◌≡◌ {A = Result Request Discard} (Ok r) (Ok request)
+    at : (content : Result (Unit {0}) Discard) → ◌≡◌ {A = Result Request Discard} (content >>= λ checked. Ok r) (Ok request)
+        → ◌≡◌ {A = Result Request Discard} (Ok r) (Ok request)
     at (Err discard) e = absurd (cc)
     at (Ok checked) e = e
 

@@ -1,5 +1,6 @@
 -- What was kept leads from one server to one other, or to none.
-use Rattle.std.proofs.Common.{◌≡◌, ◌<◌, ◌∙◌, Result, Ok, ℕ, zero, suc, List, [], ◌∷◌, take, Option, Some, None, slice_get, refl, sym, ap, subst, arith}
+use Rattle.std.proofs.Common.{◌≡◌, ◌<◌, ◌∙◌, Result, Ok, ℕ, zero, suc, List, [], ◌∷◌, take, Option, Some, None, slice_get, refl}
+use Rattle.std.proofs.Common.{sym, ap, subst, arith}
 use Rattle.std.specs.Prelude.{option_map}
 use Rattle.std.proofs.lemmas.Option.{none-some}
 use Rattle.rad_packet.specs.Packets.{packet_octets}
@@ -17,7 +18,8 @@ use Rattle.rad_server.specs.Steps.{session_at, step}
 use Rattle.rad_server.specs.declared.answer.Answer.{Answer}
 use Rattle.rad_server.specs.declared.entry.Entry.{Entry}
 use Rattle.rad_journal.specs.Kept.{answer_octets, kept_by}
-use Rattle.rad_journal.specs.Restores.{AreKept, CannotRestore, CannotStep, HasReason, IsKeptSo, IsNoRequest, IsRestored, datagram_of_kept}
+use Rattle.rad_journal.specs.Restores.{AreKept, CannotRestore, CannotStep, HasReason, IsKeptSo, IsNoRequest, IsRestored}
+use Rattle.rad_journal.specs.Restores.{datagram_of_kept}
 use Rattle.rad_journal.specs.declared.kept.Kept.{Kept}
 use Rattle.rad_journal.specs.declared.restore_fault.RestoreFault.{RestoreFault}
 use Rattle.rad_journal.specs.declared.restore_fault.RestoreFault.TheVariants.{NoMemory, Journal, TooLate, NotAdmitted, OtherAnswer}
@@ -48,7 +50,8 @@ as_kept wall entry answer = record {
 pub kept_as : (wall : ℕ) (entry : Entry) (kept : Kept) → kept_by wall entry ≡ Some kept → IsKeptAs entry kept
 kept_as wall entry kept e = at (answer_octets entry.answer) refl e
   where
-    at : (o : Option (List ℕ)) → answer_octets entry.answer ≡ o → option_map (as_kept wall entry) o ≡ Some kept → IsKeptAs entry kept
+    at : (o : Option (List ℕ)) → answer_octets entry.answer ≡ o → option_map (as_kept wall entry) o ≡ Some kept
+        → IsKeptAs entry kept
     at None is e = absurd (none-some _ e)
     at (Some octets) is e =
         let same : as_kept wall entry octets ≡ kept = cc e in
@@ -62,7 +65,8 @@ kept_as wall entry kept e = at (answer_octets entry.answer) refl e
         }
 
 -- one request is admitted of a datagram
-one_request : (clients : List Client) (a b : Request) → IsAdmitted clients a → IsAdmitted clients b → own_datagram a ≡ own_datagram b → a ≡ b
+one_request : (clients : List Client) (a b : Request) → IsAdmitted clients a → IsAdmitted clients b
+    → own_datagram a ≡ own_datagram b → a ≡ b
 one_request clients a b here there same =
     let both = sym here ∙ ap (λ (d : Datagram). admission clients d) same ∙ there in
     cc both
@@ -74,7 +78,9 @@ same_exchange : (configuration : Configuration) (state : State) (request : Reque
     → step configuration state request kept.moment kept.draw ≡ (entry.answer, after)
 same_exchange configuration state request kept entry after admitted own exchange is =
     let parts = kept_as kept.wall entry kept is in
-    let same : exchange.request ≡ request = one_request configuration.clients exchange.request request exchange.asked.admitted admitted (exchange.asked.own ∙ parts.datagram ∙ sym own) in
+    let same : exchange.request ≡ request =
+    one_request configuration.clients exchange.request request exchange.asked.admitted admitted
+    (exchange.asked.own ∙ parts.datagram ∙ sym own) in
     subst (λ r. step configuration state r kept.moment kept.draw ≡ (entry.answer, after)) same
     (subst (λ m. step configuration state exchange.request m kept.draw ≡ (entry.answer, after)) parts.moment
     (subst (λ d. step configuration state exchange.request entry.moment d ≡ (entry.answer, after)) parts.draw exchange.answered))
@@ -86,7 +92,9 @@ same_session : (configuration : Configuration) (state : State) (request : Reques
     → session_at configuration (at_moment kept.moment state) request ≡ kept.session
 same_session configuration state request kept entry after admitted own exchange is =
     let parts = kept_as kept.wall entry kept is in
-    let same : exchange.request ≡ request = one_request configuration.clients exchange.request request exchange.asked.admitted admitted (exchange.asked.own ∙ parts.datagram ∙ sym own) in
+    let same : exchange.request ≡ request =
+    one_request configuration.clients exchange.request request exchange.asked.admitted admitted
+    (exchange.asked.own ∙ parts.datagram ∙ sym own) in
     subst (λ r. session_at configuration (at_moment kept.moment state) r ≡ kept.session) same
     (subst (λ m. session_at configuration (at_moment m state) exchange.request ≡ kept.session) parts.moment
     (sym exchange.session ∙ parts.session))
@@ -111,7 +119,8 @@ other_answer : (before : Server) (kept : Kept) (request : Request) (answer : Ans
     → CannotStep before kept
 other_answer before kept request answer next admitted own stepped other after s =
     let parts = kept_as kept.wall s.entry kept s.is_kept in
-    let there = same_exchange before.configuration before.state request kept s.entry after.state admitted own s.exchange s.is_kept in
+    let there = same_exchange before.configuration before.state request kept s.entry after.state admitted own s.exchange
+    s.is_kept in
     let same : answer ≡ s.entry.answer = ap (λ (x : Answer × State). x.0) (sym stepped ∙ there) in
     other (record {
       answers = ap (λ (a : Answer). answer_octets a) same ∙ parts.answer;
@@ -119,7 +128,8 @@ other_answer before kept request answer next admitted own stepped other after s 
     })
 
 -- an entry that fails for a reason is no step
-pub cannot_step : (fault : RestoreFault) (before : Server) (kept : Kept) (after : Server) → HasReason fault before kept after → CannotStep before kept
+pub cannot_step : (fault : RestoreFault) (before : Server) (kept : Kept) (after : Server) → HasReason fault before kept after
+    → CannotStep before kept
 cannot_step NoMemory before kept after is = absurd is
 cannot_step (Journal reported) before kept after is = absurd is
 cannot_step (TooLate entry) before kept after is = too_late before kept is.0
@@ -141,35 +151,43 @@ one_next configuration state kept a b one two here a_is there b_is =
     ap (λ (x : Answer × State). x.1) (sym first ∙ second)
 
 -- where the next entry is no step, no history is kept as all of them
-stops : (n : ℕ) (kept : List Kept) (next : Kept) (configuration : Configuration) (before between after : State) (history other : List Entry)
+stops : (n : ℕ) (kept : List Kept) (next : Kept) (configuration : Configuration) (before between after : State)
+    (history other : List Entry)
     → Run configuration before history between → AreKept history (take n kept) → slice_get kept n ≡ Some next
     → CannotStep (record { configuration = configuration; state = between }) next
     → Run configuration before other after → AreKept other kept → ⊥
 stops n [] next configuration before between after history other run are is cannot run' are' = none-some _ is
 stops n (first ∷ kept) next configuration before between after history [] run are is cannot run' are' = are'
-stops zero (first ∷ kept) next configuration before between after (earlier ∷ history) (entry ∷ rest) run are is cannot run' are' = are
+stops zero (first ∷ kept) next configuration before between after (earlier ∷ history) (entry ∷ rest) run are is cannot run'
+    are' = are
 stops zero (first ∷ kept) next configuration before between after [] (entry ∷ rest) run are is cannot run' are' =
     let same : first ≡ next = cc is in
     subst (λ (k : Kept). CannotStep (record { configuration = configuration; state = between }) k) (sym same) cannot
     (record { configuration = configuration; state = run'.0 })
     (record { entry = entry; exchange = subst (λ s. IsExchange configuration s entry run'.0) run run'.1; is_kept = are'.0 })
 stops (suc n) (first ∷ kept) next configuration before between after [] (entry ∷ rest) run are is cannot run' are' = are
-stops (suc n) (first ∷ kept) next configuration before between after (earlier ∷ history) (entry ∷ rest) run are is cannot run' are' =
+stops (suc n) (first ∷ kept) next configuration before between after (earlier ∷ history) (entry ∷ rest) run are is cannot run'
+    are' =
     let same : run'.0 ≡ run.0 = one_next configuration before first entry earlier run'.0 run.0 run'.1 are'.0 run.1 are.0 in
-    stops n kept next configuration run.0 between after history rest run.2 are.1 is cannot (subst (λ s. Run configuration s rest after) same run'.2) are'.1
+    stops n kept next configuration run.0 between after history rest run.2 are.1 is cannot
+    (subst (λ s. Run configuration s rest after) same run'.2) are'.1
 
 pub refused : (n : ℕ) (kept : List Kept) (next : Kept) (before between : Server) → IsRestored before (take n kept) between
-    → slice_get kept n ≡ Some next → between.configuration ≡ before.configuration → CannotStep between next → CannotRestore before kept
+    → slice_get kept n ≡ Some next → between.configuration ≡ before.configuration → CannotStep between next
+    → CannotRestore before kept
 refused n kept next before between restored is same cannot after whole =
-    stops n kept next before.configuration before.state between.state after.state restored.history whole.history restored.run restored.are_kept is
+    stops n kept next before.configuration before.state between.state after.state restored.history whole.history restored.run
+    restored.are_kept is
     (subst (λ configuration. CannotStep (record { configuration = configuration; state = between.state }) next) same cannot)
     whole.run whole.are_kept
 
 -- ---- no request
 
 -- the verdict on what was kept gives no request that is all of it
-pub no_request : (clients : List Client) (kept : Kept) (verdict : Result Request Discard) → verdict ≡ admission clients (datagram_of_kept kept)
+pub no_request : (clients : List Client) (kept : Kept) (verdict : Result Request Discard)
+    → verdict ≡ admission clients (datagram_of_kept kept)
     → ((request : Request) → verdict ≡ Ok request → request.client ≡ kept.client → packet_octets request.packet ≡ kept.octets → ⊥)
     → IsNoRequest clients kept
 no_request clients kept verdict is differs request admitted own client =
-    differs request (is ∙ ap (λ (d : Datagram). admission clients d) (sym own) ∙ admitted) client (ap (λ (d : Datagram). d.octets) own)
+    differs request (is ∙ ap (λ (d : Datagram). admission clients d) (sym own) ∙ admitted) client
+    (ap (λ (d : Datagram). d.octets) own)

@@ -10,7 +10,8 @@ use Rattle.rad_journal.specs.Kept.{kept_of}
 use Rattle.rad_journal.specs.Restores.{AreKept}
 use Rattle.rad_journal.specs.declared.kept.Kept.{Kept}
 
--- these are kept of entries that lead from each state that is like one server's from now on to one that is like another's from now on
+-- these are kept of entries that lead from each state that is like one server's from now on to one that is like another's from now
+-- on
 pub record LeadKept (before : Server) (kept : List Kept) (after : Server) : Type 0 where
   pub entries : List Entry
   pub are_kept : AreKept entries kept

@@ -1,6 +1,7 @@
 -- What is recorded beside the entries, each record under the number of its entry: each Accounting-Request in one register, each
 -- session that is granted in another.
-use Rattle.std.specs.Prelude.{◌≡◌, ◌≢◌, All, ℕ, suc, ◌<◌, ◌^◌, ◌==◌, if◌then◌else◌, pos, List, [], ◌∷◌, ◌++◌, Option, None, Some, IfSome, option_map, option_to_list, Result, Ok, Err}
+use Rattle.std.specs.Prelude.{◌≡◌, ◌≢◌, All, ℕ, suc, ◌<◌, ◌^◌, ◌==◌, if◌then◌else◌, pos, List, [], ◌∷◌, ◌++◌, Option, None, Some}
+use Rattle.std.specs.Prelude.{IfSome, option_map, option_to_list, Result, Ok, Err}
 use Rattle.rad_accounting.specs.Records.{grant_row, report_row}
 use Rattle.rad_accounting.specs.declared.occasion.Occasion.{Occasion}
 use Rattle.rad_packet.specs.Attributes.{Attribute, attributes_of, first_integer}
@@ -47,7 +48,8 @@ occasion_of number entry session = record {
 -- the record of an entry, given what reading its request gives: of an Accounting-Request with the session that it names
 abbrev pub report_read : ℕ → Kept → Result Packet ReadFault → Option Row
 report_read number entry (Ok packet) =
-    if packet.code == code_accounting_request then Some (report_row (occasion_of number entry entry.session) packet.attributes) else None
+    if packet.code == code_accounting_request then Some (report_row (occasion_of number entry entry.session) packet.attributes)
+    else None
 report_read number entry (Err fault) = None
 
 abbrev pub report_of : ℕ → Kept → Option Row
@@ -64,7 +66,8 @@ accepted (code ∷ octets) = if code == code_access_accept then attributes_of oc
 -- with the Framed-IP-Address, if there is one
 abbrev pub grant_read : ℕ → Kept → Result Packet ReadFault → Option (List Attribute) → Option Row
 grant_read number entry (Ok packet) (Some reply) =
-    option_map (λ session. grant_row (occasion_of number entry (Some session)) (first_integer type_framed_ip_address reply) packet.attributes) (class_number reply)
+    option_map (λ session. grant_row (occasion_of number entry (Some session)) (first_integer type_framed_ip_address reply)
+    packet.attributes) (class_number reply)
 grant_read number entry (Ok packet) None = None
 grant_read number entry (Err fault) reply = None
 
@@ -115,8 +118,10 @@ pub record FitsAttributes (grant : Grant) : Type 0 where
 
 -- the session that is granted to an admitted request that is kept has a record, with its number and its address
 abbrev pub GrantsAreRecorded : Type 0
-GrantsAreRecorded = (clients : List Client) (request : Request) (user : User) (grant : Grant) (entry : Entry) (kept : Kept) (wall number : ℕ)
-    → IsRequestOf clients entry request → All IsGrantable user.reply.attributes → FitsAttributes grant → entry.answer ≡ Send (access_accept user grant request.packet)
+GrantsAreRecorded =
+    (clients : List Client) (request : Request) (user : User) (grant : Grant) (entry : Entry) (kept : Kept) (wall number : ℕ)
+    → IsRequestOf clients entry request → All IsGrantable user.reply.attributes → FitsAttributes grant
+    → entry.answer ≡ Send (access_accept user grant request.packet)
     → kept_by wall entry ≡ Some kept
     → record_of Grants number kept
     ≡ Some (grant_row (occasion_of number kept (Some grant.number)) grant.address request.packet.attributes)

@@ -1,6 +1,7 @@
--- Entries as the rows of a table: the rowid, counted from 1, wall time and moment in milliseconds, client, source address, source port,
--- door, session, draw, request and answer.
-use Rattle.std.specs.Prelude.{◌≡◌, ◌<◌, ◌^◌, ℕ, zero, suc, ℤ, pos, negsuc, List, [], ◌∷◌, map, length, Option, None, Some, IfSome, refl}
+-- Entries as the rows of a table: the rowid, counted from 1, wall time and moment in milliseconds, client, source address, source
+-- port, door, session, draw, request and answer.
+use Rattle.std.specs.Prelude.{◌≡◌, ◌<◌, ◌^◌, ℕ, zero, suc, ℤ, pos, negsuc, List, [], ◌∷◌, map, length, Option, None, Some, IfSome}
+use Rattle.std.specs.Prelude.{refl}
 use Rattle.std.proofs.Common.{ap, ◌∙◌}
 use Rattle.sqlite_value.specs.declared.value.Value.{Value}
 use Rattle.sqlite_value.specs.declared.value.Value.TheVariants.{Null, Int, Real, Text, Blob}

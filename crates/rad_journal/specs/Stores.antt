@@ -19,7 +19,8 @@ MayLeave recovers left = (db : Trees) × recovers db × (left ≡ entries_of (db
 
 -- a crash may leave these entries, and these records in the registers
 abbrev pub MayRecord : (Trees → Type 0) → List Kept → (Register → List Row) → Type 0
-MayRecord recovers left rows = (db : Trees) × recovers db × (left ≡ entries_of (db table)) × (rows ≡ (λ register. db (register_tree register)))
+MayRecord recovers left rows =
+    (db : Trees) × recovers db × (left ≡ entries_of (db table)) × (rows ≡ (λ register. db (register_tree register)))
 
 -- what a database has beside the journal's tables: its other tables
 abbrev pub Beside : Type 0
@@ -41,8 +42,8 @@ pub record HasTables (view : View) : Type 0 where
   pub entries : view.shape table ≡ Table
   pub records : (register : Register) → view.shape (register_tree register) ≡ Table
 
--- Each outcome of a crash has entries and their records. A store that is usable may be opened again. Where the count is known, nothing is
--- pending, and it counts the entries.
+-- Each outcome of a crash has entries and their records. A store that is usable may be opened again. Where the count is known,
+-- nothing is pending, and it counts the entries.
 pub record IsSound (view : View) (recovers : Trees → Type 0) (usable : Bool) (count : Option ℕ) : Type 0 where
   pub outcomes : (db : Trees) → recovers db → IsJournal db
   pub shapes : IsTrue usable → HasTables view
@@ -79,7 +80,8 @@ OnlyReads old new = new ≡ record old { cursors = new.cursors }
 -- the record that is expected next was read, if one is
 pub record TakesRecord (old new : View) (next : Option Row) : Type 0 where
   pub reads : OnlyReads old new
-  pub takes : (left : List Row) → old.cursors 0 ≡ Some left → (rest : List Row) × (left ≡ option_to_list next ++ rest) × (new.cursors 0 ≡ Some rest)
+  pub takes : (left : List Row) → old.cursors 0 ≡ Some left
+      → (rest : List Row) × (left ≡ option_to_list next ++ rest) × (new.cursors 0 ≡ Some rest)
 
 -- a store that was just opened, with the tables
 pub record IsFresh (view : View) : Type 0 where

@@ -98,8 +98,8 @@ pub trait Journal {
     /// Adds the entries in their order, all or none. A journal that keeps nothing adds nothing, and succeeds.
     ///
     /// At `Ok` each crash from then on leaves them. At `Err` a crash may leave them or not. `NoRoom`: the disk or the database has
-    /// none. `Full`: there would be more than `ENTRIES_MAX` entries, or a time or the number of a session is 2 ^ 63 or more. `Disk`:
-    /// the disk failed, or an earlier call has failed.
+    /// none. `Full`: there would be more than `ENTRIES_MAX` entries, or a time or the number of a session is 2 ^ 63 or more.
+    /// `Disk`: the disk failed, or an earlier call has failed.
     fn commit(&mut self, entries: &[Kept]) -> Result<(), JournalFault>
         ensures clean { is_clean self.new → is_clean self.old }
         ensures kept { OnOk result (is_clean self.new

@@ -11,8 +11,8 @@ use std::alloc::{AllocError, Global};
 
 /// What is kept of a turn: of its fresh entries, in their order, each at the moment at which it counted.
 ///
-/// `wall` is in milliseconds since 1970, `clock` the server's before the turn, and a mark says of each entry whether it is fresh. Where
-/// none is, this takes no memory.
+/// `wall` is in milliseconds since 1970, `clock` the server's before the turn, and a mark says of each entry whether it is fresh.
+/// Where none is, this takes no memory.
 #[tactic(auto, using(crate::proofs::KeepLemmas::none_counted))]
 pub fn keep(
     alloc: Global,
@@ -69,8 +69,8 @@ pub fn accounting_is_recorded()
     ensures { AccountingIsRecorded }
 {}
 
-/// The session that is granted to an admitted request that is kept has a record with its number and its address, and no other reply has
-/// one.
+/// The session that is granted to an admitted request that is kept has a record with its number and its address, and no other reply
+/// has one.
 ///
 /// The call costs nothing: it does nothing at run time.
 pub fn grants_are_recorded()

@@ -37,8 +37,8 @@ pub struct Kept {
 impl Kept {
     /// What is kept of an entry that came when the clock showed this: nothing where its answer is Busy.
     ///
-    /// A clock doesn't go back: an entry with an earlier moment counts, and is kept, at the clock. `wall` is in milliseconds since 1970.
-    /// Octets that the entry shares take no memory.
+    /// A clock doesn't go back: an entry with an earlier moment counts, and is kept, at the clock. `wall` is in milliseconds since
+    /// 1970. Octets that the entry shares take no memory.
     pub fn of(
         alloc: Global,
         wall: u64,

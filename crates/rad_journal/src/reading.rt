@@ -1,5 +1,6 @@
 //! Reading entries back from a store's table.
-ghost use Rattle.std.specs.Prelude.{◌≡◌, ◌≢◌, ℕ, ◌+◌, ◌≤◌, ◌<◌, ◌^◌, List, length, Option, pos, IfErr, IfOk, IfSome, OnErr, OnOk, slice_get};
+ghost use Rattle.std.specs.Prelude.{◌≡◌, ◌≢◌, ℕ, ◌+◌, ◌≤◌, ◌<◌, ◌^◌, List, length, Option, pos, IfErr, IfOk, IfSome, OnErr, OnOk};
+ghost use Rattle.std.specs.Prelude.{slice_get};
 ghost use Rattle.rad_auth.specs.declared.arrival.Door.{Door};
 ghost use Rattle.sqlite_disk.specs.Disk.{MoreFaults};
 ghost use Rattle.sqlite_value.specs.Order.{column};
@@ -7,7 +8,8 @@ ghost use Rattle.sqlite_value.specs.declared.value.Value.TheVariants.{Blob, Int}
 ghost use Rattle.sqlite_trees.specs.Tree.{Trees};
 ghost use Rattle.sqlite_trees.specs.View.{IsClean, KeepsSchema, StayLive, doubt};
 ghost use Rattle.sqlite_trees.specs.declared.store.Shape.TheVariants.{Table};
-ghost use Rattle.rad_journal.specs.Rows.{IsLog, IsRow, IsWithin, at_door, at_draw, at_port, at_session, door_number, entries_of, entry_of, session_value, table};
+ghost use Rattle.rad_journal.specs.Rows.{IsLog, IsRow, IsWithin, at_door, at_draw, at_port, at_session, door_number, entries_of};
+ghost use Rattle.rad_journal.specs.Rows.{entry_of, session_value, table};
 
 use crate::append::{ACCT, AUTH, TABLE};
 use crate::journal::JournalFault;

@@ -1,5 +1,5 @@
-//! Recording entries beside their rows: of each Accounting-Request a row of another table, and of each session that is granted one of
-//! a third.
+//! Recording entries beside their rows: of each Accounting-Request a row of another table, and of each session that is granted one
+//! of a third.
 ghost use Rattle.std.specs.Prelude.{◌≡◌, ◌+◌, ◌-◌, ◌++◌, ◌≤◌, ◌<◌, ◌^◌, if◌then◌else◌, List, length, None, Some, IfOk, OnOk};
 ghost use Rattle.sqlite_trees.specs.Tree.{Trees};
 ghost use Rattle.sqlite_trees.specs.View.{IsClean, IsQuiet, KeepsSchema, OnlyWrites, doubt};

@@ -3,7 +3,8 @@ ghost use Rattle.std.specs.Prelude.{◌≡◌, ◌↔◌, List, Some, IfErr, IfN
 ghost use Rattle.rad_auth.specs.Admission.{IsAdmitted, admission, own_datagram};
 ghost use Rattle.rad_auth.specs.Datagrams.{datagram_of};
 ghost use Rattle.rad_journal.specs.Kept.{answer_octets};
-ghost use Rattle.rad_journal.specs.Restores.{CannotRestore, HasReason, IsBegun, IsKeptSo, IsNoRequest, IsOfEntry, IsRestored, IsStep, StopsAt, datagram_of_kept, place_of};
+ghost use Rattle.rad_journal.specs.Restores.{CannotRestore, HasReason, IsBegun, IsKeptSo, IsNoRequest, IsOfEntry, IsRestored};
+ghost use Rattle.rad_journal.specs.Restores.{IsStep, StopsAt, datagram_of_kept, place_of};
 ghost use Rattle.rad_journal.specs.Stores.{Beside};
 ghost use Rattle.rad_journal.specs.declared.kept.Kept.{Kept};
 
@@ -17,9 +18,9 @@ use std::alloc::Global;
 
 /// Steps a server through the entries of a journal, from the first to the last. Each has to be answered as it was.
 ///
-/// The clients are those of the server's configuration. At `Err` the server has been stepped through some first entries: up to the one
-/// that a fault names, and at `OtherAnswer` through that too. A fault of an entry says that no history of this server is kept as the
-/// journal has it.
+/// The clients are those of the server's configuration. At `Err` the server has been stepped through some first entries: up to the
+/// one that a fault names, and at `OtherAnswer` through that too. A fault of an entry says that no history of this server is kept
+/// as the journal has it.
 #[tactic(auto, using(crate::proofs::RunLemmas::restored_next, crate::proofs::RunLemmas::restored_all))]
 pub fn restore<J: Journal>(
     alloc: Global,

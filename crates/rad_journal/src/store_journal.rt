@@ -42,8 +42,8 @@ impl<S: Store + Drop> StoreJournal<S> {
 
     /// The journal of a store that was just opened, if its rows are those of entries.
     ///
-    /// `Damaged`: a row isn't an entry's, or not the next one's, or the records aren't those of the entries. `Full`: there are more than
-    /// `ENTRIES_MAX`, or an answer grants a session whose number is 2 ^ 63 or more.
+    /// `Damaged`: a row isn't an entry's, or not the next one's, or the records aren't those of the entries. `Full`: there are more
+    /// than `ENTRIES_MAX`, or an answer grants a session whose number is 2 ^ 63 or more.
     pub fn open(alloc: Global, store: S) -> Result<StoreJournal<S>, JournalFault>
         requires { IsClean (S.view store) → IsFresh (S.view store) }
         ensures opened { IfOk result (λ journal. IsClean (S.view journal.store)

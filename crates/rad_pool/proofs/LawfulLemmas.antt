@@ -1,8 +1,12 @@
-use Rattle.std.proofs.Common.{◌≡◌, ◌⊎◌, ℕ, ◌+◌, ◌-◌, ◌≤◌, ◌<◌, Bool, true, false, not, cond, ◌&&◌, ◌||◌, ◌==◌, nat_le, List, [], ◌∷◌, ◌++◌, length, get_or, map, filter, find, count_by, sum_by, All, Contains, Option, Some, None, IfSome, option_map, Result, Ok, Err, ok_or, slice_get, arith, inl, inr, refl, sym, ap, subst, ◌∙◌}
+use Rattle.std.proofs.Common.{◌≡◌, ◌⊎◌, ℕ, ◌+◌, ◌-◌, ◌≤◌, ◌<◌, Bool, true, false, not, cond, ◌&&◌, ◌||◌, ◌==◌, nat_le, List, []}
+use Rattle.std.proofs.Common.{◌∷◌, ◌++◌, length, get_or, map, filter, find, count_by, sum_by, All, Contains, Option, Some, None}
+use Rattle.std.proofs.Common.{IfSome, option_map, Result, Ok, Err, ok_or, slice_get, arith, inl, inr, refl, sym, ap, subst, ◌∙◌}
 use Rattle.std.specs.List.{position_or_len, range_with_len}
-use Rattle.std.proofs.lemmas.Bool.{and_from, and_parts, both_ways, cond_both, eq-eqb, eqb-true, leb-false, leb-true, not-false, not-true, or_parts}
+use Rattle.std.proofs.lemmas.Bool.{and_from, and_parts, both_ways, cond_both, eq-eqb, eqb-true, leb-false, leb-true, not-false}
+use Rattle.std.proofs.lemmas.Bool.{not-true, or_parts}
 use Rattle.std.proofs.lemmas.List.{get_or-map, length-map, length_push}
-use Rattle.std.proofs.lemmas.List.Elements.{All-contains, All-contains_itself, All-filter, All-map, All-push, All-weaker, Contains-push_cases}
+use Rattle.std.proofs.lemmas.List.Elements.{All-contains, All-contains_itself, All-filter, All-map, All-push, All-weaker}
+use Rattle.std.proofs.lemmas.List.Elements.{Contains-push_cases}
 use Rattle.std.proofs.lemmas.List.Filters.{sum_by-filter_both}
 use Rattle.std.proofs.lemmas.List.Folds.{find_at, fold-map, list_any_at}
 use Rattle.std.proofs.lemmas.List.FromFn.{get_or-range_with_len, length-range_with_len}
@@ -14,10 +18,12 @@ use Rattle.rad_packet.specs.Ladders.{◌>>=◌, refuse_if}
 use Rattle.rad_config.specs.Configurations.{Configuration, is_reached}
 use Rattle.rad_config.specs.declared.pool.Pool.{Pool}
 use Rattle.rad_config.specs.declared.spans.Spans.{Spans}
-use Rattle.rad_pool.specs.Grants.{address_from, grant_limit, granted, has_address, is_held, is_limited, last_number, least_free, open_sessions, pool_of, session_limit, sessions_of, with_session}
+use Rattle.rad_pool.specs.Grants.{address_from, grant_limit, granted, has_address, is_held, is_limited, last_number, least_free}
+use Rattle.rad_pool.specs.Grants.{open_sessions, pool_of, session_limit, sessions_of, with_session}
 use Rattle.rad_pool.specs.Lawful.{HaveOwnAddresses, IsInPool, IsLawful, IsLawfulSession}
 use Rattle.rad_pool.specs.Restored.{with_row}
-use Rattle.rad_pool.specs.Sessions.{Sessions, cut, if_numbered, is_live, is_open, opening, renewed, session_ended, session_renewed, session_reset, sessions_max, source_reset, stopped, with_each}
+use Rattle.rad_pool.specs.Sessions.{Sessions, cut, if_numbered, is_live, is_open, opening, renewed, session_ended, session_renewed}
+use Rattle.rad_pool.specs.Sessions.{session_reset, sessions_max, source_reset, stopped, with_each}
 use Rattle.rad_pool.specs.declared.grant.Grant.{Grant}
 use Rattle.rad_pool.specs.declared.grant.Refusal.{Refusal}
 use Rattle.rad_pool.specs.declared.grant.Refusal.TheVariants.{SessionLimit, NoAddress, Full}
@@ -35,7 +41,8 @@ Contains-filter p xs x there =
 Contains-map : {X Y : Type 0} (f : X → Y) (xs : List X) (y : Y) → Contains (map f xs) y → (x : X) × (Contains xs x) × (y ≡ f x)
 Contains-map {X} {Y} f xs y there =
     let CameFrom : Y → Type 0 = λ z. (x : X) × (Contains xs x) × (z ≡ f x) in
-    let images : All (λ x. CameFrom (f x)) xs = All-weaker (Contains xs) (λ x. CameFrom (f x)) (λ x within. (x, within, refl)) xs (All-contains_itself xs) in
+    let images : All (λ x. CameFrom (f x)) xs =
+    All-weaker (Contains xs) (λ x. CameFrom (f x)) (λ x within. (x, within, refl)) xs (All-contains_itself xs) in
     All-contains CameFrom (map f xs) y (All-map CameFrom f xs images) there
 
 -- a filter counts no more
@@ -102,7 +109,8 @@ opening_is_lawful configuration clock spans = record {
 
 -- ---- time
 
-pub later_is_lawful : (configuration : Configuration) (clock now : ℕ) (table : Sessions) → clock ≤ now → IsLawful configuration clock table
+pub later_is_lawful : (configuration : Configuration) (clock now : ℕ) (table : Sessions) → clock ≤ now
+    → IsLawful configuration clock table
     → IsLawful configuration now table
 later_is_lawful configuration clock now table later lawful = record {
   next = lawful.next;
@@ -111,13 +119,14 @@ later_is_lawful configuration clock now table later lawful = record {
   limits = lawful.limits;
   grants = lawful.grants;
   addresses = lawful.addresses;
-  sessions = All-weaker (IsLawfulSession configuration clock table.next) (IsLawfulSession configuration now table.next) (λ session known. record {
-    number = known.number;
-    client = known.client;
-    user = known.user;
-    address = known.address;
-    seen = (known.seen.0, omega (arith, known.seen.1));
-  }) table.sessions lawful.sessions;
+  sessions = All-weaker (IsLawfulSession configuration clock table.next) (IsLawfulSession configuration now table.next)
+      (λ session known. record {
+        number = known.number;
+        client = known.client;
+        user = known.user;
+        address = known.address;
+        seen = (known.seen.0, omega (arith, known.seen.1));
+      }) table.sessions lawful.sessions;
 }
 
 pub cut_is_lawful : (configuration : Configuration) (now : ℕ) (table : Sessions) → IsLawful configuration now table
@@ -131,8 +140,13 @@ cut_is_lawful configuration now table lawful =
       rising = AllPairs-filter (λ (earlier later : Session). earlier.number < later.number) live sessions lawful.rising;
       sessions = All-filter live (IsLawfulSession configuration now table.next) sessions lawful.sessions;
       limits = λ user.
-          omega (arith, lawful.limits user, count_by-filter-le (λ session. (session.user == user) && is_open session.phase) live sessions);
-      grants = λ user. IfSome_then (grant_limit configuration user) (lawful.grants user) (λ most within. omega (arith, within, count_by-filter-le (λ session. session.user == user) live sessions));
+          omega (
+            arith,
+            lawful.limits user,
+            count_by-filter-le (λ session. (session.user == user) && is_open session.phase) live sessions,
+          );
+      grants = λ user. IfSome_then (grant_limit configuration user) (lawful.grants user)
+          (λ most within. omega (arith, within, count_by-filter-le (λ session. session.user == user) live sessions));
       addresses = λ one other address there here.
           lawful.addresses one other address (Contains-filter live sessions one there) (Contains-filter live sessions other here);
     }
@@ -168,7 +182,8 @@ record AllowsGrant (configuration : Configuration) (user : ℕ) (table : Session
   last : table.next ≤ last_number
   number : grant.number ≡ table.next
 
-granted_says : (configuration : Configuration) (user : ℕ) (table : Sessions) (grant : Grant) → granted configuration user table ≡ Ok grant
+granted_says : (configuration : Configuration) (user : ℕ) (table : Sessions) (grant : Grant)
+    → granted configuration user table ≡ Ok grant
     → AllowsGrant configuration user table grant
 unfolding granted
 granted_says configuration user table grant is =
@@ -182,7 +197,8 @@ granted_says configuration user table grant is =
     let addressed = past_step address last_check grant below.1 in
     let fits = past_refusal (many || none_left) Full (λ fits. given addressed.0) grant addressed.2 in
     let parts = or_parts many none_left fits.0 in
-    let limits = or_parts (nat_le (session_limit configuration user) (open_sessions user table.sessions)) (is_reached (grant_limit configuration user) (sessions_of user table.sessions)) below.0 in
+    let limits = or_parts (nat_le (session_limit configuration user) (open_sessions user table.sessions))
+    (is_reached (grant_limit configuration user) (sessions_of user table.sessions)) below.0 in
     let made : Grant = record { number = table.next; address = addressed.0 } in
     let same : made ≡ grant = cc in
     let address_in : Grant → Result (Option ℕ) Refusal = λ g. Ok g.address in
@@ -255,11 +271,13 @@ grants_with_session : (configuration : Configuration) (other : ℕ) (sessions : 
 grants_with_session configuration other sessions new spared within =
     by_test (new.user == other) refl (sum_by_push (λ (session : Session). cond {A = ℕ} (session.user == other) 1 0) sessions new)
   where
-    not_reached : (limit : Option ℕ) (count more : ℕ) → is_reached limit count ≡ false → more ≡ count + 1 → IfSome limit (λ most. more ≤ most)
+    not_reached : (limit : Option ℕ) (count more : ℕ) → is_reached limit count ≡ false → more ≡ count + 1
+        → IfSome limit (λ most. more ≤ most)
     not_reached None count more free is = tt
     not_reached (Some most) count more free is = omega (arith, leb-false most count free, is)
 
-    by_test : (b : Bool) → (new.user == other) ≡ b → sessions_of other (sessions ++ new ∷ []) ≡ sessions_of other sessions + cond (new.user == other) 1 0
+    by_test : (b : Bool) → (new.user == other) ≡ b
+        → sessions_of other (sessions ++ new ∷ []) ≡ sessions_of other sessions + cond (new.user == other) 1 0
         → IfSome (grant_limit configuration other) (λ most. sessions_of other (sessions ++ new ∷ []) ≤ most)
     by_test true is sum =
         not_reached (grant_limit configuration other) (sessions_of other sessions) _
@@ -294,7 +312,8 @@ addresses_with_session sessions new own free one other address there here is sam
     by_cases (inr first) (inr second) = ap (λ s. s.number) (sym first ∙ second)
 
 pub with_row_is_lawful : (configuration : Configuration) (clock : ℕ) (row : Session) (table : Sessions)
-    → CanFollow configuration clock row table → IsLawful configuration clock table → IsLawful configuration clock (with_row row table)
+    → CanFollow configuration clock row table → IsLawful configuration clock table
+    → IsLawful configuration clock (with_row row table)
 with_row_is_lawful configuration clock row table follows lawful =
     let sessions : List Session = table.sessions in
     record {
@@ -317,7 +336,16 @@ pub with_session_is_lawful : (configuration : Configuration) (client source user
 with_session_is_lawful configuration client source user now grant table known_client known_user is lawful =
     let sessions : List Session = table.sessions in
     let facts = granted_says configuration user table grant is in
-    let new : Session = record { number = grant.number; client = client; source = source; user = user; address = grant.address; phase = Pending; made = now; seen = now } in
+    let new : Session = record {
+      number = grant.number;
+      client = client;
+      source = source;
+      user = user;
+      address = grant.address;
+      phase = Pending;
+      made = now;
+      seen = now;
+    } in
     let free = address_is_free sessions (pool_of configuration user) grant.address facts.address in
     let whole = with_row_is_lawful configuration now new table (record {
       rises = omega (arith, facts.number);
@@ -344,18 +372,25 @@ record IsLawfulChange (configuration : Configuration) (clock : ℕ) (change : Se
   number : (session : Session) → (change session).number ≡ session.number
   user : (session : Session) → (change session).user ≡ session.user
   address : (session : Session) → (change session).address ≡ session.address
-  law : (next : ℕ) (session : Session) → IsLawfulSession configuration clock next session → IsLawfulSession configuration clock next (change session)
-  opens_none : (user : ℕ) (session : Session) → (((change session).user == user) && is_open (change session).phase) ≡ true → ((session.user == user) && is_open session.phase) ≡ true
+  law : (next : ℕ) (session : Session) → IsLawfulSession configuration clock next session
+      → IsLawfulSession configuration clock next (change session)
+  opens_none : (user : ℕ) (session : Session) → (((change session).user == user) && is_open (change session).phase) ≡ true
+      → ((session.user == user) && is_open session.phase) ≡ true
 
 -- the same change of those that pass a test
-chosen : (configuration : Configuration) (clock : ℕ) (test : Session → Bool) (change : Session → Session) → IsLawfulChange configuration clock change
+chosen : (configuration : Configuration) (clock : ℕ) (test : Session → Bool) (change : Session → Session)
+    → IsLawfulChange configuration clock change
     → IsLawfulChange configuration clock (λ session. cond (test session) (change session) session)
 chosen configuration clock test change lawful = record {
-  number = λ session. cond_both (test session) (change session) session (λ s. s.number ≡ session.number) (λ _. lawful.number session) (λ _. refl);
-  user = λ session. cond_both (test session) (change session) session (λ s. s.user ≡ session.user) (λ _. lawful.user session) (λ _. refl);
-  address = λ session. cond_both (test session) (change session) session (λ s. s.address ≡ session.address) (λ _. lawful.address session) (λ _. refl);
+  number = λ session. cond_both (test session) (change session) session (λ s. s.number ≡ session.number)
+      (λ _. lawful.number session) (λ _. refl);
+  user = λ session. cond_both (test session) (change session) session (λ s. s.user ≡ session.user) (λ _. lawful.user session)
+      (λ _. refl);
+  address = λ session. cond_both (test session) (change session) session (λ s. s.address ≡ session.address)
+      (λ _. lawful.address session) (λ _. refl);
   law = λ next session known.
-      cond_both (test session) (change session) session (IsLawfulSession configuration clock next) (λ _. lawful.law next session known) (λ _. known);
+      cond_both (test session) (change session) session (IsLawfulSession configuration clock next)
+      (λ _. lawful.law next session known) (λ _. known);
   opens_none = λ user session.
       cond_both (test session) (change session) session
       (λ s. ((s.user == user) && is_open s.phase) ≡ true → ((session.user == user) && is_open session.phase) ≡ true)
@@ -365,9 +400,11 @@ chosen configuration clock test change lawful = record {
 -- an open session that is heard of now
 renewal_is_lawful : (configuration : Configuration) (clock : ℕ) → IsLawfulChange configuration clock (session_renewed clock)
 renewal_is_lawful configuration clock = record {
-  number = λ session. cond_both (is_open session.phase) (active session) session (λ s. s.number ≡ session.number) (λ _. refl) (λ _. refl);
+  number = λ session. cond_both (is_open session.phase) (active session) session (λ s. s.number ≡ session.number) (λ _. refl)
+      (λ _. refl);
   user = λ session. cond_both (is_open session.phase) (active session) session (λ s. s.user ≡ session.user) (λ _. refl) (λ _. refl);
-  address = λ session. cond_both (is_open session.phase) (active session) session (λ s. s.address ≡ session.address) (λ _. refl) (λ _. refl);
+  address = λ session. cond_both (is_open session.phase) (active session) session (λ s. s.address ≡ session.address) (λ _. refl)
+      (λ _. refl);
   law = λ next session known.
       cond_both (is_open session.phase) (active session) session (IsLawfulSession configuration clock next)
       (λ _. record {
@@ -405,12 +442,14 @@ end_is_lawful configuration clock = record {
 }
 
 -- the number at a place, after a change
-number_at : (change : Session → Session) → ((session : Session) → (change session).number ≡ session.number) → (sessions : List Session) (k : ℕ) (d : Session) → k < length sessions
+number_at : (change : Session → Session) → ((session : Session) → (change session).number ≡ session.number)
+    → (sessions : List Session) (k : ℕ) (d : Session) → k < length sessions
     → (get_or (map change sessions) k d).number ≡ (get_or sessions k d).number
 number_at change keeps sessions k d within =
     ap (λ s. s.number) (get_or-map change sessions k d d within) ∙ keeps (get_or sessions k d)
 
-change_is_lawful : (configuration : Configuration) (clock : ℕ) (change : Session → Session) → IsLawfulChange configuration clock change
+change_is_lawful : (configuration : Configuration) (clock : ℕ) (change : Session → Session)
+    → IsLawfulChange configuration clock change
     → (table : Sessions) → IsLawful configuration clock table → IsLawful configuration clock (with_each change table)
 change_is_lawful configuration clock change changes table lawful =
     let sessions : List Session = table.sessions in
@@ -423,14 +462,20 @@ change_is_lawful configuration clock change changes table lawful =
           let second = number_at change changes.number sessions j d there in
           omega (arith, first, second, lawful.rising i j d before there);
       sessions = All-map (IsLawfulSession configuration clock table.next) change sessions
-          (All-weaker (IsLawfulSession configuration clock table.next) (λ s. IsLawfulSession configuration clock table.next (change s))
+          (All-weaker (IsLawfulSession configuration clock table.next)
+          (λ s. IsLawfulSession configuration clock table.next (change s))
           (changes.law table.next) sessions lawful.sessions);
       limits = λ user.
           let is_counted : Session → Bool = λ session. (session.user == user) && is_open session.phase in
           omega (arith, lawful.limits user, count_by-map-le is_counted change sessions (changes.opens_none user));
       grants = λ user.
           IfSome_then (grant_limit configuration user) (lawful.grants user)
-          (λ most few. omega (arith, few, count_by-map-le (λ session. session.user == user) change sessions (λ session is. ap (λ u. u == user) (sym (changes.user session)) ∙ is)));
+          (λ most few. omega (
+            arith,
+            few,
+            count_by-map-le (λ session. session.user == user) change sessions
+                (λ session is. ap (λ u. u == user) (sym (changes.user session)) ∙ is),
+          ));
       addresses = λ one other address there here is same.
           let first = Contains-map change sessions one there in
           let second = Contains-map change sessions other here in
@@ -445,16 +490,19 @@ pub renewed_is_lawful : (configuration : Configuration) (clock number : ℕ) (ta
     → IsLawful configuration clock (renewed number clock table)
 renewed_is_lawful configuration clock number table lawful =
     change_is_lawful configuration clock (if_numbered (session_renewed clock) number)
-    (chosen configuration clock (λ session. session.number == number) (session_renewed clock) (renewal_is_lawful configuration clock)) table lawful
+    (chosen configuration clock (λ session. session.number == number) (session_renewed clock)
+    (renewal_is_lawful configuration clock)) table lawful
 
 pub stopped_is_lawful : (configuration : Configuration) (clock number : ℕ) (table : Sessions) → IsLawful configuration clock table
     → IsLawful configuration clock (stopped number table)
 stopped_is_lawful configuration clock number table lawful =
     change_is_lawful configuration clock (if_numbered session_ended number)
-    (chosen configuration clock (λ session. session.number == number) session_ended (end_is_lawful configuration clock)) table lawful
+    (chosen configuration clock (λ session. session.number == number) session_ended (end_is_lawful configuration clock)) table
+    lawful
 
 pub reset_is_lawful : (configuration : Configuration) (clock source : ℕ) (table : Sessions) → IsLawful configuration clock table
     → IsLawful configuration clock (source_reset source table)
 reset_is_lawful configuration clock source table lawful =
     change_is_lawful configuration clock (session_reset source)
-    (chosen configuration clock (λ session. session.source == source) session_ended (end_is_lawful configuration clock)) table lawful
+    (chosen configuration clock (λ session. session.source == source) session_ended (end_is_lawful configuration clock)) table
+    lawful

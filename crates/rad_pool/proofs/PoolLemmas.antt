@@ -1,4 +1,5 @@
-use Rattle.std.proofs.Common.{◌≡◌, ℕ, zero, suc, ◌+◌, ◌-◌, Bool, true, false, cond, not, List, [], ◌∷◌, Option, None, Some, option_map, Result, Err, Ok, ok_or, filter, arith, find, refl, ap, sym, ◌∙◌}
+use Rattle.std.proofs.Common.{◌≡◌, ℕ, zero, suc, ◌+◌, ◌-◌, Bool, true, false, cond, not, List, [], ◌∷◌, Option, None, Some}
+use Rattle.std.proofs.Common.{option_map, Result, Err, Ok, ok_or, filter, arith, find, refl, ap, sym, ◌∙◌}
 use Rattle.std.specs.List.{range_with_len}
 use Rattle.rad_config.specs.declared.spans.Spans.{Spans}
 use Rattle.rad_pool.specs.declared.grant.Refusal.{Refusal}
@@ -26,7 +27,8 @@ own_free sessions address b held =
     ap (λ list. ok_or (option_map Some (find (λ a. not (is_held sessions a)) list)) NoAddress) only
     ∙ ap (λ held. ok_or (option_map Some (cond (not held) (Some address) None)) NoAddress) held ∙ over b
   where
-    over : (b : Bool) → ok_or (option_map Some (cond (not b) (Some address) None)) NoAddress ≡ cond {A = Result (Option ℕ) Refusal} b (Err NoAddress) (Ok (Some address))
+    over : (b : Bool) → ok_or (option_map Some (cond (not b) (Some address) None)) NoAddress
+        ≡ cond {A = Result (Option ℕ) Refusal} b (Err NoAddress) (Ok (Some address))
     over true = refl
     over false = refl
 
@@ -41,8 +43,10 @@ filter_twice p (x ∷ xs) = by_test p x xs (p x) refl (filter_twice p xs)
     by_test p x xs false is more = rw (is) more
 
 -- a moment once more changes nothing
-pub settled_is : (spans spans' : Spans) (now next : ℕ) (rows left : List Session) → left ≡ live_sessions spans now rows → spans' ≡ spans
-    → ◌≡◌ {A = Sessions} (cut now (record { sessions = left; next = next; spans = spans' })) (record { sessions = left; next = next; spans = spans' })
+pub settled_is : (spans spans' : Spans) (now next : ℕ) (rows left : List Session) → left ≡ live_sessions spans now rows
+    → spans' ≡ spans
+    → ◌≡◌ {A = Sessions} (cut now (record { sessions = left; next = next; spans = spans' }))
+    (record { sessions = left; next = next; spans = spans' })
 settled_is spans spans' now next rows left is same =
     let twice : live_sessions spans' now left ≡ left =
     ap (λ s. live_sessions s now left) same ∙ ap (live_sessions spans now) is ∙ filter_twice (is_live spans now) rows ∙ sym is in

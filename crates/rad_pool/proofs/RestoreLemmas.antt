@@ -1,19 +1,26 @@
-use Rattle.std.proofs.Common.{◌≡◌, ◌↔◌, ℕ, suc, ◌+◌, ◌-◌, ◌≤◌, ◌<◌, Bool, true, false, not, cond, ◌&&◌, ◌||◌, ◌==◌, nat_le, nat_lt, List, [], ◌∷◌, ◌++◌, length, All, AllPairs, Contains, Option, Some, None, IfSome, Result, Ok, arith, refl, sym, ap, subst, ◌∙◌}
-use Rattle.std.proofs.lemmas.Bool.{and_from, and_parts, both_ways, eq-eqb, eqb-true, le-leb, le-ltb, leb-false, leb-true, lt-leb, ltb-false, not-false, or_from, or_parts}
+use Rattle.std.proofs.Common.{◌≡◌, ◌↔◌, ℕ, suc, ◌+◌, ◌-◌, ◌≤◌, ◌<◌, Bool, true, false, not, cond, ◌&&◌, ◌||◌, ◌==◌, nat_le, nat_lt}
+use Rattle.std.proofs.Common.{List, [], ◌∷◌, ◌++◌, length, All, AllPairs, Contains, Option, Some, None, IfSome, Result, Ok, arith}
+use Rattle.std.proofs.Common.{refl, sym, ap, subst, ◌∙◌}
+use Rattle.std.proofs.lemmas.Bool.{and_from, and_parts, both_ways, eq-eqb, eqb-true, le-leb, le-ltb, leb-false, leb-true, lt-leb}
+use Rattle.std.proofs.lemmas.Bool.{ltb-false, not-false, or_from, or_parts}
 use Rattle.std.proofs.lemmas.List.{append-nil, append_assoc, length-append, length_push, get_or_append_left, get_or-append-add}
-use Rattle.std.proofs.lemmas.List.Elements.{All-contains, All-head, All-push, All-weaker, Contains-append_left, Contains-append_right, Contains-push}
+use Rattle.std.proofs.lemmas.List.Elements.{All-contains, All-head, All-push, All-weaker, Contains-append_left}
+use Rattle.std.proofs.lemmas.List.Elements.{Contains-append_right, Contains-push}
 use Rattle.std.proofs.lemmas.List.Folds.{Any-from_list_any}
 use Rattle.std.proofs.lemmas.List.Sums.{sum_by-append, sum_by_push}
 use Rattle.std.proofs.lemmas.Option.{IfSome_then}
 use Rattle.rad_packet.specs.Ladders.{◌>>=◌, refuse_if}
 use Rattle.rad_config.specs.Configurations.{Configuration, is_reached}
 use Rattle.rad_config.specs.declared.pool.Pool.{Pool}
-use Rattle.rad_pool.specs.Grants.{grant_limit, has_address, is_held, last_number, open_sessions, pool_of, session_limit, sessions_of}
+use Rattle.rad_pool.specs.Grants.{grant_limit, has_address, is_held, last_number, open_sessions, pool_of, session_limit}
+use Rattle.rad_pool.specs.Grants.{sessions_of}
 use Rattle.rad_pool.specs.Lawful.{HaveOwnAddresses, IsInPool, IsLawful, IsLawfulSession}
-use Rattle.rad_pool.specs.Restored.{exceeds_limits, has_address_of, is_astray, is_taken, last_restorable, rebuilt, restorable, restored, with_last, with_row}
+use Rattle.rad_pool.specs.Restored.{exceeds_limits, has_address_of, is_astray, is_taken, last_restorable, rebuilt, restorable}
+use Rattle.rad_pool.specs.Restored.{restored, with_last, with_row}
 use Rattle.rad_pool.specs.Sessions.{Sessions, is_open, sessions_max}
 use Rattle.rad_row_fault.specs.declared.row_fault.RowFault.{RowFault}
-use Rattle.rad_row_fault.specs.declared.row_fault.RowFault.TheVariants.{AddressHeld, AddressOutside, Client, Full, Moments, Number, SessionLimit, User}
+use Rattle.rad_row_fault.specs.declared.row_fault.RowFault.TheVariants.{AddressHeld, AddressOutside, Client, Full, Moments, Number}
+use Rattle.rad_row_fault.specs.declared.row_fault.RowFault.TheVariants.{SessionLimit, User}
 use Rattle.rad_pool.specs.declared.session.Session.{Session}
 use Rattle.rad_pool.proofs.LawfulLemmas.{lawful_below, past_refusal, with_row_is_lawful}
 use Rattle.rad_pool.proofs.PlaceLemmas.{has_is, is_at}
@@ -59,7 +66,16 @@ fits_says configuration clock row table is =
     let e = past_refusal astray AddressOutside sixth tt d.1 in
     let f = past_refusal taken AddressHeld seventh tt e.1 in
     let g = past_refusal many SessionLimit last tt f.1 in
-    record { rises = a.0; client = b.0; user = c.0; heard = d.0; inside = e.0; free = f.0; below = g.0; few = last_refusal few Full g.1 }
+    record {
+      rises = a.0;
+      client = b.0;
+      user = c.0;
+      heard = d.0;
+      inside = e.0;
+      free = f.0;
+      below = g.0;
+      few = last_refusal few Full g.1;
+    }
 
 fits_so : (configuration : Configuration) (clock : ℕ) (row : Session) (table : Sessions) → Fits configuration clock row table
     → restorable configuration clock row table ≡ Ok tt
@@ -83,7 +99,8 @@ inside_so pool None is = refl
 inside_so None (Some address) is = absurd is
 inside_so (Some pool) (Some address) is =
     ap not
-    (and_from (nat_le pool.first address) (nat_le address pool.last) (le-leb pool.first address is.0) (le-leb address pool.last is.1))
+    (and_from (nat_le pool.first address) (nat_le address pool.last) (le-leb pool.first address is.0)
+    (le-leb address pool.last is.1))
 
 free_from : (sessions : List Session) (address : Option ℕ) → is_taken sessions address ≡ false
     → IfSome address (λ a. is_held sessions a ≡ false)
@@ -103,14 +120,16 @@ free_so : (sessions : List Session) (row : Session) → HaveOwnAddresses (sessio
     → All (λ (s : Session). s.number < row.number) sessions → is_taken sessions row.address ≡ false
 free_so sessions row own lower = by_address row.address refl
   where
-    by_held : (address : ℕ) → row.address ≡ Some address → (b : Bool) → is_held sessions address ≡ b → is_held sessions address ≡ false
+    by_held : (address : ℕ) → row.address ≡ Some address → (b : Bool) → is_held sessions address ≡ b
+        → is_held sessions address ≡ false
     by_held address is false e = e
     by_held address is true e =
         let found = Any-from_list_any (has_address address) sessions e in
         let other : Session = found.1 in
         let there : Contains sessions other = (found.0, found.2, found.3) in
         let given = has_says address other found.4 in
-        let same = own other row address (Contains-append_left sessions (row ∷ []) other there) (Contains-push sessions row) given is in
+        let same = own other row address (Contains-append_left sessions (row ∷ []) other there) (Contains-push sessions row)
+        given is in
         let less : other.number < row.number = All-contains (λ (s : Session). s.number < row.number) sessions other lower there in
         absurd (omega (arith, same, less))
 
@@ -144,7 +163,8 @@ below_so configuration sessions row within =
 
 -- the same of sessions of any phase
 spared_so : (limit : Option ℕ) (sessions : List Session) (row : Session)
-    → IfSome limit (λ most. sessions_of row.user (sessions ++ row ∷ []) ≤ most) → is_reached limit (sessions_of row.user sessions) ≡ false
+    → IfSome limit (λ most. sessions_of row.user (sessions ++ row ∷ []) ≤ most)
+    → is_reached limit (sessions_of row.user sessions) ≡ false
 spared_so None sessions row within = refl
 spared_so (Some most) sessions row within =
     let one : ◌≡◌ {A = ℕ} (cond (row.user == row.user) 1 0) 1 = ap (λ b. cond {A = ℕ} b 1 0) (eq-eqb row.user row.user refl) in
@@ -155,7 +175,8 @@ spared_so (Some most) sessions row within =
 
 pub restore_is_the_law : (configuration : Configuration) (clock : ℕ) (row : Session) (table : Sessions)
     → row.number ≤ last_number → IsLawful configuration clock table
-    → (restorable configuration clock row table ≡ Ok tt) ↔ ((table.next ≤ row.number) × IsLawful configuration clock (with_row row table))
+    → (restorable configuration clock row table ≡ Ok tt)
+    ↔ ((table.next ≤ row.number) × IsLawful configuration clock (with_row row table))
 restore_is_the_law configuration clock row table number lawful = (so, back)
   where
     sessions : List Session
@@ -167,7 +188,8 @@ restore_is_the_law configuration clock row table number lawful = (so, back)
     full : Bool
     full = is_open row.phase && nat_le (session_limit configuration row.user) (open_sessions row.user sessions)
 
-    so : restorable configuration clock row table ≡ Ok tt → (table.next ≤ row.number) × IsLawful configuration clock (with_row row table)
+    so : restorable configuration clock row table ≡ Ok tt
+        → (table.next ≤ row.number) × IsLawful configuration clock (with_row row table)
     so is =
         let fits = fits_says configuration clock row table is in
         let rises : table.next ≤ row.number = ltb-false row.number table.next fits.rises in
@@ -191,7 +213,8 @@ restore_is_the_law configuration clock row table number lawful = (so, back)
           }) lawful,
         )
 
-    back : (table.next ≤ row.number) × IsLawful configuration clock (with_row row table) → restorable configuration clock row table ≡ Ok tt
+    back : (table.next ≤ row.number) × IsLawful configuration clock (with_row row table)
+        → restorable configuration clock row table ≡ Ok tt
     back given =
         let rises : table.next ≤ row.number = given.0 in
         let whole = given.1 in
@@ -222,7 +245,8 @@ restore_last_is_the_law configuration clock last table number lawful = (so, λ g
   where
     so : last_restorable last table ≡ Ok tt → (table.next ≤ last + 1) × IsLawful configuration clock (with_last last table)
     so is =
-        let most : table.next ≤ last + 1 = ltb-false (last + 1) table.next (last_refusal (nat_lt (last + 1) table.next) Number is) in (
+        let most : table.next ≤ last + 1 =
+        ltb-false (last + 1) table.next (last_refusal (nat_lt (last + 1) table.next) Number is) in (
           most,
           record {
             next = (omega arith, omega (arith, number));
@@ -270,11 +294,21 @@ beginning_is_lawful configuration clock table lawful before rest split next one 
           };
       limits = λ user.
           let all = subst (λ xs. open_sessions user xs ≤ session_limit configuration user) split (lawful.limits user) in
-          omega (arith, all, sum_by-append (λ session. cond {A = ℕ} ((session.user == user) && is_open session.phase) 1 0) before rest);
+          omega (
+            arith,
+            all,
+            sum_by-append (λ session. cond {A = ℕ} ((session.user == user) && is_open session.phase) 1 0) before
+                rest,
+          );
       grants = λ user.
-          let all = subst (λ xs. IfSome (grant_limit configuration user) (λ most. sessions_of user xs ≤ most)) split (lawful.grants user) in
+          let all = subst (λ xs. IfSome (grant_limit configuration user) (λ most. sessions_of user xs ≤ most)) split
+          (lawful.grants user) in
           IfSome_then (grant_limit configuration user) all
-          (λ most fits. omega (arith, fits, sum_by-append (λ (session : Session). cond {A = ℕ} (session.user == user) 1 0) before rest));
+          (λ most fits. omega (
+            arith,
+            fits,
+            sum_by-append (λ (session : Session). cond {A = ℕ} (session.user == user) 1 0) before rest,
+          ));
       addresses = λ one other address there here.
           own one other address (Contains-append_left before rest one there) (Contains-append_left before rest other here);
     }
@@ -320,7 +354,8 @@ restored_rest configuration clock table lawful (row ∷ rest) before next split 
     let upper' : All (λ (s : Session). row.number + 1 ≤ s.number) rest = λ k d lt.
     let low = get_or-append-add before (row ∷ rest) 0 d in
     let high = get_or-append-add before (row ∷ rest) (suc k) d in
-    let pair = rising (length before + 0) (length before + suc k) d (omega arith) (omega (arith, length-append before (row ∷ rest), lt)) in
+    let pair = rising (length before + 0) (length before + suc k) d (omega arith)
+    (omega (arith, length-append before (row ∷ rest), lt)) in
     omega (arith, pair, ap (λ (s : Session). s.number) low, ap (λ (s : Session). s.number) high) in
     let first = beginning_is_lawful configuration clock table lawful before (row ∷ rest) split next one
     (omega (arith, most, lawful.next.1)) lower in

@@ -1,5 +1,6 @@
 -- Counts of sessions: of the open ones of each user and of each source, of all of each user, and of those that have each address.
-use Rattle.std.specs.Prelude.{◌≡◌, ℕ, ◌+◌, ◌-◌, ◌<◌, ◌≤◌, ◌^◌, ◌==◌, ◌&&◌, not, Bool, true, List, length, slice_index, cond, count_by, map, All, Option, None, Some}
+use Rattle.std.specs.Prelude.{◌≡◌, ℕ, ◌+◌, ◌-◌, ◌<◌, ◌≤◌, ◌^◌, ◌==◌, ◌&&◌, not, Bool, true, List, length, slice_index, cond}
+use Rattle.std.specs.Prelude.{count_by, map, All, Option, None, Some}
 use Rattle.std.specs.List.{list_any}
 use Rattle.indexmap.specs.IndexMap.{IndexMap, spare}
 use Rattle.rad_places.specs.Places.{SeenPlaces, is_inside, place_of, uses_at, with_note, with_use, without_use}
@@ -63,7 +64,8 @@ pub record CountsSources (sessions : List Session) (counts : List (ℕ × ℕ)) 
 
 -- as many uses of each address of a pool as sessions have it
 pub record IsCounted (sessions : List Session) (places : SeenPlaces) : Type 0 where
-  pub uses : (place : ℕ) → place < length places.uses → uses_at place places ≡ count_by (has_address (places.first + place)) sessions
+  pub uses : (place : ℕ) → place < length places.uses
+      → uses_at place places ≡ count_by (has_address (places.first + place)) sessions
 
 -- whether an address is of no pool
 abbrev pub is_outside : List SeenPlaces → ℕ → Bool

@@ -32,7 +32,8 @@ pub record TakesLesser (old : LeastFreed) (session : Session) (new : LeastFreed)
   pub before : (place : ℕ) → place < new.place → has_address (old.first + place) session ≡ false
   pub here : new.place ≢ old.place → has_address (old.first + new.place) session ≡ true
 
--- a place before which no address is free, even if the dead sessions were gone, and whose own address isn't in use or a dead session has
+-- a place before which no address is free, even if the dead sessions were gone, and whose own address isn't in use or a dead
+-- session has
 pub record IsLeastFreed (dead : List Session) (places : SeenPlaces) (least : ℕ) : Type 0 where
   pub used : (place : ℕ) → place < least → place < length places.uses → 0 < uses_at place places
   pub before : (place : ℕ) → place < least → is_held dead (places.first + place) ≡ false

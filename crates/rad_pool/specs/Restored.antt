@@ -1,5 +1,6 @@
 -- Rows that a table once held, put back one after the other; or which rule of the law a row breaks.
-use Rattle.std.specs.Prelude.{ℕ, ◌+◌, ◌-◌, ◌&&◌, ◌||◌, not, nat_le, nat_lt, Bool, false, List, [], ◌∷◌, ◌++◌, length, Option, Some, None, Result, Ok}
+use Rattle.std.specs.Prelude.{ℕ, ◌+◌, ◌-◌, ◌&&◌, ◌||◌, not, nat_le, nat_lt, Bool, false, List, [], ◌∷◌, ◌++◌, length, Option, Some}
+use Rattle.std.specs.Prelude.{None, Result, Ok}
 use Rattle.rad_packet.specs.Ladders.{◌>>=◌, refuse_if}
 use Rattle.rad_config.specs.Configurations.{Configuration, is_reached}
 use Rattle.rad_config.specs.declared.pool.Pool.{Pool}
@@ -7,7 +8,8 @@ use Rattle.rad_pool.specs.Grants.{grant_limit, is_held, open_sessions, pool_of, 
 use Rattle.rad_pool.specs.Sessions.{Sessions, is_open, opening, sessions_max}
 use Rattle.rad_pool.specs.declared.session.Session.{Session}
 use Rattle.rad_row_fault.specs.declared.row_fault.RowFault.{RowFault}
-use Rattle.rad_row_fault.specs.declared.row_fault.RowFault.TheVariants.{AddressHeld, AddressOutside, Client, Full, Moments, Number, SessionLimit, User}
+use Rattle.rad_row_fault.specs.declared.row_fault.RowFault.TheVariants.{AddressHeld, AddressOutside, Client, Full, Moments, Number}
+use Rattle.rad_row_fault.specs.declared.row_fault.RowFault.TheVariants.{SessionLimit, User}
 
 -- ---- one row
 

@@ -1,9 +1,11 @@
-//! How many open sessions each user and each source has, how many of any phase each user has, and how many sessions have each address.
+//! How many open sessions each user and each source has, how many of any phase each user has, and how many sessions have each
+//! address.
 ghost use Rattle.std.specs.Prelude.{◌≡◌, ◌==◌, ◌<◌, [], All, IfOk, IsOk, List, OnOk, count_by, length, map, replicate};
 ghost use Rattle.indexmap.specs.IndexMap.{hasher_of, spare};
 ghost use Rattle.rad_config.specs.Ranges.{IsPool};
 ghost use Rattle.rad_places.specs.Places.{uses_at};
-ghost use Rattle.rad_pool.specs.Counts.{Comes, Ends, GainsOne, GainsOther, HasLowUses, HasRoom, HoldsCounts, IsCounted, Leaves, LosesAt, LosesOne, LosesOther, is_outside, places_come, places_left};
+ghost use Rattle.rad_pool.specs.Counts.{Comes, Ends, GainsOne, GainsOther, HasLowUses, HasRoom, HoldsCounts, IsCounted, Leaves};
+ghost use Rattle.rad_pool.specs.Counts.{LosesAt, LosesOne, LosesOther, is_outside, places_come, places_left};
 ghost use Rattle.rad_pool.specs.Grants.{has_address};
 ghost use Rattle.rad_pool.specs.Sources.{HasNoZero, count_at};
 ghost use Rattle.rad_pool.specs.declared.session.Session.{Session};

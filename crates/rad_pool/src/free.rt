@@ -38,7 +38,8 @@ impl Tally<Session> for LeastFreed {
     }
 }
 
-/// The address of a new session of the user at a place: the user's own, or else the least one of the user's pool; none without either.
+/// The address of a new session of the user at a place: the user's own, or else the least one of the user's pool; none without
+/// either.
 ///
 /// `NoAddress` if a live session has it, or each one of the pool.
 #[tactic(auto, unfolding(crate::specs::Grants::address_from))]

@@ -1,5 +1,5 @@
-//! Which sessions of a source are open: a chain of their numbers, newest first. It says where to look, so that the others needn't be
-//! looked at. Whoever follows it looks at the sessions themselves: contracts say nothing of it but its room.
+//! Which sessions of a source are open: a chain of their numbers, newest first. It says where to look, so that the others needn't
+//! be looked at. Whoever follows it looks at the sessions themselves: contracts say nothing of it but its room.
 ghost use Rattle.std.specs.Prelude.{IfOk};
 ghost use Rattle.rad_pool.specs.Links.{HasLinkRoom, KeepsLinkRoom};
 

@@ -1,5 +1,6 @@
 //! The table of sessions.
-ghost use Rattle.std.specs.Prelude.{◌≡◌, ◌≤◌, ◌<◌, ◌+◌, ◌↔◌, ◌==◌, ◌||◌, find, nat_le, IsTrue, length, IfOk, IsErrOf, IsOk, OnErr, OnOk, false, true};
+ghost use Rattle.std.specs.Prelude.{◌≡◌, ◌≤◌, ◌<◌, ◌+◌, ◌↔◌, ◌==◌, ◌||◌, find, nat_le, IsTrue, length, IfOk, IsErrOf, IsOk, OnErr};
+ghost use Rattle.std.specs.Prelude.{OnOk, false, true};
 ghost use Rattle.std.specs.Iterator.{YieldsFirst, item_count};
 ghost use Rattle.rad_config.specs.Configurations.{is_reached};
 ghost use Rattle.rad_config.specs.Spans.{moment_max, spans_of};
@@ -147,7 +148,8 @@ impl Sessions {
     }
 
     /// Removes the sessions that are no longer live, and adds one for the user at place `user`: Pending, with the next number, and
-    /// with the user's own address, or the least one of the user's pool that no session has. `source` is the address that the Access-Request came from.
+    /// with the user's own address, or the least one of the user's pool that no session has. `source` is the address that the
+    /// Access-Request came from.
     ///
     /// Refusals are reported in the order of `Refusal`. After `NoMemory` nothing has changed; after `room` it doesn't come.
     pub fn grant(
@@ -179,8 +181,8 @@ impl Sessions {
         Ok(grant)
     }
 
-    /// Adds a session that `peek` granted, after `expire` at the same moment: Pending, for the client at place `client` and the user
-    /// at place `user`, with the source of the Access-Request. Memory was made ready for it.
+    /// Adds a session that `peek` granted, after `expire` at the same moment: Pending, for the client at place `client` and the
+    /// user at place `user`, with the source of the Access-Request. Memory was made ready for it.
     pub fn add(&mut self, client: u32, source: u32, user: u32, grant: Grant, now: u64)
         requires room { self.old.has_room ≡ true }
         requires number { grant.number ≡ self.old.table.next }
@@ -255,8 +257,8 @@ impl Sessions {
 
     /// A Stop was reported: the session of this number has ended.
     ///
-    /// It keeps its address until `window` after its grant, or until the next expiry if that has passed. With a number of no session
-    /// nothing changes. Source: RFC 2866, section 5.1.
+    /// It keeps its address until `window` after its grant, or until the next expiry if that has passed. With a number of no
+    /// session nothing changes. Source: RFC 2866, section 5.1.
     pub fn stop(&mut self, number: u64)
         ensures stopped { self.new.table ≡ stopped number self.old.table }
         ensures room { self.old.has_room ≡ true → self.new.has_room ≡ true }

@@ -1,5 +1,5 @@
-//! Plain walks over all sessions. They run where the counts don't tell: for a user or a pool that the table wasn't opened with, and for
-//! an address that has two uses, or whose note is of another session.
+//! Plain walks over all sessions. They run where the counts don't tell: for a user or a pool that the table wasn't opened with, and
+//! for an address that has two uses, or whose note is of another session.
 ghost use Rattle.std.specs.Prelude.{◌≡◌, ◌≤◌, ◌==◌, ◌&&◌, None, Some};
 ghost use Rattle.rad_config.specs.Ranges.{IsPool};
 ghost use Rattle.rad_config.specs.Spans.{moment_max};

@@ -1,4 +1,5 @@
-use Rattle.std.proofs.Common.{◌≡◌, ℕ, ◌+◌, ◌≤◌, ◌<◌, ◌^◌, Bool, true, false, cond, not, ◌&&◌, List, [], ◌∷◌, ◌++◌, Option, Some, None, refl, ap, ◌∙◌}
+use Rattle.std.proofs.Common.{◌≡◌, ℕ, ◌+◌, ◌≤◌, ◌<◌, ◌^◌, Bool, true, false, cond, not, ◌&&◌, List, [], ◌∷◌, ◌++◌, Option, Some}
+use Rattle.std.proofs.Common.{None, refl, ap, ◌∙◌}
 use Rattle.std.proofs.Common.{sym, subst, eqb, filter, find, length, is_some, true≢false, arith, get_or, ◌⊎◌, inl, inr}
 use Rattle.std.specs.Cmp.Lexicographic.{pointwise}
 use Rattle.std.specs.List.{All, AllPairs, FoldsTo}
@@ -18,7 +19,8 @@ use Rattle.rad_recent.specs.Numbers.{number_at}
 use Rattle.rad_recent.specs.Recent.{Replies, cut_replies, is_reply_live, is_reply_to, same_key}
 use Rattle.rad_recent.proofs.RecentLemmas.{filter_twice}
 use Rattle.rad_recent.proofs.FindLemmas.{Means, both, find_false, find_none, find_true, none_passes}
-use Rattle.rad_recent.proofs.NumberedLemmas.{agrees, find_replies, gone, has_other_key, key_is, key_same, key_turned, no_row, number_of, replies_filter, some_number}
+use Rattle.rad_recent.proofs.NumberedLemmas.{agrees, find_replies, gone, has_other_key, key_is, key_same, key_turned, no_row}
+use Rattle.rad_recent.proofs.NumberedLemmas.{number_of, replies_filter, some_number}
 
 -- ---- a look
 
@@ -42,13 +44,15 @@ wanted_means window now key octets es n rows at h = λ k d lt. record {
 }
 
 -- a key without a number has no reply
-pub look_nothing : (window now : ℕ) (key : Key) (octets : List ℕ) (es : List (Key × ℕ)) (rows : List Numbered) → number_at es key ≡ None
+pub look_nothing : (window now : ℕ) (key : Key) (octets : List ℕ) (es : List (Key × ℕ)) (rows : List Numbered)
+    → number_at es key ≡ None
     → All (IsIndexed es) rows
     → None ≡ find (is_reply_to key octets) (filter (is_reply_live window now) (replies_of rows))
 look_nothing window now key octets es rows at h =
     sym (find_replies (is_reply_live window now) (is_reply_to key octets) rows
     ∙ ap (option_map (λ row. row.kept))
-    (none_passes (wanted window now key octets) rows (λ k d lt. fails (get_or rows k d) (no_row es key (get_or rows k d) at (h k d lt)))))
+    (none_passes (wanted window now key octets) rows
+    (λ k d lt. fails (get_or rows k d) (no_row es key (get_or rows k d) at (h k d lt)))))
   where
     fails : (row : Numbered) → same_key key row.kept.key ≡ false → wanted window now key octets row ≡ false
     fails row other = by_test (wanted window now key octets row) refl
@@ -69,11 +73,13 @@ module _ (window now : ℕ) (key : Key) (octets : List ℕ) (es : List (Key × �
 
   -- or of a row that is not wanted
   pub look_false : (x : Numbered) → AllPairs (IsBefore number_of) rows → find (has_number number_of n) rows ≡ Some x
-      → wanted window now key octets x ≡ false → None ≡ find (is_reply_to key octets) (filter (is_reply_live window now) (replies_of rows))
+      → wanted window now key octets x ≡ false
+      → None ≡ find (is_reply_to key octets) (filter (is_reply_live window now) (replies_of rows))
   look_false x rising some fails =
       sym (find_replies (is_reply_live window now) (is_reply_to key octets) rows
       ∙ ap (option_map (λ row. row.kept))
-      (find_false number_of (wanted window now key octets) n rows x rising (wanted_means window now key octets es n rows at h) some fails))
+      (find_false number_of (wanted window now key octets) n rows x rising (wanted_means window now key octets es n rows at h) some
+      fails))
 
   -- the row of its number is found if it is wanted
   pub look_true : (x : Numbered) → find (has_number number_of n) rows ≡ Some x → wanted window now key octets x ≡ true
@@ -102,7 +108,8 @@ module _ (es fs : List (Key × ℕ)) (key : Key) (number : Option ℕ)
   }
     where
       own : (k : Key) → same_key k row.kept.key ≡ true → (b : Bool) → same_key key k ≡ b → number_at fs k ≡ Some row.number
-      own k same true e = absurd (true≢false (sym (subst (λ q. same_key q row.kept.key ≡ true) (sym (key_is key k e)) same) ∙ other))
+      own k same true e =
+          absurd (true≢false (sym (subst (λ q. same_key q row.kept.key ≡ true) (sym (key_is key k e)) same) ∙ other))
       own k same false e = there k e ∙ is.own k same
 
       only : (k : Key) → number_at fs k ≡ Some row.number → (b : Bool) → same_key key k ≡ b → same_key k row.kept.key ≡ true
@@ -126,7 +133,8 @@ none_is_some x h = absurd (true≢false (sym (ap is_some h)))
 
 -- the same index, of some of the rows
 holds_within : (p : Numbered → Bool) (rows left : SeenRows Numbered ℕ) (index : Index)
-    → left.rows ≡ filter p rows.rows → left.last ≡ rows.last → left.has_room ≡ rows.has_room → HoldsIndex rows index → HoldsIndex left index
+    → left.rows ≡ filter p rows.rows → left.last ≡ rows.last → left.has_room ≡ rows.has_room → HoldsIndex rows index
+    → HoldsIndex left index
 holds_within p rows left index is last room h = record {
   indexed = subst (All (IsIndexed index.map.entries)) (sym is) (All-filter p (IsIndexed index.map.entries) rows.rows h.indexed);
   given = λ key number at. omega (arith, h.given key number at, last);
@@ -154,7 +162,8 @@ pub holds_removed : (key : Key) (rows left : SeenRows Numbered ℕ) (old new : I
     → left.rows ≡ filter (has_other_key key) rows.rows → left.last ≡ rows.last → left.has_room ≡ rows.has_room
     → Forgets old key new → HoldsIndex rows old → HoldsIndex left new
 holds_removed key rows left old new is last room forgets h =
-    holds_forgot key left old new (gone key rows.rows left.rows is) forgets (holds_within (has_other_key key) rows left old is last room h)
+    holds_forgot key left old new (gone key rows.rows left.rows is) forgets
+    (holds_within (has_other_key key) rows left old is last room h)
 
 -- without the keys of dead rows
 holds_left : (dead : List Numbered) (left : SeenRows Numbered ℕ) (old new : Notes) → FoldsTo Leaves old dead new
@@ -245,7 +254,8 @@ module _ (row : Numbered) (rows left rows' : SeenRows Numbered ℕ) (old new : I
   holds_pushed others given number last is noted none h = record {
     indexed = subst (All (IsIndexed new.map.entries)) (sym is) (All-push (IsIndexed new.map.entries) left.rows row stay
         (record {
-          own = λ k own. here old.map.entries new.map.entries row.kept.key (Some row.number) noted k (key_turned k row.kept.key own);
+          own = λ k own. here old.map.entries new.map.entries row.kept.key (Some row.number) noted k
+              (key_turned k row.kept.key own);
           only = λ k at. only k at (same_key row.kept.key k) refl;
         }));
     given = still_given old.map.entries new.map.entries row.kept.key (Some row.number) noted rows'.last

@@ -39,7 +39,8 @@ pub number_is : (key : Key) (es : List (Key × ℕ)) → lookup (eq-value.it key
 number_is key es = lookup_agree (eq-value.it key) (same_key key) (key_eq key) es
 
 -- what a map has for a key after a change of another
-pub updated : (key : Key) (w : Option ℕ) (es fs : List (Key × ℕ)) → ((q : Key) → lookup (eq-value.it q) fs ≡ cond (eq-value.it key q) w (lookup (eq-value.it q) es))
+pub updated : (key : Key) (w : Option ℕ) (es fs : List (Key × ℕ))
+    → ((q : Key) → lookup (eq-value.it q) fs ≡ cond (eq-value.it key q) w (lookup (eq-value.it q) es))
     → (q : Key) → number_at fs q ≡ cond (same_key key q) w (number_at es q)
 updated key w es fs h q =
     sym (number_is q fs) ∙ h q ∙ (λ j. cond (key_eq key q j) w (number_is q es j))

@@ -1,5 +1,6 @@
 -- Kept replies and challenges stay lawful: the proofs of `lawful_replies` and `lawful_challenges`.
-use Rattle.std.proofs.Common.{◌≡◌, ℕ, ◌+◌, ◌≤◌, ◌<◌, Bool, true, false, cond, not, ◌||◌, nat_le, List, length, filter, Ok, Err, arith, refl, sym, ◌∙◌}
+use Rattle.std.proofs.Common.{◌≡◌, ℕ, ◌+◌, ◌≤◌, ◌<◌, Bool, true, false, cond, not, ◌||◌, nat_le, List, length, filter, Ok, Err}
+use Rattle.std.proofs.Common.{arith, refl, sym, ◌∙◌}
 use Rattle.std.specs.Prelude.{IsOk}
 use Rattle.std.specs.List.{All}
 use Rattle.std.proofs.lemmas.Bool.{leb-false, leb-true, not-true}
@@ -8,7 +9,8 @@ use Rattle.std.proofs.lemmas.List.Elements.{All-filter, All-nil, All-push, All-w
 use Rattle.std.proofs.lemmas.List.Kept.{AllPairs-filter}
 use Rattle.std.proofs.lemmas.List.Quantifiers.{all_pairs_push}
 use Rattle.std.proofs.lemmas.List.Sums.{count_by-le-length, length-filter}
-use Rattle.rad_recent.specs.Challenges.{Challenges, challenges_max, cut_challenges, has_state, is_challenge_live, last_challenge, next_number, with_challenge, without_answered}
+use Rattle.rad_recent.specs.Challenges.{Challenges, challenges_max, cut_challenges, has_state, is_challenge_live, last_challenge}
+use Rattle.rad_recent.specs.Challenges.{next_number, with_challenge, without_answered}
 use Rattle.rad_recent.specs.Challenges as challenges
 use Rattle.rad_recent.specs.Lawful.{AreLawfulChallenges, AreLawfulReplies, HaveDifferentKeys, IsLawfulChallenge}
 use Rattle.rad_recent.specs.Recent.{Replies, cut_replies, is_full, is_reply_live, kept_max, same_key, with_reply, without_key}
@@ -40,20 +42,24 @@ replies_left clock stays table lawful = record {
 }
 
 -- the clock goes on, and those that are no longer live go
-pub live_replies : (clock now : ℕ) (table : Replies) → clock ≤ now → AreLawfulReplies clock table → AreLawfulReplies now (cut_replies now table)
+pub live_replies : (clock now : ℕ) (table : Replies) → clock ≤ now → AreLawfulReplies clock table
+    → AreLawfulReplies now (cut_replies now table)
 live_replies clock now table later lawful = replies_left now (is_reply_live table.window now) table (record {
   few = lawful.few;
   keys = lawful.keys;
-  made = All-weaker (λ reply. reply.made ≤ clock) (λ reply. reply.made ≤ now) (λ reply made. omega (arith, made, later)) table.kept lawful.made;
+  made = All-weaker (λ reply. reply.made ≤ clock) (λ reply. reply.made ≤ now) (λ reply made. omega (arith, made, later)) table.kept
+      lawful.made;
 })
 
 -- the reply to a key goes
-pub other_replies : (clock : ℕ) (key : Key) (table : Replies) → AreLawfulReplies clock table → AreLawfulReplies clock (without_key key table)
+pub other_replies : (clock : ℕ) (key : Key) (table : Replies) → AreLawfulReplies clock table
+    → AreLawfulReplies clock (without_key key table)
 other_replies clock key = replies_left clock (λ reply. not (same_key key reply.key))
 
 -- one more, where there is room for it and no other has its key
 pub one_more_reply : (clock : ℕ) (reply : Kept) (table : Replies) → is_full table ≡ false → reply.made ≤ clock
-    → All (λ kept. HaveDifferentKeys kept reply) table.kept → AreLawfulReplies clock table → AreLawfulReplies clock (with_reply reply table)
+    → All (λ kept. HaveDifferentKeys kept reply) table.kept → AreLawfulReplies clock table
+    → AreLawfulReplies clock (with_reply reply table)
 one_more_reply clock reply table room made apart lawful = record {
   few = omega (arith, leb-false kept_max (length table.kept) room, length_push table.kept reply);
   keys = all_pairs_push HaveDifferentKeys table.kept reply lawful.keys apart;
@@ -127,7 +133,8 @@ one_more_challenge clock row table room rises last made lawful =
           (λ k d within. omega (arith, (lawful.each k d within).number.1, rises));
       each = All-push (IsLawfulChallenge clock (row.number + 1)) table.challenges row
           (All-weaker (IsLawfulChallenge clock table.next) (IsLawfulChallenge clock (row.number + 1))
-          (challenge_later clock clock table.next (row.number + 1) (omega arith) (omega (arith, rises))) table.challenges lawful.each)
+          (challenge_later clock clock table.next (row.number + 1) (omega arith) (omega (arith, rises))) table.challenges
+          lawful.each)
           (record { number = (omega (arith, first, rises), omega arith); made = made });
     }
 
@@ -151,7 +158,8 @@ next_number_says table is = at (nat_le challenges_max (length table.challenges))
     }
 
 -- one more waits
-pub more_challenges : (client user now : ℕ) (draw : List ℕ) (table : Challenges) → IsOk (next_number table) → AreLawfulChallenges now table
+pub more_challenges : (client user now : ℕ) (draw : List ℕ) (table : Challenges) → IsOk (next_number table)
+    → AreLawfulChallenges now table
     → AreLawfulChallenges now (with_challenge client user draw now table)
 more_challenges client user now draw table given lawful =
     let new : Challenge = record { number = table.next; draw = draw; client = client; user = user; made = now } in

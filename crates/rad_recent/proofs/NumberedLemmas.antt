@@ -1,4 +1,5 @@
-use Rattle.std.proofs.Common.{◌≡◌, ℕ, ◌+◌, ◌≤◌, Bool, true, false, cond, not, ◌&&◌, ◌||◌, List, [], ◌∷◌, Option, Some, None, refl, ap, ◌∙◌, sym, subst, eqb, filter, find, length, is_some, unwrap_or, true≢false, arith}
+use Rattle.std.proofs.Common.{◌≡◌, ℕ, ◌+◌, ◌≤◌, Bool, true, false, cond, not, ◌&&◌, ◌||◌, List, [], ◌∷◌, Option, Some, None, refl}
+use Rattle.std.proofs.Common.{ap, ◌∙◌, sym, subst, eqb, filter, find, length, is_some, unwrap_or, true≢false, arith}
 use Rattle.std.specs.List.{All, AllPairs, list_any}
 use Rattle.std.specs.Option.{option_map}
 use Rattle.std.proofs.lemmas.Bool.{eqb-true, eq-eqb}
@@ -34,7 +35,8 @@ doors_are Acct Acct h = refl
 -- the same key is an equal one
 pub key_is : (key other : Key) → same_key key other ≡ true → key ≡ other
 key_is key other h =
-    let a = both ((eqb key.source other.source && eqb key.port other.port) && same_door key.door other.door) (eqb key.id other.id) h in
+    let a = both ((eqb key.source other.source && eqb key.port other.port) && same_door key.door other.door)
+    (eqb key.id other.id) h in
     let b = both (eqb key.source other.source && eqb key.port other.port) (same_door key.door other.door) a.0 in
     let c = both (eqb key.source other.source) (eqb key.port other.port) b.0 in
     let source = eqb-true key.source other.source c.0 in
@@ -50,7 +52,8 @@ doors_same Acct = refl
 
 -- a key is the same as itself
 pub key_same : (key : Key) → same_key key key ≡ true
-key_same key = λ j. ((eq-eqb key.source key.source refl j && eq-eqb key.port key.port refl j) && doors_same key.door j) && eq-eqb key.id key.id refl j
+key_same key = λ j. ((eq-eqb key.source key.source refl j && eq-eqb key.port key.port refl j) && doors_same key.door j)
+    && eq-eqb key.id key.id refl j
 
 -- and the other way round
 pub key_turned : (key other : Key) → same_key key other ≡ true → same_key other key ≡ true
@@ -72,7 +75,8 @@ pub some_number : (a b : ℕ) → Some a ≡ Some b → a ≡ b
 some_number a b h = ap (λ o. unwrap_or o a) h
 
 -- a row has the key exactly where it has the key's number
-pub agrees : (es : List (Key × ℕ)) (key : Key) (n : ℕ) (row : Numbered) → number_at es key ≡ Some n → IsIndexed es row → same_key key row.kept.key ≡ eqb row.number n
+pub agrees : (es : List (Key × ℕ)) (key : Key) (n : ℕ) (row : Numbered) → number_at es key ≡ Some n → IsIndexed es row
+    → same_key key row.kept.key ≡ eqb row.number n
 agrees es key n row at is = by_test (same_key key row.kept.key) refl
   where
     by_number : (b : Bool) → eqb row.number n ≡ b → same_key key row.kept.key ≡ false → false ≡ b
@@ -84,7 +88,8 @@ agrees es key n row at is = by_test (same_key key row.kept.key) refl
     by_test false e = e ∙ by_number (eqb row.number n) refl e ∙ refl
 
 -- where a key has no number, it has no row
-pub no_row : (es : List (Key × ℕ)) (key : Key) (row : Numbered) → number_at es key ≡ None → IsIndexed es row → same_key key row.kept.key ≡ false
+pub no_row : (es : List (Key × ℕ)) (key : Key) (row : Numbered) → number_at es key ≡ None → IsIndexed es row
+    → same_key key row.kept.key ≡ false
 no_row es key row at is = by_test (same_key key row.kept.key) refl
   where
     by_test : (b : Bool) → same_key key row.kept.key ≡ b → same_key key row.kept.key ≡ false
@@ -100,7 +105,8 @@ none_has_key es key (row ∷ rows) at h =
     (none_has_key es key rows at (All-tail (IsIndexed es) row rows h))
 
 -- otherwise one has it exactly where there is a row of the number
-pub has_key_is : (es : List (Key × ℕ)) (key : Key) (n : ℕ) (rows : List Numbered) → number_at es key ≡ Some n → All (IsIndexed es) rows
+pub has_key_is : (es : List (Key × ℕ)) (key : Key) (n : ℕ) (rows : List Numbered) → number_at es key ≡ Some n
+    → All (IsIndexed es) rows
     → list_any (λ reply. same_key reply.key key) (replies_of rows) ≡ is_some (find (has_number number_of n) rows)
 has_key_is es key n [] at h = refl
 has_key_is es key n (row ∷ rows) at h =
@@ -114,27 +120,35 @@ has_key_is es key n (row ∷ rows) at h =
 -- ---- replies and rows
 
 -- to filter by a test that agrees on all rows
-pub filter_all_agree : (p q : Numbered → Bool) (rows : List Numbered) → All (λ row. p row ≡ q row) rows → filter p rows ≡ filter q rows
+pub filter_all_agree : (p q : Numbered → Bool) (rows : List Numbered) → All (λ row. p row ≡ q row) rows
+    → filter p rows ≡ filter q rows
 filter_all_agree p q [] h = refl
 filter_all_agree p q (row ∷ rows) h =
-    λ j. cond (All-head (λ row. p row ≡ q row) row rows h j) (row ∷ filter_all_agree p q rows (All-tail (λ row. p row ≡ q row) row rows h) j) (filter_all_agree p q rows (All-tail (λ row. p row ≡ q row) row rows h) j)
+    λ j. cond (All-head (λ row. p row ≡ q row) row rows h j)
+    (row ∷ filter_all_agree p q rows (All-tail (λ row. p row ≡ q row) row rows h) j)
+    (filter_all_agree p q rows (All-tail (λ row. p row ≡ q row) row rows h) j)
 
 -- the replies of the rows that pass are the replies that pass
-pub replies_filter : (p : Kept → Bool) (rows : List Numbered) → replies_of (filter (λ row. p row.kept) rows) ≡ filter p (replies_of rows)
+pub replies_filter : (p : Kept → Bool) (rows : List Numbered)
+    → replies_of (filter (λ row. p row.kept) rows) ≡ filter p (replies_of rows)
 replies_filter p [] = refl
 replies_filter p (row ∷ rows) = by_test (p row.kept) refl (replies_filter p rows)
   where
-    by_test : (b : Bool) → p row.kept ≡ b → replies_of (filter (λ row. p row.kept) rows) ≡ filter p (replies_of rows) → replies_of (filter (λ row. p row.kept) (row ∷ rows)) ≡ filter p (replies_of (row ∷ rows))
+    by_test : (b : Bool) → p row.kept ≡ b → replies_of (filter (λ row. p row.kept) rows) ≡ filter p (replies_of rows)
+        → replies_of (filter (λ row. p row.kept) (row ∷ rows)) ≡ filter p (replies_of (row ∷ rows))
     by_test true e more = rw (e) (ap (λ l. row.kept ∷ l) more)
     by_test false e more = rw (e) more
 
 -- the reply that is found is that of the row that is found
-pub find_replies : (p q : Kept → Bool) (rows : List Numbered) → find q (filter p (replies_of rows)) ≡ option_map (λ row. row.kept) (find (λ row. p row.kept && q row.kept) rows)
+pub find_replies : (p q : Kept → Bool) (rows : List Numbered)
+    → find q (filter p (replies_of rows)) ≡ option_map (λ row. row.kept) (find (λ row. p row.kept && q row.kept) rows)
 find_replies p q [] = refl
 find_replies p q (row ∷ rows) = by_test (p row.kept) refl (q row.kept) refl (find_replies p q rows)
   where
-    by_test : (a : Bool) → p row.kept ≡ a → (b : Bool) → q row.kept ≡ b → find q (filter p (replies_of rows)) ≡ option_map (λ row. row.kept) (find (λ row. p row.kept && q row.kept) rows)
-        → find q (filter p (replies_of (row ∷ rows))) ≡ option_map (λ row. row.kept) (find (λ row. p row.kept && q row.kept) (row ∷ rows))
+    by_test : (a : Bool) → p row.kept ≡ a → (b : Bool) → q row.kept ≡ b
+        → find q (filter p (replies_of rows)) ≡ option_map (λ row. row.kept) (find (λ row. p row.kept && q row.kept) rows)
+        → find q (filter p (replies_of (row ∷ rows)))
+        ≡ option_map (λ row. row.kept) (find (λ row. p row.kept && q row.kept) (row ∷ rows))
     by_test true e true e' more = rw (e, e') refl
     by_test true e false e' more = rw (e, e') more
     by_test false e b e' more = rw (e) more
@@ -196,7 +210,8 @@ module _ (p : Kept → Bool) (es : List (Key × ℕ)) (key : Key) (rows : List N
 
   -- the key has no number
   pub count_none : number_at es key ≡ None → others_of ≡ length (filter live rows)
-  count_none at = among_rows ∙ ap length (sym (none_removed es key (filter live rows) at (All-filter live (IsIndexed es) rows indexed)))
+  count_none at =
+      among_rows ∙ ap length (sym (none_removed es key (filter live rows) at (All-filter live (IsIndexed es) rows indexed)))
 
   module _ (n : ℕ) (at : number_at es key ≡ Some n) where
     -- the key has a number
@@ -208,10 +223,12 @@ module _ (p : Kept → Bool) (es : List (Key × ℕ)) (key : Key) (rows : List N
     pub count_vacant : find (has_number number_of n) rows ≡ None → others_of ≡ length (filter live rows)
     count_vacant none = count_number ∙ others_none number_of n (filter live rows) (live_none number_of n live rows none)
 
-    module _ (x : Numbered) (rising : AllPairs (IsBefore number_of) rows) (there : find (has_number number_of n) rows ≡ Some x) where
+    module _ (x : Numbered) (rising : AllPairs (IsBefore number_of) rows)
+        (there : find (has_number number_of n) rows ≡ Some x) where
       -- it is of a row that isn't live
       pub count_dead : p x.kept ≡ false → others_of ≡ length (filter live rows)
-      count_dead dead = count_number ∙ others_none number_of n (filter live rows) (live_false number_of n live rows x rising there dead)
+      count_dead dead =
+          count_number ∙ others_none number_of n (filter live rows) (live_false number_of n live rows x rising there dead)
 
       -- it is of a live row
       pub count_live : p x.kept ≡ true → others_of + 1 ≡ length (filter live rows)
@@ -219,10 +236,18 @@ module _ (p : Kept → Bool) (es : List (Key × ℕ)) (key : Key) (rows : List N
           omega (
             arith,
             count_number,
-            others_some number_of n (filter live rows) x (AllPairs-filter (IsBefore number_of) live rows rising) (live_true number_of n live rows x there lives),
+            others_some number_of n (filter live rows) x (AllPairs-filter (IsBefore number_of) live rows rising)
+                (live_true number_of n live rows x there lives),
           )
 
 -- no more replies than rows
 pub others_le : (p q : Kept → Bool) (rows : List Numbered) → length (filter q (filter p (replies_of rows))) ≤ length rows
 others_le p q rows =
-    omega (arith, length-filter q (filter p (replies_of rows)), count_by-le-length q (filter p (replies_of rows)), length-filter p (replies_of rows), count_by-le-length p (replies_of rows), length-map rows (λ row. row.kept))
+    omega (
+      arith,
+      length-filter q (filter p (replies_of rows)),
+      count_by-le-length q (filter p (replies_of rows)),
+      length-filter p (replies_of rows),
+      count_by-le-length p (replies_of rows),
+      length-map rows (λ row. row.kept),
+    )

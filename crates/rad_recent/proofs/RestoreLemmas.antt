@@ -1,5 +1,7 @@
--- What the rules of `restore` say, and that they are the law: the proofs of the later clauses of `lawful_replies` and `lawful_challenges`.
-use Rattle.std.proofs.Common.{◌≡◌, ℕ, suc, ◌+◌, ◌-◌, ◌≤◌, ◌<◌, Bool, true, false, not, nat_le, nat_lt, List, [], ◌∷◌, ◌++◌, length, filter, Ok, arith, refl, sym, ap, subst, ◌∙◌}
+-- What the rules of `restore` say, and that they are the law: the proofs of the later clauses of `lawful_replies` and
+-- `lawful_challenges`.
+use Rattle.std.proofs.Common.{◌≡◌, ℕ, suc, ◌+◌, ◌-◌, ◌≤◌, ◌<◌, Bool, true, false, not, nat_le, nat_lt, List, [], ◌∷◌, ◌++◌, length}
+use Rattle.std.proofs.Common.{filter, Ok, arith, refl, sym, ap, subst, ◌∙◌}
 use Rattle.std.specs.List.{All, AllPairs, list_any}
 use Rattle.std.proofs.lemmas.Bool.{both_ways, le-ltb, leb-false, lt-leb, ltb-false}
 use Rattle.std.proofs.lemmas.List.{append-nil, append_assoc, get_or-append-add, get_or_append_left, length-append, length_push}
@@ -7,9 +9,13 @@ use Rattle.std.proofs.lemmas.List.Elements.{All-contains, All-head, All-tail, Al
 use Rattle.std.proofs.lemmas.List.Folds.{list_any_at, list_any_none}
 use Rattle.rad_packet.specs.Ladders.{◌>>=◌, refuse_if}
 use Rattle.rad_recent.specs.Challenges.{Challenges, challenges_max}
-use Rattle.rad_recent.specs.Lawful.{AreLawfulChallenges, AreLawfulReplies, HaveDifferentKeys, IsLawfulChallenge, RestoreRebuildsChallenges, RestoreRebuildsReplies, RestoredChallengeIsTheLaw, RestoredLastChallengeIsTheLaw, RestoredReplyIsTheLaw}
+use Rattle.rad_recent.specs.Lawful.{AreLawfulChallenges, AreLawfulReplies, HaveDifferentKeys, IsLawfulChallenge}
+use Rattle.rad_recent.specs.Lawful.{RestoreRebuildsChallenges, RestoreRebuildsReplies, RestoredChallengeIsTheLaw}
+use Rattle.rad_recent.specs.Lawful.{RestoredLastChallengeIsTheLaw, RestoredReplyIsTheLaw}
 use Rattle.rad_recent.specs.Recent.{Replies, is_full, kept_max, same_key, with_reply, without_key}
-use Rattle.rad_recent.specs.Restored.{challenge_restorable, challenges_rebuilt, challenges_restored, has_reply_to, last_challenge_restorable, replies_restored, reply_restorable, with_challenge_row, with_last_challenge}
+use Rattle.rad_recent.specs.Restored.{challenge_restorable, challenges_rebuilt, challenges_restored, has_reply_to}
+use Rattle.rad_recent.specs.Restored.{last_challenge_restorable, replies_restored, reply_restorable, with_challenge_row}
+use Rattle.rad_recent.specs.Restored.{with_last_challenge}
 use Rattle.rad_recent.specs.declared.challenge.Challenge.{Challenge}
 use Rattle.rad_recent.specs.declared.kept.Kept.{Kept}
 use Rattle.rad_recent.proofs.HoldLemmas.{not_full}
@@ -64,7 +70,8 @@ reply_says clock reply table is =
 -- it takes the place of none
 pub in_no_place : (clock : ℕ) (reply : Kept) (table : Replies) → reply_restorable clock reply table ≡ Ok tt
     → without_key reply.key table ≡ table
-in_no_place clock reply table is = λ j. record { kept = all_stay table.kept (reply_says clock reply table is).1 j; window = table.window }
+in_no_place clock reply table is =
+    λ j. record { kept = all_stay table.kept (reply_says clock reply table is).1 j; window = table.window }
   where
     all_stay : (kept : List Kept) → All (IsApart reply) kept → filter (λ other. not (same_key reply.key other.key)) kept ≡ kept
     all_stay [] apart = refl
@@ -89,7 +96,8 @@ restored_reply_is_the_law clock reply table lawful = (so, back)
 -- the rest of the replies, after those that are back
 rebuild_replies : (clock window : ℕ) (rest before : List Kept) → length before + length rest ≤ kept_max
     → AllPairs HaveDifferentKeys (before ++ rest) → All (IsMade clock) rest
-    → replies_restored clock rest (record { kept = before; window = window }) ≡ Ok (record { kept = before ++ rest; window = window })
+    → replies_restored clock rest (record { kept = before; window = window })
+    ≡ Ok (record { kept = before ++ rest; window = window })
 unfolding replies_restored
 rebuild_replies clock window [] before few keys made =
     ap (λ kept. Ok (record { kept = kept; window = window })) (sym (append-nil before))
@@ -126,7 +134,8 @@ restored_challenge_is_the_law clock row table last lawful = (so, back)
     so : challenge_restorable clock row table ≡ Ok tt
         → (table.next ≤ row.number) × AreLawfulChallenges clock (with_challenge_row row table)
     so is =
-        let says = three_pass (nat_lt row.number table.next) (nat_lt clock row.made) (nat_le challenges_max (length challenges)) _ _ _ is in
+        let says = three_pass (nat_lt row.number table.next) (nat_lt clock row.made) (nat_le challenges_max (length challenges)) _ _
+        _ is in
         let rises = ltb-false row.number table.next says.0 in
         let few = leb-false challenges_max (length challenges) says.2 in
         (rises, one_more_challenge clock row table few rises last (ltb-false clock row.made says.1) lawful)
@@ -185,7 +194,8 @@ rebuild_challenges clock hold top (row ∷ rest) before next few most rising lat
       more.0,
       ap (λ r. r >>= (λ done. challenges_restored clock rest (with_challenge_row row here))) fits
           ∙ more.1
-          ∙ ap (λ challenges. Ok (record { challenges = challenges; next = more.0; hold = hold })) (append_assoc before (row ∷ []) rest),
+          ∙ ap (λ challenges. Ok (record { challenges = challenges; next = more.0; hold = hold }))
+          (append_assoc before (row ∷ []) rest),
       more.2,
     )
 

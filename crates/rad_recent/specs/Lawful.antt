@@ -2,11 +2,13 @@
 -- where there is room, while moments don't fall. `lawful_replies` and `lawful_challenges` say so.
 use Rattle.std.specs.Prelude.{◌≡◌, ◌↔◌, ℕ, ◌+◌, ◌≤◌, ◌<◌, false, List, length, All, AllPairs, IsOk, Ok}
 use Rattle.std.specs.Int.{IsInRange}
-use Rattle.rad_recent.specs.Challenges.{Challenges, challenges_max, cut_challenges, last_challenge, next_number, with_challenge, without_answered}
+use Rattle.rad_recent.specs.Challenges.{Challenges, challenges_max, cut_challenges, last_challenge, next_number, with_challenge}
+use Rattle.rad_recent.specs.Challenges.{without_answered}
 use Rattle.rad_recent.specs.Challenges as challenges
 use Rattle.rad_recent.specs.Recent.{Replies, cut_replies, is_full, kept_max, same_key, with_reply, without_key}
 use Rattle.rad_recent.specs.Recent as replies
-use Rattle.rad_recent.specs.Restored.{challenge_restorable, challenges_rebuilt, last_challenge_restorable, replies_rebuilt, reply_restorable, with_challenge_row, with_last_challenge}
+use Rattle.rad_recent.specs.Restored.{challenge_restorable, challenges_rebuilt, last_challenge_restorable, replies_rebuilt}
+use Rattle.rad_recent.specs.Restored.{reply_restorable, with_challenge_row, with_last_challenge}
 use Rattle.rad_recent.specs.declared.challenge.Challenge.{Challenge}
 use Rattle.rad_recent.specs.declared.kept.Kept.{Kept}
 use Rattle.rad_recent.specs.declared.key.Key.{Key}
@@ -100,14 +102,17 @@ RestoreRebuildsReplies = (clock : ℕ) (table : Replies) → AreLawfulReplies cl
 abbrev pub RestoredChallengeIsTheLaw : Type 0
 RestoredChallengeIsTheLaw = (clock : ℕ) (row : Challenge) (table : Challenges)
     → row.number ≤ last_challenge → AreLawfulChallenges clock table
-    → (challenge_restorable clock row table ≡ Ok tt) ↔ ((table.next ≤ row.number) × AreLawfulChallenges clock (with_challenge_row row table))
+    → (challenge_restorable clock row table ≡ Ok tt)
+    ↔ ((table.next ≤ row.number) × AreLawfulChallenges clock (with_challenge_row row table))
 
 -- the last number that was given, too, where no greater one was
 abbrev pub RestoredLastChallengeIsTheLaw : Type 0
 RestoredLastChallengeIsTheLaw = (clock last : ℕ) (table : Challenges)
     → last ≤ last_challenge → AreLawfulChallenges clock table
-    → (last_challenge_restorable last table ≡ Ok tt) ↔ ((table.next ≤ last + 1) × AreLawfulChallenges clock (with_last_challenge last table))
+    → (last_challenge_restorable last table ≡ Ok tt)
+    ↔ ((table.next ≤ last + 1) × AreLawfulChallenges clock (with_last_challenge last table))
 
 -- no lawful table of challenges is refused
 abbrev pub RestoreRebuildsChallenges : Type 0
-RestoreRebuildsChallenges = (clock : ℕ) (table : Challenges) → AreLawfulChallenges clock table → challenges_rebuilt clock table ≡ Ok table
+RestoreRebuildsChallenges =
+    (clock : ℕ) (table : Challenges) → AreLawfulChallenges clock table → challenges_rebuilt clock table ≡ Ok table

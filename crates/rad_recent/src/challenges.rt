@@ -2,8 +2,10 @@
 ghost use Rattle.std.specs.Prelude.{◌≡◌, ◌≤◌, ◌+◌, ◌↔◌, IfOk, IsErrOf, IsOk, IsTrue, OnErr, OnOk, false, option_map, true};
 ghost use Rattle.std.specs.Iterator.{YieldsFirst, item_count};
 ghost use Rattle.rad_config.specs.Spans.{moment_max, spans_of};
-ghost use Rattle.rad_recent.specs.Challenges.{AreSame, IsIssued, answered, cut_challenges, next_number, opening, waiting_with, with_challenge, without_answered};
-ghost use Rattle.rad_recent.specs.Restored.{challenge_restorable, last_challenge_restorable, with_challenge_row, with_last_challenge};
+ghost use Rattle.rad_recent.specs.Challenges.{AreSame, IsIssued, answered, cut_challenges, next_number, opening, waiting_with};
+ghost use Rattle.rad_recent.specs.Challenges.{with_challenge, without_answered};
+ghost use Rattle.rad_recent.specs.Restored.{challenge_restorable, last_challenge_restorable, with_challenge_row};
+ghost use Rattle.rad_recent.specs.Restored.{with_last_challenge};
 ghost use Rattle.rad_row_fault.specs.Follows.{FollowsRules};
 
 use crate::challenge::{Challenge, Nobody, Party};
@@ -171,8 +173,8 @@ impl Challenges {
         Ok(number)
     }
 
-    /// Adds a challenge, with the next number, sent to the client at place `client` for the user at place `user`. One more may wait,
-    /// and memory was made ready for it.
+    /// Adds a challenge, with the next number, sent to the client at place `client` for the user at place `user`. One more may
+    /// wait, and memory was made ready for it.
     #[tactic(auto, unfolding(crate::specs::Challenges::next_number))]
     pub fn add(&mut self, client: u32, user: u32, draw: &[u8; 16], now: u64)
         requires room { self.old.has_room ≡ true }
@@ -220,8 +222,8 @@ impl Challenges {
 
     /// Puts back a challenge that once waited, after the others; challenges are put back in the order of their numbers.
     ///
-    /// The clock is in milliseconds. Refusals are reported in the order of `challenge_restorable`. After a refusal the table is as it
-    /// was. Source: RFC 2865, section 4.4.
+    /// The clock is in milliseconds. Refusals are reported in the order of `challenge_restorable`. After a refusal the table is as
+    /// it was. Source: RFC 2865, section 4.4.
     pub fn restore(&mut self, row: Challenge, clock: u64) -> Result<(), RowFault>
         ensures answer { FollowsRules (challenge_restorable clock row self.old.table) result }
         ensures restored { OnOk result (self.new.table ≡ with_challenge_row row self.old.table) }

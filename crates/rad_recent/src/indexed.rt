@@ -1,5 +1,6 @@
 //! Rows of kept replies, and the index that finds them.
-ghost use Rattle.std.specs.Prelude.{◌≡◌, ℕ, ◌+◌, ◌≤◌, ◌&&◌, ◌++◌, ◌∷◌, [], All, count_by, filter, find, not, option_copied, option_map, IsOk, None, OnErr, OnOk, Some};
+ghost use Rattle.std.specs.Prelude.{◌≡◌, ℕ, ◌+◌, ◌≤◌, ◌&&◌, ◌++◌, ◌∷◌, [], All, count_by, filter, find, not, option_copied};
+ghost use Rattle.std.specs.Prelude.{option_map, IsOk, None, OnErr, OnOk, Some};
 ghost use Rattle.std.specs.List.{list_any};
 ghost use Rattle.rad_config.specs.Spans.{moment_max};
 ghost use Rattle.rad_recent.specs.Index.{HoldsIndex, IsIndexed, is_row_live, replies_of};

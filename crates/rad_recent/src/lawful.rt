@@ -1,9 +1,13 @@
 //! The laws of the tables of kept replies and of challenges.
-ghost use Rattle.rad_recent.specs.Lawful.{AnswerLeavesLawfulChallenges, ExpiryLeavesLawfulChallenges, ExpiryLeavesLawfulReplies, IssueLeavesLawfulChallenges, KeepingLeavesLawfulReplies, OpeningChallengesAreLawful, OpeningRepliesAreLawful, RemovalLeavesLawfulReplies, RestoreRebuildsChallenges, RestoreRebuildsReplies, RestoredChallengeIsTheLaw, RestoredLastChallengeIsTheLaw, RestoredReplyIsTheLaw};
+ghost use Rattle.rad_recent.specs.Lawful.{AnswerLeavesLawfulChallenges, ExpiryLeavesLawfulChallenges, ExpiryLeavesLawfulReplies};
+ghost use Rattle.rad_recent.specs.Lawful.{IssueLeavesLawfulChallenges, KeepingLeavesLawfulReplies, OpeningChallengesAreLawful};
+ghost use Rattle.rad_recent.specs.Lawful.{OpeningRepliesAreLawful, RemovalLeavesLawfulReplies, RestoreRebuildsChallenges};
+ghost use Rattle.rad_recent.specs.Lawful.{RestoreRebuildsReplies, RestoredChallengeIsTheLaw, RestoredLastChallengeIsTheLaw};
+ghost use Rattle.rad_recent.specs.Lawful.{RestoredReplyIsTheLaw};
 
-/// A table without kept replies is lawful, and expiry, removing the reply to a key, and keeping one in its place where there is room
-/// leave a lawful table so while moments don't fall. A reply is put back exactly where that leaves a lawful table so, and no lawful
-/// table is refused.
+/// A table without kept replies is lawful, and expiry, removing the reply to a key, and keeping one in its place where there is
+/// room leave a lawful table so while moments don't fall. A reply is put back exactly where that leaves a lawful table so, and no
+/// lawful table is refused.
 ///
 /// The call costs nothing: it does nothing at run time. Those who keep a table call it to rest on the law.
 pub fn lawful_replies()

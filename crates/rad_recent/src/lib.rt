@@ -9,7 +9,8 @@
 //! in an index by key, which `expire` tells of each row that goes.
 //!
 //! Other crates rest on this: each call does to a list, oldest first, what `specs/Recent.antt`, `specs/Challenges.antt` and
-//! `specs/Restored.antt` say, and `lawful_replies` and `lawful_challenges` say what these calls keep true of a lawful table (`specs/Lawful.antt`).
+//! `specs/Restored.antt` say, and `lawful_replies` and `lawful_challenges` say what these calls keep true of a lawful table
+//! (`specs/Lawful.antt`).
 #![tactic(auto)]
 
 mod answers;

@@ -1,9 +1,11 @@
 //! The table of kept replies.
-ghost use Rattle.std.specs.Prelude.{◌≡◌, ◌≤◌, ◌↔◌, IfOk, IsErrOf, IsOk, IsTrue, OnErr, OnOk, None, Some, option_copied, option_map, true};
+ghost use Rattle.std.specs.Prelude.{◌≡◌, ◌≤◌, ◌↔◌, IfOk, IsErrOf, IsOk, IsTrue, OnErr, OnOk, None, Some, option_copied, option_map};
+ghost use Rattle.std.specs.Prelude.{true};
 ghost use Rattle.std.specs.Iterator.{YieldsFirstBy, item_count};
 ghost use Rattle.rad_packet.specs.Ladders.{refuse_if};
 ghost use Rattle.rad_config.specs.Spans.{moment_max, spans_of};
-ghost use Rattle.rad_recent.specs.Recent.{IsKept, beside, cut_replies, is_full, opening, replies_for, reply_to, with_reply, without_key};
+ghost use Rattle.rad_recent.specs.Recent.{IsKept, beside, cut_replies, is_full, opening, replies_for, reply_to, with_reply};
+ghost use Rattle.rad_recent.specs.Recent.{without_key};
 ghost use Rattle.rad_recent.specs.Restored.{reply_restorable};
 ghost use Rattle.rad_row_fault.specs.Follows.{FollowsRules};
 
@@ -198,8 +200,9 @@ impl Recent {
     /// Removes the replies that are no longer live and the one to a request with this key, and keeps a new one as the last, which
     /// takes no client's share.
     ///
-    /// The octets are those of the request up to Length. Refusals are reported in the order of `KeepFault`. After a refusal the table
-    /// is as it was, and the octets and the body are dropped. The first `keep` after `room` with its key doesn't answer `NoMemory`.
+    /// The octets are those of the request up to Length. Refusals are reported in the order of `KeepFault`. After a refusal the
+    /// table is as it was, and the octets and the body are dropped. The first `keep` after `room` with its key doesn't answer
+    /// `NoMemory`.
     pub fn keep(&mut self, key: Key, octets: Vec<u8>, body: Body, now: u64) -> Result<(), KeepFault>
         requires { now ≤ moment_max }
         ensures outcome { IsKept now
@@ -241,8 +244,8 @@ impl Recent {
     /// Puts back a reply that a table once kept, after the others; replies are put back in the order in which they were made, which
     /// isn't looked at.
     ///
-    /// The clock is in milliseconds. Refusals are reported in the order of `reply_restorable`. After a refusal the table is as it was,
-    /// and the reply is dropped. Source: RFC 5080, section 2.2.2.
+    /// The clock is in milliseconds. Refusals are reported in the order of `reply_restorable`. After a refusal the table is as it
+    /// was, and the reply is dropped. Source: RFC 5080, section 2.2.2.
     pub fn restore(&mut self, reply: Kept, clock: u64) -> Result<(), RowFault>
         ensures answer { FollowsRules (reply_restorable clock reply self.old.table) result }
         ensures restored { OnOk result (self.new.table ≡ with_reply reply self.old.table) }

@@ -1,6 +1,6 @@
 -- A datagram line of a transcript: `MOMENT DOOR ADDRESS:PORT OCTETS [DRAW]`, with one space between, where the draw may be missing.
--- A text is a list of octets, which are numbers below 256; a moment is in milliseconds, and an address has its most significant octet
--- first.
+-- A text is a list of octets, which are numbers below 256; a moment is in milliseconds, and an address has its most significant
+-- octet first.
 use Rattle.std.specs.Prelude.{ℕ, ◌*◌, ◌==◌, ◌||◌, nat_lt, if◌then◌else◌, List, [], length, codes, Option, Some, None}
 use Rattle.std.specs.Result.{result_ok}
 use lib.Pointwise.{pointwise}

@@ -1,6 +1,8 @@
--- The text of a datagram line, without its line feed: `MOMENT DOOR ADDRESS:PORT OCTETS [DRAW]`, where the draw may be missing. A text is
--- a list of octets, which are numbers below 256; a moment is in milliseconds, and an address has its most significant octet first.
-use Rattle.std.specs.Prelude.{◌≡◌, ℕ, ◌/◌, ◌%◌, ◌^◌, ◌==◌, ◌<◌, ◌≤◌, if◌then◌else◌, List, [], ◌++◌, length, codes, decimal, Option, Some, None, IfSome}
+-- The text of a datagram line, without its line feed: `MOMENT DOOR ADDRESS:PORT OCTETS [DRAW]`, where the draw may be missing. A
+-- text is a list of octets, which are numbers below 256; a moment is in milliseconds, and an address has its most significant octet
+-- first.
+use Rattle.std.specs.Prelude.{◌≡◌, ℕ, ◌/◌, ◌%◌, ◌^◌, ◌==◌, ◌<◌, ◌≤◌, if◌then◌else◌, List, [], ◌++◌, length, codes, decimal, Option}
+use Rattle.std.specs.Prelude.{Some, None, IfSome}
 use Rattle.std.specs.Net.Text.{dotted_text}
 use Rattle.hex.specs.Hex.{IsBytes, encode_lower}
 use Rattle.rad_packet.specs.Codes.{code_access_challenge}
@@ -39,7 +41,8 @@ content_text octets draw = octets_text octets ++ draw_text draw
 abbrev pub datagram_text : TimedDatagram → List ℕ
 datagram_text timed =
     let datagram = timed.datagram in
-    decimal timed.moment ++ codes " " ++ door_name datagram.door ++ codes " " ++ source_text datagram ++ codes " " ++ content_text datagram.octets timed.draw
+    decimal timed.moment ++ codes " " ++ door_name datagram.door ++ codes " " ++ source_text datagram ++ codes " "
+    ++ content_text datagram.octets timed.draw
 
 -- the draw that a request's line needs, whose reply has this Code: that of an Access-Challenge, which has it in its State
 abbrev pub draw_needed : ℕ → List ℕ → Option (List ℕ)
@@ -49,7 +52,8 @@ draw_needed code draw = if code == code_access_challenge then Some draw else Non
 abbrev pub IsDraw : List ℕ → Type 0
 IsDraw draw = IsBytes draw × (length draw ≡ 16)
 
--- A line has room for this datagram: its numbers are in range, it is no longer than a packet, and its draw, if it has one, has 16 octets.
+-- A line has room for this datagram: its numbers are in range, it is no longer than a packet, and its draw, if it has one, has 16
+-- octets.
 pub record FitsLine (timed : TimedDatagram) : Type 0 where
   pub moment : timed.moment ≤ moment_max
   pub source : timed.datagram.source < 2 ^ 32

@@ -29,11 +29,13 @@ line_of_result configuration number request (Err refused) = nomemory_line number
 -- the new line is that of the request with this number, and the new state the one after it; with memory or without
 abbrev pub IsLineOfRequest : ℕ → ℕ → Option (List ℕ) → Request → Replay → Replay → Type 0
 IsLineOfRequest number moment draw request old new =
-    (has_memory : Bool) × (line_of_verdict old.configuration has_memory number old.state moment draw (Ok request) ≡ (new.line, new.state))
+    (has_memory : Bool) × (line_of_verdict old.configuration has_memory number old.state moment draw (Ok request)
+    ≡ (new.line, new.state))
 
 -- the same of the datagram with this number
 abbrev pub IsLineOf : ℕ → TimedDatagram → Replay → Replay → Type 0
-IsLineOf number timed old new = (has_memory : Bool) × (line_of old.configuration has_memory number old.state timed ≡ (new.line, new.state))
+IsLineOf number timed old new =
+    (has_memory : Bool) × (line_of old.configuration has_memory number old.state timed ≡ (new.line, new.state))
 
 -- an arrival, its moment, and the draw of its line if it has one
 abbrev pub datagram_arrived : ℕ → Option (List ℕ) → Arrival → TimedDatagram

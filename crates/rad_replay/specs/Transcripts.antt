@@ -1,6 +1,7 @@
 -- What a replay writes for the transcript that it reads: a line for each datagram, in order. A text is a list of octets,
 -- which are numbers below 256, and datagrams are numbered from 1.
-use Rattle.std.specs.Prelude.{◌≡◌, ◌⊎◌, ℕ, ◌+◌, ◌<◌, ◌≤◌, ◌==◌, Bool, true, false, not, List, [], ◌∷◌, ◌++◌, length, take, replicate, codes, decimal, Option, Some, None, IfSome, unwrap_or, Result, Ok, Err}
+use Rattle.std.specs.Prelude.{◌≡◌, ◌⊎◌, ℕ, ◌+◌, ◌<◌, ◌≤◌, ◌==◌, Bool, true, false, not, List, [], ◌∷◌, ◌++◌, length, take}
+use Rattle.std.specs.Prelude.{replicate, codes, decimal, Option, Some, None, IfSome, unwrap_or, Result, Ok, Err}
 use Rattle.std.specs.List.{list_any}
 use Rattle.std.specs.Int.{w64, to_be_bytes}
 use Rattle.hex.specs.Hex.{encode_lower}
@@ -62,7 +63,8 @@ answered configuration number request (answer, state) = (answer_line configurati
 -- the line of a request that was admitted, or of a discard, and the state after it; if memory is refused no step is made
 abbrev pub line_of_verdict : Configuration → Bool → ℕ → State → ℕ → Option (List ℕ) → Result Request Discard → List ℕ × State
 line_of_verdict configuration has_memory number state moment draw (Err discard) = (drop_line number discard, state)
-line_of_verdict configuration true number state moment draw (Ok request) = answered configuration number request (step configuration state request moment (draw_of number draw))
+line_of_verdict configuration true number state moment draw (Ok request) =
+    answered configuration number request (step configuration state request moment (draw_of number draw))
 line_of_verdict configuration false number state moment draw (Ok request) = (nomemory_line number, state)
 
 -- the line for a datagram, and the state after it
@@ -135,7 +137,8 @@ pub record IsInput (text : List ℕ) (configuration : Configuration) (lines : Li
 -- written. The number of the malformed line is reported.
 abbrev pub AnswersLines : Configuration → List (List ℕ) → (List ℕ → Type 0) → Option ℕ → Type 0
 AnswersLines configuration lines Writes malformed =
-    (without_memory : List ℕ) × (first_malformed 1 lines ≡ malformed) × Writes (written configuration without_memory (datagrams_of lines))
+    (without_memory : List ℕ) × (first_malformed 1 lines ≡ malformed)
+    × Writes (written configuration without_memory (datagrams_of lines))
 
 -- The writing of this text broke off: a front of it was written, and at least one octet wasn't.
 abbrev pub BreaksOff : (List ℕ → Type 0) → List ℕ → Type 0
@@ -144,11 +147,13 @@ BreaksOff Writes text = (front : List ℕ) × (rest : List ℕ) × (text ≡ fro
 -- It broke off in the lines of some first datagrams of those before the first malformed line.
 abbrev pub BreaksOffLines : Configuration → List (List ℕ) → (List ℕ → Type 0) → Type 0
 BreaksOffLines configuration lines Writes =
-    (without_memory : List ℕ) × (count : ℕ) × BreaksOff Writes (written configuration without_memory (take count (datagrams_of lines)))
+    (without_memory : List ℕ) × (count : ℕ)
+    × BreaksOff Writes (written configuration without_memory (take count (datagrams_of lines)))
 
 -- a fact about the configuration and the datagram lines of an input
 abbrev pub OfInput : List ℕ → (Configuration → List (List ℕ) → Type 0) → Type 0
-OfInput text Holds = (configuration : Configuration) × (lines : List (List ℕ)) × IsInput text configuration lines × Holds configuration lines
+OfInput text Holds =
+    (configuration : Configuration) × (lines : List (List ℕ)) × IsInput text configuration lines × Holds configuration lines
 
 -- What a run ends with, for an input and what was written. TooLong, NoDivider and Config are reported in this order, and they,
 -- Read and NoMemory before any line is answered. Before a Write fault the lines of some first datagrams went out, but for an
@@ -161,6 +166,7 @@ EndsRun text Writes (Err run.NoDivider) = (length text ≤ text_max) × (divided
 EndsRun text Writes (Err (run.Config reported)) =
     (length text ≤ text_max) × (before : List (List ℕ)) × (after : List (List ℕ)) × (divided (lines_of text) ≡ Some (before, after))
     × ((reported ≡ fault.NoMemory) ⊎ (configuration_of_octets (text_of before) ≡ Err reported)) × Writes []
-EndsRun text Writes (Err (run.BadLine number)) = OfInput text (λ configuration lines. AnswersLines configuration lines Writes (Some number))
+EndsRun text Writes (Err (run.BadLine number)) =
+    OfInput text (λ configuration lines. AnswersLines configuration lines Writes (Some number))
 EndsRun text Writes (Err run.Write) = OfInput text (λ configuration lines. BreaksOffLines configuration lines Writes)
 EndsRun text Writes (Err run.NoMemory) = Writes []

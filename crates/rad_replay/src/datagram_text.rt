@@ -2,7 +2,8 @@
 ghost use Rattle.std.specs.Prelude.{◌≡◌, ◌++◌, ◌<◌, decimal, slice_index, OnOk};
 ghost use Rattle.hex.specs.Hex.{encode_lower, lower_digits};
 ghost use Rattle.rad_auth.specs.Datagrams.{datagram_of};
-ghost use Rattle.rad_replay.specs.DatagramTexts.{door_name, source_text, address_text, octets_text, draw_text, content_text, draw_needed, datagram_text, DatagramTextsAreRead};
+ghost use Rattle.rad_replay.specs.DatagramTexts.{door_name, source_text, address_text, octets_text, draw_text, content_text};
+ghost use Rattle.rad_replay.specs.DatagramTexts.{draw_needed, datagram_text, DatagramTextsAreRead};
 ghost use Rattle.rad_replay.specs.Replays.{datagram_arrived};
 
 use rad_auth::{Arrival, Door};

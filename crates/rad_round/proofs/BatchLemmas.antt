@@ -1,6 +1,8 @@
 -- What a batch knows of its lanes.
-use Rattle.std.proofs.Common.{◌≡◌, ◌<◌, ℕ, zero, suc, ◌+◌, ◌*◌, List, [], ◌∷◌, length, map, replicate, get_or, All, Option, Some, None, IfSome, option_map, slice_get, arith, refl, sym, ap, subst, ◌∙◌}
-use Rattle.std.proofs.lemmas.Option.{get_or_from_slice_get, none-some, slice_get-get_or, slice_get-map, slice_get_read, slice_get_within}
+use Rattle.std.proofs.Common.{◌≡◌, ◌<◌, ℕ, zero, suc, ◌+◌, ◌*◌, List, [], ◌∷◌, length, map, replicate, get_or, All, Option, Some}
+use Rattle.std.proofs.Common.{None, IfSome, option_map, slice_get, arith, refl, sym, ap, subst, ◌∙◌}
+use Rattle.std.proofs.lemmas.Option.{get_or_from_slice_get, none-some, slice_get-get_or, slice_get-map, slice_get_read}
+use Rattle.std.proofs.lemmas.Option.{slice_get_within}
 use Rattle.std.proofs.lemmas.List.{length-map}
 use Rattle.rad_packet.specs.Packets.{packet_octets}
 use Rattle.rad_config.specs.Configurations.{Configuration}
@@ -13,7 +15,8 @@ use Rattle.rad_auth.specs.declared.arrival.Arrival.{Arrival}
 use Rattle.rad_auth.specs.declared.job.Job.{Job}
 use Rattle.rad_desk.specs.declared.receipt.Receipt.{Receipt}
 use Rattle.rad_server.specs.declared.entry.Entry.{Entry}
-use Rattle.rad_round.specs.Works.{AreAskedOf, AreLanes, AreSealed, AreVerdicts, CheckedBatch, HasOctets, IsAskedOf, IsChecked, IsJobIn, IsLane, IsLaneOf, IsReady, IsVerdict, Verdict, entry_of, unasked}
+use Rattle.rad_round.specs.Works.{AreAskedOf, AreLanes, AreSealed, AreVerdicts, CheckedBatch, HasOctets, IsAskedOf, IsChecked}
+use Rattle.rad_round.specs.Works.{IsJobIn, IsLane, IsLaneOf, IsReady, IsVerdict, Verdict, entry_of, unasked}
 use Rattle.rad_round.specs.Rounds.{IsSentAs}
 use Rattle.rad_server.specs.Steps.{IsSealable}
 use Rattle.rad_auth.specs.declared.arrival.Request.{Request}
@@ -26,7 +29,8 @@ use Rattle.rad_round.proofs.ListLemmas.{some_is, zip2_get}
 -- ---- verdicts
 
 -- the admission of the arrivals at eight places is what the lanes of a batch say
-pub verdicts_of : (clients : List Client) (arrivals : List Timed) (first : ℕ) (lanes : List (Option Arrival)) (verdicts : List Verdict)
+pub verdicts_of : (clients : List Client) (arrivals : List Timed) (first : ℕ) (lanes : List (Option Arrival))
+    (verdicts : List Verdict)
     → verdicts ≡ map (lane_admission clients) lanes
     → ((lane : ℕ) (arrival : Option Arrival) → slice_get lanes lane ≡ Some arrival
     → arrival ≡ option_map (λ timed. timed.arrival) (slice_get arrivals (first + lane)))
@@ -66,7 +70,8 @@ pub sealed_of : (clients : List Client) (verdicts : List Verdict) (asked : List 
     (jobs : List (Option Job)) (before after : List (List ℕ)) → after ≡ sealed jobs before
     → ((lane : ℕ) (job : Option Job) → slice_get jobs lane ≡ Some job → IsJobIn clients verdicts asked lane job)
     → AreSealed clients verdicts asked after
-sealed_of clients verdicts asked jobs before after are jobs_are lane frame at_frame verdict receipt at_verdict at_asked request body sends =
+sealed_of clients verdicts asked jobs before after are jobs_are lane frame at_frame verdict receipt at_verdict at_asked request body
+    sends =
     let there = zip2_get lane_octets jobs before lane frame (ap (λ list. slice_get list lane) (sym are) ∙ at_frame) in
     let job = jobs_are lane there.0 there.2 verdict receipt at_verdict at_asked request body sends in
     sym there.3 ∙ ap (λ some. lane_octets some there.1) job.1 ∙ job.2
@@ -113,7 +118,8 @@ the_read xs k read x is at = sym (get_or_from_slice_get xs k x read at) ∙ sym 
 
 -- where there is no arrival there is no verdict, else it is that of its admission
 verdict_at : (clients : List Client) (arrivals : List Timed) (number : ℕ) (verdict : Verdict) (some : Option Timed)
-    → slice_get arrivals number ≡ some → IsVerdict clients arrivals number verdict → verdict ≡ option_map (λ timed. admission clients (datagram_of timed.arrival)) some
+    → slice_get arrivals number ≡ some → IsVerdict clients arrivals number verdict
+    → verdict ≡ option_map (λ timed. admission clients (datagram_of timed.arrival)) some
 verdict_at clients arrivals number verdict some at is =
     is.value ∙ ap (option_map (λ timed. admission clients (datagram_of timed.arrival))) at
 
@@ -132,13 +138,16 @@ unasked_lane clients arrivals number verdict is = by (slice_get arrivals number)
         subst (λ v. IsLane clients arrivals number (unasked v) None) (sym (verdict_at clients arrivals number verdict None at is))
         (at, refl)
     by (Some timed) at =
-        subst (λ v. IsLane clients arrivals number (unasked v) None) (sym (verdict_at clients arrivals number verdict (Some timed) at is))
+        subst (λ v. IsLane clients arrivals number (unasked v) None)
+        (sym (verdict_at clients arrivals number verdict (Some timed) at is))
         (of timed (admission clients (datagram_of timed.arrival)) at refl)
 
 -- a lane that was asked, where the answer is sent as this outcome
-pub asked_lane : (clients : List Client) (arrivals : List Timed) (number : ℕ) (verdict : Verdict) (receipt : Receipt) (outcome : Outcome)
+pub asked_lane : (clients : List Client) (arrivals : List Timed) (number : ℕ) (verdict : Verdict) (receipt : Receipt)
+    (outcome : Outcome)
     → IsVerdict clients arrivals number verdict → (asked : IsAskedOf arrivals number verdict receipt)
-    → IsSentAs clients asked.request receipt.entry.answer outcome → IsLane clients arrivals number (Some outcome) (Some receipt.entry)
+    → IsSentAs clients asked.request receipt.entry.answer outcome
+    → IsLane clients arrivals number (Some outcome) (Some receipt.entry)
 asked_lane clients arrivals number verdict receipt outcome is asked sent =
     let said : Some (admission clients (datagram_of asked.timed.arrival)) ≡ Some (Ok asked.request) =
     sym (verdict_at clients arrivals number verdict (Some asked.timed) asked.arrival is) ∙ asked.verdict_is in (
@@ -154,7 +163,8 @@ asked_lane clients arrivals number verdict receipt outcome is asked sent =
     )
 
 -- the verdict in each lane
-pub verdict_in : (batch_clients : List Client) (arrivals : List Timed) (number : ℕ) (verdicts : List Verdict) (lane : ℕ) (verdict : Verdict)
+pub verdict_in : (batch_clients : List Client) (arrivals : List Timed) (number : ℕ) (verdicts : List Verdict) (lane : ℕ)
+    (verdict : Verdict)
     → IsChecked batch_clients arrivals number verdicts → lane < 8 → verdict ≡ get_or verdicts lane verdict
     → (slice_get verdicts lane ≡ Some verdict) × IsVerdict batch_clients arrivals (number * 8 + lane) verdict
 verdict_in clients arrivals number verdicts lane verdict checked within is =
@@ -164,14 +174,17 @@ verdict_in clients arrivals number verdicts lane verdict checked within is =
 
 -- the verdict in a lane of which nothing was read
 some_verdict : (batch : CheckedBatch) (lane : ℕ) → IsCheckedBatch batch → lane < 8
-    → (verdict : Verdict) × (slice_get batch.verdicts lane ≡ Some verdict) × IsVerdict batch.configuration.clients batch.arrivals (batch.number * 8 + lane) verdict
+    → (verdict : Verdict) × (slice_get batch.verdicts lane ≡ Some verdict)
+    × IsVerdict batch.configuration.clients batch.arrivals (batch.number * 8 + lane) verdict
 some_verdict batch lane checked within =
     let verdict = get_or batch.verdicts lane None in
-    let at : slice_get batch.verdicts lane ≡ Some verdict = slice_get-get_or batch.verdicts lane None (omega (arith, within, checked.lanes)) in
+    let at : slice_get batch.verdicts lane ≡ Some verdict =
+    slice_get-get_or batch.verdicts lane None (omega (arith, within, checked.lanes)) in
     (verdict, at, checked.checked lane verdict at)
 
 -- what the lanes of a batch have of which nothing was asked
-pub lanes_unasked : (batch : CheckedBatch) (outcomes : List (Option Outcome)) → IsCheckedBatch batch → outcomes ≡ map unasked batch.verdicts
+pub lanes_unasked : (batch : CheckedBatch) (outcomes : List (Option Outcome)) → IsCheckedBatch batch
+    → outcomes ≡ map unasked batch.verdicts
     → AreLanes batch.configuration.clients batch.arrivals batch.number outcomes (replicate 8 None)
 lanes_unasked batch outcomes checked are = record { outcome_each = outcome_each; entry_each = refl; each = each }
   where
@@ -191,22 +204,27 @@ lanes_unasked batch outcomes checked are = record { outcome_each = outcome_each;
         (unasked_lane batch.configuration.clients batch.arrivals (batch.number * 8 + lane) verdict.0 verdict.2))
 
 -- what the lane of a receipt has, where its answer is sent as this outcome
-pub lane_of : (batch : CheckedBatch) (asked : List (Option Receipt)) (lane : ℕ) (receipt : Receipt) (outcome : Outcome) → IsCheckedBatch batch → lane < 8
+pub lane_of : (batch : CheckedBatch) (asked : List (Option Receipt)) (lane : ℕ) (receipt : Receipt) (outcome : Outcome)
+    → IsCheckedBatch batch → lane < 8
     → AreAskedOf batch asked → slice_get asked lane ≡ Some (Some receipt)
-    → ((verdict : Verdict) (is : IsAskedOf batch.arrivals (batch.number * 8 + lane) verdict receipt) → slice_get batch.verdicts lane ≡ Some verdict
+    → ((verdict : Verdict) (is : IsAskedOf batch.arrivals (batch.number * 8 + lane) verdict receipt)
+    → slice_get batch.verdicts lane ≡ Some verdict
     → IsSentAs batch.configuration.clients is.request receipt.entry.answer outcome)
     → IsLane batch.configuration.clients batch.arrivals (batch.number * 8 + lane) (Some outcome) (Some receipt.entry)
 lane_of batch asked lane receipt outcome checked within are at sent =
     let said = some_verdict batch lane checked within in
     let is = are.1 lane said.0 (Some receipt) said.1 at in
-    asked_lane batch.configuration.clients batch.arrivals (batch.number * 8 + lane) said.0 receipt outcome said.2 is (sent said.0 is said.1)
+    asked_lane batch.configuration.clients batch.arrivals (batch.number * 8 + lane) said.0 receipt outcome said.2 is
+    (sent said.0 is said.1)
 
 -- an answer that was read in a lane can be sealed
-pub sealable_in : (batch : CheckedBatch) (asked : List (Option Receipt)) (lane : ℕ) (read : Option Receipt) → IsCheckedBatch batch → lane < 8
+pub sealable_in : (batch : CheckedBatch) (asked : List (Option Receipt)) (lane : ℕ) (read : Option Receipt) → IsCheckedBatch batch
+    → lane < 8
     → AreAskedOf batch asked → read ≡ get_or asked lane read → IfSome read (λ receipt. IsSealable receipt.entry.answer)
 sealable_in batch asked lane read checked within are is = by read (are.1 lane said.0 read said.1 at)
   where
-    said : (verdict : Verdict) × (slice_get batch.verdicts lane ≡ Some verdict) × IsVerdict batch.configuration.clients batch.arrivals (batch.number * 8 + lane) verdict
+    said : (verdict : Verdict) × (slice_get batch.verdicts lane ≡ Some verdict)
+        × IsVerdict batch.configuration.clients batch.arrivals (batch.number * 8 + lane) verdict
     said = some_verdict batch lane checked within
 
     at : slice_get asked lane ≡ Some read
@@ -220,18 +238,23 @@ sealable_in batch asked lane read checked within are is = by read (are.1 lane sa
 -- ---- what is asked
 
 -- the request of a verdict
-the_request : (asked request : Request) → (admitted : Verdict) → admitted ≡ Some (Ok asked) → admitted ≡ Some (Ok request) → request ≡ asked
+the_request : (asked request : Request) → (admitted : Verdict) → admitted ≡ Some (Ok asked) → admitted ≡ Some (Ok request)
+    → request ≡ asked
 the_request asked request admitted is same = cc
 
 -- what a lane with a prepared request and with octets says
-pub record IsLaneReady (configuration : Configuration) (verdicts : List Verdict) (lane : ℕ) (prepared : Prepared) (octets : List ℕ) : Type 0 where
+pub record IsLaneReady (configuration : Configuration) (verdicts : List Verdict) (lane : ℕ) (prepared : Prepared)
+    (octets : List ℕ) : Type 0 where
   pub configuration_is : prepared.configuration ≡ configuration
   pub octets_are : octets ≡ packet_octets prepared.request.packet
   pub verdict_is : (verdict : Verdict) → slice_get verdicts lane ≡ Some verdict → verdict ≡ Some (Ok prepared.request)
 
-pub lane_ready : (configuration : Configuration) (arrivals : List Timed) (number : ℕ) (verdicts : List Verdict) (prepared : List (Option Prepared))
-    (octets : List (Option (List ℕ))) (lane : ℕ) (read : Option Prepared) (own : Option (List ℕ)) (request : Prepared) (some : List ℕ)
-    → IsReady configuration arrivals number verdicts prepared octets → lane < 8 → read ≡ get_or prepared lane read → own ≡ get_or octets lane own
+pub lane_ready : (configuration : Configuration) (arrivals : List Timed) (number : ℕ) (verdicts : List Verdict)
+    (prepared : List (Option Prepared))
+    (octets : List (Option (List ℕ))) (lane : ℕ) (read : Option Prepared) (own : Option (List ℕ)) (request : Prepared)
+    (some : List ℕ)
+    → IsReady configuration arrivals number verdicts prepared octets → lane < 8 → read ≡ get_or prepared lane read
+    → own ≡ get_or octets lane own
     → read ≡ Some request → own ≡ Some some → IsLaneReady configuration verdicts lane request some
 lane_ready configuration arrivals number verdicts prepared octets lane read own request some ready within read_is own_is is has =
     by verdict at (sym mapped) (ready.octets_are lane verdict (Some some) at there)
@@ -252,17 +275,23 @@ lane_ready configuration arrivals number verdicts prepared octets lane read own 
     mapped =
         some_is (Some request) (prepared_in configuration verdict)
         (sym (slice_get_read prepared 8 lane read long within read_is ∙ ap Some is)
-        ∙ ap (λ list. slice_get list lane) ready.prepared_are ∙ slice_get-map (prepared_in configuration) verdicts lane ∙ ap (option_map (prepared_in configuration)) at)
+        ∙ ap (λ list. slice_get list lane) ready.prepared_are ∙ slice_get-map (prepared_in configuration) verdicts lane
+        ∙ ap (option_map (prepared_in configuration)) at)
 
-    of : (asked : Request) → slice_get verdicts lane ≡ Some (Some (Ok asked)) → request ≡ record { configuration = configuration; request = asked }
+    of : (asked : Request) → slice_get verdicts lane ≡ Some (Some (Ok asked))
+        → request ≡ record { configuration = configuration; request = asked }
         → HasOctets (Some (Ok asked)) some → IsLaneReady configuration verdicts lane request some
     of asked at_lane same octets_of = record {
       configuration_is = ap (λ p. p.configuration) same;
-      octets_are = octets_of.octets_are ∙ ap (λ r. packet_octets r.packet) (the_request asked octets_of.request (Some (Ok asked)) refl octets_of.verdict_is ∙ sym (ap (λ p. p.request) same));
-      verdict_is = λ v there_is. some_is v (Some (Ok asked)) (sym there_is ∙ at_lane) ∙ ap (λ r. Some (Ok r)) (sym (ap (λ p. p.request) same));
+      octets_are = octets_of.octets_are
+          ∙ ap (λ r. packet_octets r.packet)
+          (the_request asked octets_of.request (Some (Ok asked)) refl octets_of.verdict_is ∙ sym (ap (λ p. p.request) same));
+      verdict_is = λ v there_is. some_is v (Some (Ok asked)) (sym there_is ∙ at_lane)
+          ∙ ap (λ r. Some (Ok r)) (sym (ap (λ p. p.request) same));
     }
 
-    by : (v : Verdict) → slice_get verdicts lane ≡ Some v → prepared_in configuration v ≡ Some request → IfSome (Some some) (HasOctets v)
+    by : (v : Verdict) → slice_get verdicts lane ≡ Some v → prepared_in configuration v ≡ Some request
+        → IfSome (Some some) (HasOctets v)
         → IsLaneReady configuration verdicts lane request some
     by None at_lane none octets_of = absurd cc
     by (Some (Err discard)) at_lane none octets_of = absurd cc

@@ -1,5 +1,7 @@
 -- The end of a round: batches that were answered, whose numbers are those of all batches, each once, make a round together.
-use Rattle.std.proofs.Common.{◌≡◌, ◌⊎◌, ℕ, zero, suc, ◌+◌, ◌*◌, ◌/◌, ◌%◌, ◌<◌, ◌≤◌, ◌==◌, Bool, true, false, cond, List, [], ◌∷◌, ◌++◌, length, map, Option, Some, None, IfSome, All, count_by, slice_get, arith, inl, inr, refl, sym, ap, subst, ◌∙◌, length-append, ne_eqb, eq-eqb, eqb-true, true≢false}
+use Rattle.std.proofs.Common.{◌≡◌, ◌⊎◌, ℕ, zero, suc, ◌+◌, ◌*◌, ◌/◌, ◌%◌, ◌<◌, ◌≤◌, ◌==◌, Bool, true, false, cond, List, [], ◌∷◌}
+use Rattle.std.proofs.Common.{◌++◌, length, map, Option, Some, None, IfSome, All, count_by, slice_get, arith, inl, inr, refl, sym}
+use Rattle.std.proofs.Common.{ap, subst, ◌∙◌, length-append, ne_eqb, eq-eqb, eqb-true, true≢false}
 use Rattle.std.proofs.lemmas.List.{map-append}
 use Rattle.std.proofs.lemmas.List.Elements.{All-append, All-cons, All-nil}
 use Rattle.std.proofs.lemmas.List.Sorted.{All-permutation, sum_by-IsPermutation}
@@ -16,7 +18,8 @@ use Rattle.rad_server.specs.Servers.{Server}
 use Rattle.rad_server.specs.declared.entry.Entry.{Entry}
 use Rattle.rad_round.proofs.ListLemmas.{there}
 use Rattle.rad_round.specs.Rounds.{HasArrival, HasEntry, HaveOwnTags, AreOutcomes, IsEntryOf, IsOutcome, Round}
-use Rattle.rad_round.specs.Works.{Answered, IsAnswered, IsInLog, IsLane, IsLogged, IsOutcomeWith, all_of, batch_count, entry_count, numbers_of, somes, taken}
+use Rattle.rad_round.specs.Works.{Answered, IsAnswered, IsInLog, IsLane, IsLogged, IsOutcomeWith, all_of, batch_count, entry_count}
+use Rattle.rad_round.specs.Works.{numbers_of, somes, taken}
 use Rattle.rad_round.specs.declared.outcome.Outcome.{Outcome}
 use Rattle.rad_round.specs.declared.outcome.Outcome.TheVariants.{Dropped, Busy, NoMemory, Reply}
 use Rattle.rad_round.specs.declared.timed.Timed.{Timed}
@@ -103,7 +106,8 @@ once_at_most : (bound number : ℕ) → once_below bound number ≤ 1
 once_at_most bound number = grind arith
 
 -- how often a number is that of a batch
-times_of : (number : ℕ) (list : List Answered) → times number (numbers_of list) ≡ count_by (λ answered. answered.number == number) list
+times_of : (number : ℕ) (list : List Answered)
+    → times number (numbers_of list) ≡ count_by (λ answered. answered.number == number) list
 times_of number list = count_map (λ answered. answered.number) (λ drawn. drawn == number) list
 
 -- no two places have batches of one number
@@ -116,7 +120,8 @@ pub own_numbers : (list : List Answered) (count : ℕ) → ((number : ℕ) → t
 own_numbers list count once place other answered another at at_other same =
     only (λ each. each.number == another.number) list
     (omega (arith, times_of another.number list, once another.number, once_at_most count another.number))
-    place other answered another at (eq-eqb answered.number another.number same) at_other (eq-eqb another.number another.number refl)
+    place other answered another at (eq-eqb answered.number another.number same) at_other
+    (eq-eqb another.number another.number refl)
 
 -- how often a number is in all lists together
 pub times_all : (number : ℕ) (lists : List (List Answered))
@@ -193,13 +198,15 @@ number_is None number t numbered is = absurd (none-some t is)
 number_is (Some u) number t numbered is = subst (λ (v : Taking Entry). v.number ≡ number) (same_Some u t is) numbered
 
 -- batches with numbers of their own have takings with numbers of their own
-apart_with : (ticket : Option (Taking Entry)) (number : ℕ) (ts : List (Taking Entry)) → IfSome ticket (λ taking. taking.number ≡ number)
+apart_with : (ticket : Option (Taking Entry)) (number : ℕ) (ts : List (Taking Entry))
+    → IfSome ticket (λ taking. taking.number ≡ number)
     → ((place : ℕ) (u : Taking Entry) → slice_get ts place ≡ Some u → u.number ≡ number → ⊥) → AreApart ts
     → AreApart (with_ticket ticket ts)
 apart_with None number ts numbered other apart = apart
 apart_with (Some t) number ts numbered other apart = ((λ place u at same. other place u at (same ∙ numbered)), apart)
 
-takings_apart : (list : List Answered) → ((place : ℕ) (answered : Answered) → slice_get list place ≡ Some answered → IsNumbered answered)
+takings_apart : (list : List Answered)
+    → ((place : ℕ) (answered : Answered) → slice_get list place ≡ Some answered → IsNumbered answered)
     → HaveOwnNumbers list → AreApart (takings_of list)
 takings_apart [] numbered own = tt
 takings_apart (answered ∷ rest) numbered own =
@@ -240,7 +247,8 @@ later_tags : (first : ℕ) (entry : Option Entry) (entries : List (Option Entry)
 later_tags first entry entries tags lane e at = omega (arith, tags (suc lane) e at)
 
 -- no entry has a tag before or behind the lanes
-tagged_none : (tag first : ℕ) (entries : List (Option Entry)) → HaveTagsFrom first entries → (tag < first) ⊎ (first + length entries ≤ tag)
+tagged_none : (tag first : ℕ) (entries : List (Option Entry)) → HaveTagsFrom first entries
+    → (tag < first) ⊎ (first + length entries ≤ tag)
     → tagged tag (somes entries) ≡ 0
 tagged_none tag first [] tags outside = refl
 tagged_none tag first (None ∷ entries) tags outside =
@@ -269,11 +277,13 @@ tagged_once tag first (None ∷ entries) tags = tagged_once tag (first + 1) entr
 tagged_once tag first (Some entry ∷ entries) tags =
     pick (entry.tag == tag) refl (tagged_once tag (first + 1) entries (later_tags first (Some entry) entries tags))
   where
-    pick : (same : Bool) → (entry.tag == tag) ≡ same → tagged tag (somes entries) ≤ 1 → tagged tag (somes (Some entry ∷ entries)) ≤ 1
+    pick : (same : Bool) → (entry.tag == tag) ≡ same → tagged tag (somes entries) ≤ 1
+        → tagged tag (somes (Some entry ∷ entries)) ≤ 1
     pick true same later =
         let tag_is : entry.tag ≡ tag = eqb-true entry.tag tag same in
         let none : tagged tag (somes entries) ≡ 0 =
-        tagged_none tag (first + 1) entries (later_tags first (Some entry) entries tags) (inl (omega (arith, tag_is, tags 0 entry refl))) in
+        tagged_none tag (first + 1) entries (later_tags first (Some entry) entries tags)
+        (inl (omega (arith, tag_is, tags 0 entry refl))) in
         omega (arith, none, count_yes (λ (each : Entry). each.tag == tag) entry (somes entries) same)
     pick false same later = omega (arith, later, count_no (λ (each : Entry). each.tag == tag) entry (somes entries) same)
 
@@ -285,9 +295,11 @@ record HasTags (answered : Answered) : Type 0 where
   tags : HaveTagsFrom (answered.number * 8) entries
 
 -- only the batch of a tag has an entry of it, and that one at most one
-tagged_in : (tag : ℕ) (answered : Answered) → HasTags answered → tagged tag (taken answered.ticket) ≤ cond (answered.number == tag / 8) 1 0
+tagged_in : (tag : ℕ) (answered : Answered) → HasTags answered
+    → tagged tag (taken answered.ticket) ≤ cond (answered.number == tag / 8) 1 0
 tagged_in tag answered has =
-    subst (λ list. tagged tag list ≤ cond (answered.number == tag / 8) 1 0) (sym has.taken_is) (pick (answered.number == tag / 8) refl)
+    subst (λ list. tagged tag list ≤ cond (answered.number == tag / 8) 1 0) (sym has.taken_is)
+    (pick (answered.number == tag / 8) refl)
   where
     pick : (same : Bool) → (answered.number == tag / 8) ≡ same → tagged tag (somes has.entries) ≤ cond same 1 0
     pick true same = tagged_once tag (answered.number * 8) has.entries has.tags
@@ -336,7 +348,8 @@ record IsOfLane (clients : List Client) (arrivals : List Timed) (answered : Answ
   outcome_at : slice_get answered.outcomes lane ≡ Some (Some outcome)
   entry_is : IsEntryOf clients (answered.number * 8 + lane) timed outcome entry
 
-of_lane : (clients : List Client) (arrivals : List Timed) (answered : Answered) (right : IsAnswered clients arrivals answered) (lane : ℕ)
+of_lane : (clients : List Client) (arrivals : List Timed) (answered : Answered) (right : IsAnswered clients arrivals answered)
+    (lane : ℕ)
     (entry : Entry) → slice_get right.entries lane ≡ Some (Some entry) → IsOfLane clients arrivals answered lane entry
 of_lane clients arrivals answered right lane entry at =
     let outcome = there answered.outcomes lane
@@ -349,7 +362,8 @@ of_lane clients arrivals answered right lane entry at =
     pick (Some outcome) outcome_at is =
         record { timed = is.0; outcome = outcome; arrival = is.1; outcome_at = outcome_at; entry_is = is.2 }
 
-has_tags : (clients : List Client) (arrivals : List Timed) (answered : Answered) → IsAnswered clients arrivals answered → HasTags answered
+has_tags : (clients : List Client) (arrivals : List Timed) (answered : Answered) → IsAnswered clients arrivals answered
+    → HasTags answered
 has_tags clients arrivals answered right = record {
   entries = right.entries;
   eight = right.lanes.entry_each;
@@ -365,7 +379,8 @@ has_arrivals clients arrivals outcomes answered right placed =
     subst (All (HasArrival clients arrivals outcomes)) (sym right.taken_is)
     (somes_all (HasArrival clients arrivals outcomes) right.entries each)
   where
-    each : (lane : ℕ) (entry : Entry) → slice_get right.entries lane ≡ Some (Some entry) → HasArrival clients arrivals outcomes entry
+    each : (lane : ℕ) (entry : Entry) → slice_get right.entries lane ≡ Some (Some entry)
+        → HasArrival clients arrivals outcomes entry
     each lane entry at =
         let of = of_lane clients arrivals answered right lane entry at in
         let tag : answered.number * 8 + lane ≡ entry.tag = sym of.entry_is.asked.has_tag in record {
@@ -399,14 +414,16 @@ in_history : (history : List Entry) (log : List (Taking Entry)) (answered : Answ
     → (k : ℕ) (entry : Entry) → slice_get (taken answered.ticket) k ≡ Some entry → HasEntry history entry
 in_history history log answered logged in_log k entry at = pick answered.ticket in_log at
   where
-    pick : (ticket : Option (Taking Entry)) → IfSome ticket (Has log) → slice_get (taken ticket) k ≡ Some entry → HasEntry history entry
+    pick : (ticket : Option (Taking Entry)) → IfSome ticket (Has log) → slice_get (taken ticket) k ≡ Some entry
+        → HasEntry history entry
     pick None has at = absurd (none-some entry at)
     pick (Some t) has at =
         let is = entry_in log has.0 t has.1 k entry at in
         (is.0, subst (λ entries. slice_get entries is.0 ≡ Some entry) logged is.1)
 
 -- what lanes say of arrivals
-lane_outcome : (clients : List Client) (arrivals : List Timed) (outcomes : List Outcome) (Known : Entry → Type 0) (answered : Answered)
+lane_outcome : (clients : List Client) (arrivals : List Timed) (outcomes : List Outcome) (Known : Entry → Type 0)
+    (answered : Answered)
     (right : IsAnswered clients arrivals answered) → IsPlaced outcomes answered
     → ((k : ℕ) (entry : Entry) → slice_get (taken answered.ticket) k ≡ Some entry → Known entry)
     → (lane : ℕ) (timed : Timed) → lane < 8 → slice_get arrivals (answered.number * 8 + lane) ≡ Some timed
@@ -439,7 +456,8 @@ lane_outcome clients arrivals outcomes Known answered right placed has lane time
     )
 
 -- the batch of an arrival is one of all batches
-batch_of : (list : List Answered) (count number : ℕ) → ((each : ℕ) → times each (numbers_of list) ≡ once_below ((count + 7) / 8) each)
+batch_of : (list : List Answered) (count number : ℕ)
+    → ((each : ℕ) → times each (numbers_of list) ≡ once_below ((count + 7) / 8) each)
     → number < count
     → (place : ℕ) × (answered : Answered) × (slice_get list place ≡ Some answered) × (answered.number ≡ number / 8)
 batch_of list count number once within =
@@ -450,7 +468,8 @@ batch_of list count number once within =
     below : number / 8 < (count + 7) / 8
     below = omega arith
 
-outcomes_of : (clients : List Client) (arrivals : List Timed) (outcomes : List Outcome) (history : List Entry) (log : List (Taking Entry))
+outcomes_of : (clients : List Client) (arrivals : List Timed) (outcomes : List Outcome) (history : List Entry)
+    (log : List (Taking Entry))
     (list : List Answered) → IsLogged history log → All (IsAnswered clients arrivals) list → All (IsInLog log) list
     → ((number : ℕ) → times number (numbers_of list) ≡ once_below (batch_count arrivals) number)
     → ((place : ℕ) (answered : Answered) → slice_get list place ≡ Some answered → IsPlaced outcomes answered)
@@ -469,8 +488,8 @@ outcomes_of clients arrivals outcomes history log list logged right are once pla
 
 -- ---- the round
 
--- batches that were answered and logged and placed make a round, if their numbers are those of all batches, each once, and they have
--- as many entries as the history
+-- batches that were answered and logged and placed make a round, if their numbers are those of all batches, each once, and they
+-- have as many entries as the history
 pub round_of : (opening : Server) (arrivals : List Timed) (outcomes : List Outcome) (history : List Entry) (after : Server)
     (log : List (Taking Entry)) (list : List Answered) → IsHistory opening history after → IsLogged history log
     → All (IsAnswered opening.configuration.clients arrivals) list → All (IsInLog log) list
@@ -481,7 +500,8 @@ pub round_of : (opening : Server) (arrivals : List Timed) (outcomes : List Outco
 round_of opening arrivals outcomes history after log list run logged right are once total placed count =
     record { run = run; count = count; answered = answered; entries = entries; tags = tags }
   where
-    right_at : (place : ℕ) (each : Answered) → slice_get list place ≡ Some each → IsAnswered opening.configuration.clients arrivals each
+    right_at : (place : ℕ) (each : Answered) → slice_get list place ≡ Some each
+        → IsAnswered opening.configuration.clients arrivals each
     right_at place each at = all_at (IsAnswered opening.configuration.clients arrivals) list place each right at
 
     answered : AreOutcomes opening.configuration.clients arrivals outcomes history

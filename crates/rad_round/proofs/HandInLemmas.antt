@@ -1,5 +1,7 @@
 -- What workers hand in: the outcomes of batches are put at the places of their arrivals, one batch after another.
-use Rattle.std.proofs.Common.{◌≡◌, ◌≢◌, ◌⊎◌, ℕ, zero, suc, ◌+◌, ◌*◌, ◌<◌, ◌≤◌, List, [], ◌∷◌, ◌++◌, length, map, set, Option, Some, None, All, slice_get, arith, inl, inr, refl, sym, ap, subst, ◌∙◌, length-append, length-set, append_assoc, append-nil}
+use Rattle.std.proofs.Common.{◌≡◌, ◌≢◌, ◌⊎◌, ℕ, zero, suc, ◌+◌, ◌*◌, ◌<◌, ◌≤◌, List, [], ◌∷◌, ◌++◌, length, map, set, Option, Some}
+use Rattle.std.proofs.Common.{None, All, slice_get, arith, inl, inr, refl, sym, ap, subst, ◌∙◌, length-append, length-set}
+use Rattle.std.proofs.Common.{append_assoc, append-nil}
 use Rattle.std.proofs.lemmas.List.{map-append}
 use Rattle.std.proofs.lemmas.List.Elements.{All-append, All-nil, All-push}
 use Rattle.std.proofs.lemmas.List.Sums.{sum_by-append}
@@ -14,14 +16,16 @@ use Rattle.rad_server.specs.declared.entry.Entry.{Entry}
 use Rattle.rad_round.proofs.GatherLemmas.{HaveOwnNumbers, IsPlaced, all_at, own_numbers, round_of, times_all}
 use Rattle.rad_round.proofs.ListLemmas.{get_set_other, get_set_same, there}
 use Rattle.rad_round.specs.Rounds.{Round}
-use Rattle.rad_round.specs.Works.{Answered, HandedIn, HaveHandedIn, IsAnswered, IsInLog, IsLogged, TakesIn, all_of, batch_count, entry_count, numbers_of, put_all, put_lane, put_lanes, taken}
+use Rattle.rad_round.specs.Works.{Answered, HandedIn, HaveHandedIn, IsAnswered, IsInLog, IsLogged, TakesIn, all_of, batch_count}
+use Rattle.rad_round.specs.Works.{entry_count, numbers_of, put_all, put_lane, put_lanes, taken}
 use Rattle.rad_round.specs.declared.outcome.Outcome.{Outcome}
 use Rattle.rad_round.specs.declared.timed.Timed.{Timed}
 
 -- ---- lanes
 
 -- there are as many places as before
-length_lane : (lane : Option Outcome) (place : ℕ) (outcomes : List Outcome) → length (put_lane lane place outcomes) ≡ length outcomes
+length_lane : (lane : Option Outcome) (place : ℕ) (outcomes : List Outcome)
+    → length (put_lane lane place outcomes) ≡ length outcomes
 length_lane None place outcomes = refl
 length_lane (Some outcome) place outcomes = length-set outcomes place outcome
 
@@ -42,7 +46,8 @@ other_lane : (lane : Option Outcome) (place other : ℕ) (outcomes : List Outcom
 other_lane None place other outcomes apart = refl
 other_lane (Some outcome) place other outcomes apart = get_set_other outcomes place other outcome apart
 
-other_lanes : (lanes : List (Option Outcome)) (place other : ℕ) (outcomes : List Outcome) → (other < place) ⊎ (place + length lanes ≤ other)
+other_lanes : (lanes : List (Option Outcome)) (place other : ℕ) (outcomes : List Outcome)
+    → (other < place) ⊎ (place + length lanes ≤ other)
     → slice_get (put_lanes lanes place outcomes) other ≡ slice_get outcomes other
 other_lanes [] place other outcomes outside = refl
 other_lanes (lane ∷ lanes) place other outcomes (inl before) =
@@ -54,7 +59,8 @@ other_lanes (lane ∷ lanes) place other outcomes (inr behind) =
 
 -- the outcome of a lane is at its place
 lane_put : (lanes : List (Option Outcome)) (place lane at : ℕ) (outcomes : List Outcome) (outcome : Outcome) → at ≡ place + lane
-    → slice_get lanes lane ≡ Some (Some outcome) → at < length outcomes → slice_get (put_lanes lanes place outcomes) at ≡ Some outcome
+    → slice_get lanes lane ≡ Some (Some outcome) → at < length outcomes
+    → slice_get (put_lanes lanes place outcomes) at ≡ Some outcome
 lane_put [] place lane at outcomes outcome at_is is within = absurd (none-some (Some outcome) is)
 lane_put (first ∷ lanes) place zero at outcomes outcome at_is is within =
     let here : at ≡ place = omega (arith, at_is) in
@@ -78,7 +84,12 @@ module _ {clients : List Client} {arrivals : List Timed} where
       → slice_get answered.outcomes lane ≡ Some (Some outcome) → answered.number * 8 + lane < length arrivals
   fits answered right lane outcome at =
       let entry = there right.entries lane
-      (omega (arith, slice_get_within answered.outcomes lane (Some outcome) at, right.lanes.outcome_each, right.lanes.entry_each)) in
+      (omega (
+        arith,
+        slice_get_within answered.outcomes lane (Some outcome) at,
+        right.lanes.outcome_each,
+        right.lanes.entry_each,
+      )) in
       let is = right.lanes.each lane (Some outcome) entry.0 at entry.1 in
       slice_get_within arrivals (answered.number * 8 + lane) is.0 is.1
 
@@ -98,7 +109,11 @@ module _ {clients : List Client} {arrivals : List Timed} where
   placed (first ∷ rest) before own right count (suc place) answered at = λ lane outcome lane_at.
       other_lanes first.outcomes (first.number * 8) (answered.number * 8 + lane) (put_all rest before)
       (apart lane
-      (omega (arith, slice_get_within answered.outcomes lane (Some outcome) lane_at, (right (suc place) answered at).lanes.outcome_each))
+      (omega (
+        arith,
+        slice_get_within answered.outcomes lane (Some outcome) lane_at,
+        (right (suc place) answered at).lanes.outcome_each,
+      ))
       (less_or_more first.number answered.number))
       ∙ placed rest before (λ i j a b at_i at_j same. omega (arith, own (suc i) (suc j) a b at_i at_j same))
       (λ i each at_i. right (suc i) each at_i) count place answered at lane outcome lane_at
@@ -108,7 +123,8 @@ module _ {clients : List Client} {arrivals : List Timed} where
 
       apart : (lane : ℕ) → lane < 8
           → (first.number ≡ answered.number) ⊎ ((first.number < answered.number) ⊎ (answered.number < first.number))
-          → (answered.number * 8 + lane < first.number * 8) ⊎ (first.number * 8 + length first.outcomes ≤ answered.number * 8 + lane)
+          → (answered.number * 8 + lane < first.number * 8)
+          ⊎ (first.number * 8 + length first.outcomes ≤ answered.number * 8 + lane)
       apart lane within (inl same) = absurd (omega (arith, own 0 (suc place) first answered refl at same))
       apart lane within (inr (inl less)) = inr (omega (arith, less, (right 0 first refl).lanes.outcome_each))
       apart lane within (inr (inr more)) = inl (omega (arith, more, within))
@@ -168,11 +184,13 @@ module _ {claims : Claims} {clients : List Client} {arrivals : List Timed} {log 
 
 -- what all workers have handed in makes a round
 pub gathered : {opening : Server} {claims : Claims} {arrivals : List Timed} (history : List Entry) (after : Server)
-    {log : List (Taking Entry)} {before : List Outcome} {count : ℕ} {handed : HandedIn} → IsHistory opening history after → IsLogged history log
+    {log : List (Taking Entry)} {before : List Outcome} {count : ℕ} {handed : HandedIn} → IsHistory opening history after
+    → IsLogged history log
     → HaveHandedIn claims opening.configuration.clients arrivals log before count handed
     → IsEachOnce (batch_count arrivals) (map (λ seat. seat.claimed) handed.seats) → handed.amount ≡ length history
     → length before ≡ length arrivals → Round opening arrivals handed.outcomes history after
-gathered {opening = opening} {arrivals = arrivals} history after {log = log} {before = before} run logged have dealt total count_is =
+gathered {opening = opening} {arrivals = arrivals} history after {log = log} {before = before} run logged have dealt total
+    count_is =
     subst (λ outcomes. Round opening arrivals outcomes history after) (sym have.put)
     (round_of opening arrivals (put_all list before) history after log list run logged have.right have.logged once
     (sym total ∙ have.counted)

@@ -1,5 +1,6 @@
 -- Lists: elements at their places.
-use Rattle.std.proofs.Common.{◌≡◌, ◌≢◌, ◌⊎◌, ◌<◌, ℕ, zero, suc, List, [], ◌∷◌, ◌++◌, length, set, drop, take, Some, unwrap_or, slice_get, arith, inl, inr, refl, sym, ap, subst}
+use Rattle.std.proofs.Common.{◌≡◌, ◌≢◌, ◌⊎◌, ◌<◌, ℕ, zero, suc, List, [], ◌∷◌, ◌++◌, length, set, drop, take, Some, unwrap_or}
+use Rattle.std.proofs.Common.{slice_get, arith, inl, inr, refl, sym, ap, subst}
 use Rattle.std.proofs.lemmas.Option.{none-some}
 use lib.Lanes.{zip2}
 
@@ -26,7 +27,8 @@ eight P a b c d e f g h pa pb pc pd pe pf pg ph (suc (suc (suc zero))) x is = su
 eight P a b c d e f g h pa pb pc pd pe pf pg ph (suc (suc (suc (suc zero)))) x is = subst (P 4) (some_is e x is) pe
 eight P a b c d e f g h pa pb pc pd pe pf pg ph (suc (suc (suc (suc (suc zero))))) x is = subst (P 5) (some_is f x is) pf
 eight P a b c d e f g h pa pb pc pd pe pf pg ph (suc (suc (suc (suc (suc (suc zero)))))) x is = subst (P 6) (some_is g x is) pg
-eight P a b c d e f g h pa pb pc pd pe pf pg ph (suc (suc (suc (suc (suc (suc (suc zero))))))) x is = subst (P 7) (some_is h x is) ph
+eight P a b c d e f g h pa pb pc pd pe pf pg ph (suc (suc (suc (suc (suc (suc (suc zero))))))) x is =
+    subst (P 7) (some_is h x is) ph
 eight P a b c d e f g h pa pb pc pd pe pf pg ph (suc (suc (suc (suc (suc (suc (suc (suc k)))))))) x is = absurd (none-some x is)
 
 -- an element of a list in which one was replaced
@@ -38,7 +40,8 @@ get_set (a ∷ xs) zero (suc k) x y is = inr ((λ same. absurd (omega (arith, sa
 get_set (a ∷ xs) (suc i) zero x y is = inr ((λ same. absurd (omega (arith, same))), is)
 get_set (a ∷ xs) (suc i) (suc k) x y is = next (get_set xs i k x y is)
   where
-    next : ((k ≡ i) × (x ≡ y)) ⊎ ((k ≢ i) × (slice_get xs k ≡ Some y)) → ((suc k ≡ suc i) × (x ≡ y)) ⊎ ((suc k ≢ suc i) × (slice_get xs k ≡ Some y))
+    next : ((k ≡ i) × (x ≡ y)) ⊎ ((k ≢ i) × (slice_get xs k ≡ Some y))
+        → ((suc k ≡ suc i) × (x ≡ y)) ⊎ ((suc k ≢ suc i) × (slice_get xs k ≡ Some y))
     next (inl same) = inl (ap suc same.0, same.1)
     next (inr other) = inr ((λ same. other.0 (omega (arith, same))), other.1)
 
@@ -67,7 +70,8 @@ zip2_get f (x ∷ xs) (y ∷ ys) (suc k) z is = zip2_get f xs ys k z is
 -- what a slice was left at is what the vector has
 pub written_back : {A : Type 0} (n : ℕ) (after before : List A) → length before ≡ length after → n ≡ length after
     → take n (after ++ drop (length after) before) ≡ after
-written_back n after before same is = subst (λ m. take m (after ++ drop (length after) before) ≡ after) (sym is) (all after (drop (length after) before))
+written_back n after before same is =
+    subst (λ m. take m (after ++ drop (length after) before) ≡ after) (sym is) (all after (drop (length after) before))
   where
     all : {B : Type 0} (xs ys : List B) → take (length xs) (xs ++ ys) ≡ xs
     all [] ys = refl

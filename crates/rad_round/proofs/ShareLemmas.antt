@@ -1,5 +1,6 @@
 -- What is asked under the lock.
-use Rattle.std.proofs.Common.{◌≡◌, ◌≢◌, ◌⊎◌, ◌<◌, ℕ, zero, suc, ◌+◌, ◌*◌, List, [], ◌∷◌, ◌++◌, length, set, take, Option, Some, None, IfSome, slice_get, arith, inl, inr, refl, sym, ap, subst, ◌∙◌, length-append}
+use Rattle.std.proofs.Common.{◌≡◌, ◌≢◌, ◌⊎◌, ◌<◌, ℕ, zero, suc, ◌+◌, ◌*◌, List, [], ◌∷◌, ◌++◌, length, set, take, Option, Some}
+use Rattle.std.proofs.Common.{None, IfSome, slice_get, arith, inl, inr, refl, sym, ap, subst, ◌∙◌, length-append}
 use Rattle.std.proofs.Common.{Result, Ok, Err, IfOk}
 use Rattle.std.specs.Result.{result_ok}
 use Rattle.std.proofs.lemmas.List.{append_assoc}
@@ -22,7 +23,8 @@ asked_more batch asked lane receipt before own k verdict r at there = pick (get_
     in_lane None is v at = tt
     in_lane (Some o) is v at = is v at
 
-    pick : ((k ≡ lane) × (receipt ≡ r)) ⊎ ((k ≢ lane) × (slice_get asked k ≡ Some r)) → IfSome r (IsAskedOf batch.arrivals (batch.number * 8 + k) verdict)
+    pick : ((k ≡ lane) × (receipt ≡ r)) ⊎ ((k ≢ lane) × (slice_get asked k ≡ Some r))
+        → IfSome r (IsAskedOf batch.arrivals (batch.number * 8 + k) verdict)
     pick (inr old) = before k verdict r at old.1
     pick (inl new) =
         subst (λ n. IfSome r (IsAskedOf batch.arrivals (batch.number * 8 + n) verdict)) (sym new.0)
@@ -67,7 +69,8 @@ entries_more asked lane receipt within =
     ∙ ap entries_in (take_set asked lane receipt within) ∙ entries_push (take lane asked) receipt
 
 -- and the history with them
-pub history_more : (before now after : List Entry) (asked : List (Option Receipt)) (lane : ℕ) (receipt : Option Receipt) → lane < length asked
+pub history_more : (before now after : List Entry) (asked : List (Option Receipt)) (lane : ℕ) (receipt : Option Receipt)
+    → lane < length asked
     → now ≡ before ++ entries_in (take lane asked) → after ≡ now ++ somes (entry_of receipt ∷ [])
     → after ≡ before ++ entries_in (take (lane + 1) (set asked lane receipt))
 history_more before now after asked lane receipt within was is =
@@ -88,6 +91,7 @@ count_more before now after asked lane receipt within was is =
     )
 
 -- what holds of a result that is good holds where it is an option
-pub asked_ok : (P : Receipt → Type 0) {E : Type 0} (r : Result Receipt E) (o : Option Receipt) → o ≡ result_ok r → IfOk r P → IfSome o P
+pub asked_ok : (P : Receipt → Type 0) {E : Type 0} (r : Result Receipt E) (o : Option Receipt) → o ≡ result_ok r → IfOk r P
+    → IfSome o P
 asked_ok P (Ok receipt) o is holds = subst (λ x. IfSome x P) (sym is) holds
 asked_ok P (Err fault) o is holds = subst (λ x. IfSome x P) (sym is) tt

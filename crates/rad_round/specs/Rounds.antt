@@ -2,9 +2,9 @@
 --
 -- For every round of datagrams, number of workers and schedule, the history that is kept is a run of the one-thread server
 -- (`IsHistory`), with one exchange for each datagram that passes the checks (`admission`) and isn't answered `NoMemory`. Each reply
--- that is sent has the RFC's octets (`reply_octets`), under the client's secret, of that server's answer at its place in the history
--- (`IsExchange`). A repeat inside the window gets the kept reply and no second address (`Repeat`). No address belongs to two sessions
--- (`IsLawfulThroughout`).
+-- that is sent has the RFC's octets (`reply_octets`), under the client's secret, of that server's answer at its place in the
+-- history (`IsExchange`). A repeat inside the window gets the kept reply and no second address (`Repeat`). No address belongs to
+-- two sessions (`IsLawfulThroughout`).
 --
 -- A round is one call of `Service::round`, a schedule any order in which its workers take the lock. Arrivals and places are counted
 -- from 0, and the tag of an entry is the number of its arrival.
@@ -53,8 +53,8 @@ IsSentAs clients request answer Busy = answer ≡ answers.Answer.Busy
 IsSentAs clients request answer NoMemory = ⊥
 IsSentAs clients request answer (Dropped discard) = ⊥
 
--- an entry is that of an arrival: it holds the arrival's request, which its own octets up to Length give too, with its number, moment
--- and draw, and its answer is sent as the outcome
+-- an entry is that of an arrival: it holds the arrival's request, which its own octets up to Length give too, with its number,
+-- moment and draw, and its answer is sent as the outcome
 pub record IsEntryOf (clients : List Client) (number : ℕ) (timed : Timed) (outcome : Outcome) (entry : Entry) : Type 0 where
   pub request : Request
   pub admitted : IsAdmittedAs clients timed request
@@ -96,7 +96,8 @@ HaveOwnTags history = (place other : ℕ) (entry another : Entry) → slice_get 
 
 -- what a round makes of a server: the history leads from the server before to the one after, each arrival has its outcome, and each
 -- entry is that of one arrival
-pub record Round (before : Server) (arrivals : List Timed) (outcomes : List Outcome) (history : List Entry) (after : Server) : Type 0 where
+pub record Round (before : Server) (arrivals : List Timed) (outcomes : List Outcome) (history : List Entry) (after : Server) : Type
+    0 where
   pub run : IsHistory before history after
   pub count : length outcomes ≡ length arrivals
   pub answered : AreOutcomes before.configuration.clients arrivals outcomes history

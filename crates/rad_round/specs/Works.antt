@@ -1,5 +1,6 @@
 -- Works: what the workers of a round know while they work, and once they are done. Arrivals, batches and lanes are counted from 0.
-use Rattle.std.specs.Prelude.{◌≡◌, ℕ, ◌+◌, ◌*◌, ◌/◌, ◌<◌, ◌≤◌, List, [], ◌∷◌, ◌++◌, map, set, Option, Some, None, IfSome, Result, Ok, Err, length, slice_get, All, sum_by}
+use Rattle.std.specs.Prelude.{◌≡◌, ℕ, ◌+◌, ◌*◌, ◌/◌, ◌<◌, ◌≤◌, List, [], ◌∷◌, ◌++◌, map, set, Option, Some, None, IfSome, Result}
+use Rattle.std.specs.Prelude.{Ok, Err, length, slice_get, All, sum_by}
 use Rattle.std.specs.Option.{option_map}
 use Rattle.std.specs.Vec.{vec_capacity, vec_len}
 use Rattle.rad_auth.specs.Admission.{HoldsAdmitted, admission}
@@ -93,7 +94,8 @@ pub record IsAskOf (arrivals : List Timed) (number : ℕ) (verdict : Verdict) (a
 -- the same by the lane of a batch
 pub record IsAskIn (batch : CheckedBatch) (lane : ℕ) (ask : Ask) : Type 0 where
   pub configuration_is : ask.prepared.now.configuration ≡ batch.configuration
-  pub of : (verdict : Verdict) → slice_get batch.verdicts lane ≡ Some verdict → IsAskOf batch.arrivals (batch.number * 8 + lane) verdict ask
+  pub of : (verdict : Verdict) → slice_get batch.verdicts lane ≡ Some verdict
+      → IsAskOf batch.arrivals (batch.number * 8 + lane) verdict ask
 
 -- a receipt is that of the request of the arrival of this number
 pub record IsAskedOf (arrivals : List Timed) (number : ℕ) (verdict : Verdict) (receipt : Receipt) : Type 0 where
@@ -111,7 +113,8 @@ IsAskedIn batch lane receipt = (verdict : Verdict) → slice_get batch.verdicts 
 
 -- the receipt in each lane, where there is one, is that of its arrival, the first of which has this number
 abbrev pub AreAsked : List Timed → ℕ → List Verdict → List (Option Receipt) → Type 0
-AreAsked arrivals first verdicts asked = (lane : ℕ) (verdict : Verdict) (receipt : Option Receipt) → slice_get verdicts lane ≡ Some verdict
+AreAsked arrivals first verdicts asked =
+    (lane : ℕ) (verdict : Verdict) (receipt : Option Receipt) → slice_get verdicts lane ≡ Some verdict
     → slice_get asked lane ≡ Some receipt → IfSome receipt (IsAskedOf arrivals (first + lane) verdict)
 
 -- a batch was asked: there is a lane for each of its verdicts
@@ -163,7 +166,8 @@ IsSealed clients verdict asked frame = (request : Request) (body : Body) → Sen
 
 -- the same by the number of the lane
 abbrev pub IsSealedIn : List Client → List Verdict → List (Option Receipt) → ℕ → List ℕ → Type 0
-IsSealedIn clients verdicts asked lane frame = (verdict : Verdict) (receipt : Option Receipt) → slice_get verdicts lane ≡ Some verdict
+IsSealedIn clients verdicts asked lane frame =
+    (verdict : Verdict) (receipt : Option Receipt) → slice_get verdicts lane ≡ Some verdict
     → slice_get asked lane ≡ Some receipt → IsSealed clients verdict receipt frame
 
 -- each frame has the reply of its lane
@@ -232,8 +236,8 @@ numbers_of list = map (λ answered. answered.number) list
 
 -- ---- workers
 
--- a worker: its seat, which it gives away while it works; its share of the ledger; the batches that it has answered; and how many it
--- has memory for
+-- a worker: its seat, which it gives away while it works; its share of the ledger; the batches that it has answered; and how many
+-- it has memory for
 pub record Worker : Type 0 where
   pub seat : Option ClaimSeat
   pub parts : ℕ
@@ -312,7 +316,8 @@ put_all (answered ∷ rest) outcomes = put_lanes answered.outcomes (answered.num
 abbrev pub IsInLog : List (Taking Entry) → Answered → Type 0
 IsInLog log answered = IfSome answered.ticket (Has log)
 
--- what workers hand in: their seats, the shares of all in one, and the outcomes of the round; and how many seats there is memory for
+-- what workers hand in: their seats, the shares of all in one, and the outcomes of the round; and how many seats there is memory
+-- for
 pub record HandedIn : Type 0 where
   pub seats : List ClaimSeat
   pub parts : ℕ
@@ -320,8 +325,8 @@ pub record HandedIn : Type 0 where
   pub outcomes : List Outcome
   pub capacity : ℕ
 
--- So many workers have handed in: each its seat and a list of the batches that it had claimed. The batches are answered and logged, the
--- share counts their entries, and their outcomes are put among those before.
+-- So many workers have handed in: each its seat and a list of the batches that it had claimed. The batches are answered and logged,
+-- the share counts their entries, and their outcomes are put among those before.
 pub record HaveHandedIn (claims : Claims) (clients : List Client) (arrivals : List Timed) (log : List (Taking Entry))
     (before : List Outcome) (count : ℕ) (handed : HandedIn) : Type 0 where
   pub lists : List (List Answered)
@@ -335,7 +340,8 @@ pub record HaveHandedIn (claims : Claims) (clients : List Client) (arrivals : Li
   pub put : handed.outcomes ≡ put_all (all_of lists) before
 
 -- one more worker hands in
-pub record TakesIn (claims : Claims) (clients : List Client) (arrivals : List Timed) (log : List (Taking Entry)) (before after : HandedIn)
+pub record TakesIn (claims : Claims) (clients : List Client) (arrivals : List Timed) (log : List (Taking Entry))
+    (before after : HandedIn)
     : Type 0 where
   pub seat : ClaimSeat
   pub list : List Answered

@@ -5,7 +5,8 @@ ghost use Rattle.rad_auth.specs.Admission.{HoldsAdmitted};
 ghost use Rattle.rad_auth.specs.Sealing.{IsJob};
 ghost use Rattle.rad_server.specs.Steps.{IsSealable};
 ghost use Rattle.rad_round.specs.Rounds.{arrivals_max};
-ghost use Rattle.rad_round.specs.Works.{AreAskedOf, AreLanes, AreOctets, AreSealed, AreVerdicts, HasOctets, IsAskIn, IsJobIn, IsJobOf, IsLaneOf, IsReady, IsSealedIn, batch_count, entry_of, unasked};
+ghost use Rattle.rad_round.specs.Works.{AreAskedOf, AreLanes, AreOctets, AreSealed, AreVerdicts, HasOctets, IsAskIn, IsJobIn};
+ghost use Rattle.rad_round.specs.Works.{IsJobOf, IsLaneOf, IsReady, IsSealedIn, batch_count, entry_of, unasked};
 
 use crate::lanes::BATCH;
 use crate::leftovers::put_back;

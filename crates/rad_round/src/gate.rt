@@ -3,8 +3,8 @@
 /// Where each batch of a round passes by, on the thread of its worker.
 ///
 /// A round calls `pass` once for a batch, after its datagrams are checked and before any of them is asked. Batches are counted from
-/// 0. A gate may wait for other batches, but a worker takes its batches one after another, and without threads there is one worker at a
-/// time: bound the wait.
+/// 0. A gate may wait for other batches, but a worker takes its batches one after another, and without threads there is one worker
+/// at a time: bound the wait.
 pub trait Gate {
     fn pass(&self, batch: u64);
 }

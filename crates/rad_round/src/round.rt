@@ -24,8 +24,8 @@ use std::sync::ledger::Share;
 use std::sync::{Mutex, Wait};
 use std::thread::{Threads, for_each_mut};
 
-/// A round on a server that is moved in. It comes back as it is afterwards, or as it was if memory for the workers is refused, before
-/// the first exchange.
+/// A round on a server that is moved in. It comes back as it is afterwards, or as it was if memory for the workers is refused,
+/// before the first exchange.
 pub(crate) fn run_round<'c, R: Threads + Wait + Sync, G: Gate + Sync>(
     rt: &R,
     server: Server<'c>,

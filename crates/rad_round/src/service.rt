@@ -101,10 +101,10 @@ impl<'c> Service<'c> {
 
     /// Answers the datagrams of a round, at most `ARRIVALS_MAX`, by at most so many workers, from 1 to `WORKERS_MAX`.
     ///
-    /// Batch b has the datagrams 8b to 8b + 7, as far as there are any. The workers claim them, each the next one whenever it is done.
-    /// The caller's thread is one of the workers, and no more workers start than there are batches. The tag of an entry is the number of
-    /// its datagram. A round fails only if memory is refused before its first exchange, and then the server is as it was. The call may
-    /// wait for other threads.
+    /// Batch b has the datagrams 8b to 8b + 7, as far as there are any. The workers claim them, each the next one whenever it is
+    /// done. The caller's thread is one of the workers, and no more workers start than there are batches. The tag of an entry is
+    /// the number of its datagram. A round fails only if memory is refused before its first exchange, and then the server is as it
+    /// was. The call may wait for other threads.
     pub fn round<R: Threads + Wait + Sync, G: Gate + Sync>(
         &mut self,
         rt: &R,

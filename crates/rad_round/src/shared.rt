@@ -142,8 +142,8 @@ pub(crate) struct OpenRound<'r, 'a, 'c, L: Opened + Logged> {
 }
 
 impl<'r, 'a, 'c, L: Opened + Logged> OpenRound<'r, 'a, 'c, L> {
-    /// Asks the requests of a batch with one taking of the lock, if it has any: to wake a thread that waits takes longer than an exchange.
-    /// The share counts the entries.
+    /// Asks the requests of a batch with one taking of the lock, if it has any: to wake a thread that waits takes longer than an
+    /// exchange. The share counts the entries.
     pub fn ask<R: Wait>(
         &self,
         rt: &R,

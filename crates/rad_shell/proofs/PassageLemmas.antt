@@ -1,7 +1,11 @@
--- Passages: datagrams one after another are as they came, each has its own draw, and replies go one after another to where they came from.
-use Rattle.std.proofs.Common.{◌≡◌, ◌<◌, ◌≤◌, ℕ, zero, suc, ◌+◌, Bool, true, false, if◌then◌else◌, nat_lt, is_err, List, [], ◌∷◌, ◌++◌, length, map, take, drop, get_or, Option, Result, Ok, Err, Some, None, arith, refl, sym, ap, subst, ◌∙◌, add-one}
+-- Passages: datagrams one after another are as they came, each has its own draw, and replies go one after another to where they
+-- came from.
+use Rattle.std.proofs.Common.{◌≡◌, ◌<◌, ◌≤◌, ℕ, zero, suc, ◌+◌, Bool, true, false, if◌then◌else◌, nat_lt, is_err, List, [], ◌∷◌}
+use Rattle.std.proofs.Common.{◌++◌, length, map, take, drop, get_or, Option, Result, Ok, Err, Some, None, arith, refl, sym, ap}
+use Rattle.std.proofs.Common.{subst, ◌∙◌, add-one}
 use Rattle.std.proofs.lemmas.Bool.{lt-ltb, ltb-true}
-use Rattle.std.proofs.lemmas.List.{append-nil, append_assoc, drop-append-le, length-drop, map-append, nil_from_length, take-append-le, take_more}
+use Rattle.std.proofs.lemmas.List.{append-nil, append_assoc, drop-append-le, length-drop, map-append, nil_from_length}
+use Rattle.std.proofs.lemmas.List.{take-append-le, take_more}
 use Rattle.std.proofs.lemmas.List.Sums.{sum_by-cons, sum_by-drop_more, sum_by_push}
 use Rattle.std.proofs.Math.Seq.{drop-cons, drop-length}
 use Rattle.rand_core.specs.Stream.{Stream, fill_bytes}
@@ -10,7 +14,8 @@ use Rattle.rad_round.specs.declared.outcome.Outcome.TheVariants.{Dropped, Busy, 
 use Rattle.rad_round.specs.declared.timed.Timed.{Timed}
 use Rattle.rad_round.specs.Rounds.{arrivals_max}
 use Rattle.rad_shell.specs.Passages.{Came, Empty, Fault, HavePassed, In, Out, Passage, Went, came_by, received}
-use Rattle.rad_shell.specs.Serving.{AreSent, AreSentBefore, HasDrawn, Situation, after_draws, came_in, came_of, draws, emptied, is_replied, octet_count, received_all, replies, reply_to, stopped}
+use Rattle.rad_shell.specs.Serving.{AreSent, AreSentBefore, HasDrawn, Situation, after_draws, came_in, came_of, draws, emptied}
+use Rattle.rad_shell.specs.Serving.{is_replied, octet_count, received_all, replies, reply_to, stopped}
 use Rattle.rad_shell.specs.declared.ports.Got.{Got}
 use Rattle.rad_shell.specs.declared.ports.PortFault.{PortFault}
 
@@ -40,7 +45,8 @@ passed_as one other before after is passed = subst (λ list. HavePassed list bef
 pub octets_more : (got : List Got) (one : Got) → octet_count (got ++ one ∷ []) ≡ octet_count got + one.len
 octets_more got one = sum_by_push (λ g. g.len) got one
 
-pub octets_left : (got : List Got) (i : ℕ) (d : Got) → i < length got → octet_count (drop i got) ≡ (get_or got i d).len + octet_count (drop (i + 1) got)
+pub octets_left : (got : List Got) (i : ℕ) (d : Got) → i < length got
+    → octet_count (drop i got) ≡ (get_or got i d).len + octet_count (drop (i + 1) got)
 octets_left got i d lt = sum_by-drop_more (λ g. g.len) got i d lt
 
 came_in-append : (got : List Got) (octets : List ℕ) (one : Got) (more : List ℕ) → octet_count got ≡ length octets
@@ -103,10 +109,12 @@ pub received_full : (got : List Got) (octets : List ℕ) (before after : Option 
 received_full got octets before after full passed =
     let came = came_in got octets in
     passed_as (map In came) (map In came ++ emptied came) before after
-    (sym (append-nil (map In came)) ∙ ap (λ list. map In came ++ list) (sym (emptied_full came (came_in-length got octets ∙ full)))) passed
+    (sym (append-nil (map In came)) ∙ ap (λ list. map In came ++ list) (sym (emptied_full came (came_in-length got octets ∙ full))))
+    passed
 
 -- all were received, as none waits
-pub received_until : (got : List Got) (octets buffer : List ℕ) (before now after : Option (List Passage)) → length got < arrivals_max
+pub received_until : (got : List Got) (octets buffer : List ℕ) (before now after : Option (List Passage))
+    → length got < arrivals_max
     → HavePassed (map In (came_in got octets)) before now → HavePassed (received (Ok None) buffer) now after
     → HavePassed (received_all (Ok tt) (came_in got octets)) before after
 received_until got octets buffer before now after few passed none =
@@ -125,7 +133,8 @@ received_fault got octets fault before now after passed failed =
 
 -- ---- draws
 
-pub draws_more : (count : ℕ) (random : Stream) → draws (count + 1) random ≡ draws count random ++ (fill_bytes 16 (after_draws count random)).0 ∷ []
+pub draws_more : (count : ℕ) (random : Stream)
+    → draws (count + 1) random ≡ draws count random ++ (fill_bytes 16 (after_draws count random)).0 ∷ []
 draws_more zero random = refl
 draws_more (suc count) random =
     ap (λ n. draws n random) (add-one (suc count))
@@ -158,23 +167,27 @@ pub drawn_more : (arrivals : List Timed) (timed : Timed) (draws : List (List ℕ
     → map (λ timed. timed.draw) arrivals ≡ take i draws
     → map (λ timed. timed.draw) (arrivals ++ timed ∷ []) ≡ take (i + 1) draws
 drawn_more arrivals timed draws i d lt one is =
-    map-append (λ t. t.draw) arrivals (timed ∷ []) ∙ ap (λ list. list ++ timed.draw ∷ []) is ∙ ap (λ draw. take i draws ++ draw ∷ []) one
+    map-append (λ t. t.draw) arrivals (timed ∷ []) ∙ ap (λ list. list ++ timed.draw ∷ []) is
+    ∙ ap (λ draw. take i draws ++ draw ∷ []) one
     ∙ sym (take_more draws i d lt)
 
 -- ---- replies
 
 pub none_sent : (got : List Got) (octets : List ℕ) (outcomes : List Outcome) (passed : Option (List Passage))
     → AreSentBefore (replies (came_in got octets) outcomes) got outcomes passed passed
-none_sent got octets outcomes passed = record { went = []; octets = octets; passed = none_passed passed passed refl; replied = refl }
+none_sent got octets outcomes passed =
+    record { went = []; octets = octets; passed = none_passed passed passed refl; replied = refl }
 
 -- a reply goes by the source of its datagram
-reply_to_source : (got : Got) (octets : List ℕ) (outcome : Outcome) → reply_to (came_by got []) outcome ≡ reply_to (came_by got octets) outcome
+reply_to_source : (got : Got) (octets : List ℕ) (outcome : Outcome)
+    → reply_to (came_by got []) outcome ≡ reply_to (came_by got octets) outcome
 reply_to_source got octets (Dropped discard) = refl
 reply_to_source got octets Busy = refl
 reply_to_source got octets NoMemory = refl
 reply_to_source got octets (Reply frame) = refl
 
-pub one_more_sent : (all : List Went) (got : List Got) (outcomes : List Outcome) (i : ℕ) (g : Got) (d : Outcome) (before now after : Option (List Passage))
+pub one_more_sent : (all : List Went) (got : List Got) (outcomes : List Outcome) (i : ℕ) (g : Got) (d : Outcome)
+    (before now after : Option (List Passage))
     → i < length got → i < length outcomes → AreSentBefore all (drop i got) (drop i outcomes) before now
     → HavePassed (map Out (reply_to (came_by (get_or got i g) []) (get_or outcomes i d))) now after
     → AreSentBefore all (drop (i + 1) got) (drop (i + 1) outcomes) before after
@@ -190,7 +203,8 @@ one_more_sent all got outcomes i g d before now after lt below so_far one =
       went = so_far.went ++ reply;
       octets = rest;
       passed = passed_as (map Out so_far.went ++ map Out reply) (map Out (so_far.went ++ reply)) before after
-          (sym (map-append Out so_far.went reply)) (both_passed (map Out so_far.went) (map Out reply) before now after so_far.passed one);
+          (sym (map-append Out so_far.went reply))
+          (both_passed (map Out so_far.went) (map Out reply) before now after so_far.passed one);
       replied = append_assoc so_far.went reply (replies (came_in (drop (i + 1) got) rest) (drop (i + 1) outcomes))
           ∙ ap (λ r. so_far.went ++ (r ++ replies (came_in (drop (i + 1) got) rest) (drop (i + 1) outcomes))) same
           ∙ ap (λ list. so_far.went ++ replies (came_in list so_far.octets) (outcome ∷ drop (i + 1) outcomes)) (sym next)
@@ -203,14 +217,16 @@ pub all_sent : (all : List Went) (got : List Got) (outcomes : List Outcome) (bef
 all_sent all got outcomes before after so_far = record {
   went = so_far.went;
   left = [];
-  passed = passed_as (map Out so_far.went) (map Out so_far.went ++ []) before after (sym (append-nil (map Out so_far.went))) so_far.passed;
+  passed = passed_as (map Out so_far.went) (map Out so_far.went ++ []) before after (sym (append-nil (map Out so_far.went)))
+      so_far.passed;
   replied = ap (λ list. so_far.went ++ replies (came_in list so_far.octets) outcomes) (sym (drop-length got)) ∙ so_far.replied;
   none_left = refl;
   some_left = tt;
 }
 
 -- a reply is left
-some_reply : (came : Came) (outcome : Outcome) (rest : List Went) → is_replied outcome ≡ true → reply_to came outcome ++ rest ≡ [] → ⊥
+some_reply : (came : Came) (outcome : Outcome) (rest : List Went) → is_replied outcome ≡ true
+    → reply_to came outcome ++ rest ≡ [] → ⊥
 some_reply came (Dropped discard) rest replied none = absurd cc
 some_reply came Busy rest replied none = absurd cc
 some_reply came NoMemory rest replied none = absurd cc
@@ -249,14 +265,17 @@ sent_until all got outcomes i g d fault before now after lt below so_far replied
 
 -- ---- what came in a turn
 
-pub has_drawn : (before : Situation) (waited passed : Option (List Passage)) (first random : Stream) (receiving : Result (Unit {0}) PortFault)
+pub has_drawn : (before : Situation) (waited passed : Option (List Passage)) (first random : Stream)
+    (receiving : Result (Unit {0}) PortFault)
     (got got' : List Got) (octets octets' : List ℕ) (drawn : List (List ℕ)) (count : ℕ) → is_err receiving ≡ false
     → HavePassed [] before.passed waited → HavePassed (received_all receiving (came_in got octets)) waited passed
     → first ≡ before.random → got' ≡ got → octets' ≡ octets → count ≡ length got' → drawn ≡ draws count first
     → random ≡ after_draws count first → HasDrawn before (came_in got' octets') drawn random passed
-has_drawn before waited passed first random (Err fault) got got' octets octets' drawn count ok none came same gots octetss counted drawn_are random_is =
+has_drawn before waited passed first random (Err fault) got got' octets octets' drawn count ok none came same gots octetss counted
+    drawn_are random_is =
     absurd cc
-has_drawn before waited passed first random (Ok done) got got' octets octets' drawn count ok none came same gots octetss counted drawn_are random_is =
+has_drawn before waited passed first random (Ok done) got got' octets octets' drawn count ok none came same gots octetss counted
+    drawn_are random_is =
     let all = counted ∙ sym (came_in-length got' octets') in
     let some = came_in got' octets' in
     record {

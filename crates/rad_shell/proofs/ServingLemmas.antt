@@ -1,5 +1,7 @@
 -- Serving: a round has an entry for each outcome of an exchange, and turns go on from one another.
-use Rattle.std.proofs.Common.{◌≡◌, ◌≢◌, ◌⊎◌, ◌<◌, ◌≤◌, ℕ, zero, suc, ◌+◌, max, Bool, true, false, cond, List, [], ◌∷◌, ◌++◌, length, map, take, filter, get_or, Option, IfSome, Some, None, Result, Ok, Err, IsTrue, is_err, slice_get, arith, refl, sym, ap, subst, ◌∙◌, inl, inr}
+use Rattle.std.proofs.Common.{◌≡◌, ◌≢◌, ◌⊎◌, ◌<◌, ◌≤◌, ℕ, zero, suc, ◌+◌, max, Bool, true, false, cond, List, [], ◌∷◌, ◌++◌, length}
+use Rattle.std.proofs.Common.{map, take, filter, get_or, Option, IfSome, Some, None, Result, Ok, Err, IsTrue, is_err, slice_get}
+use Rattle.std.proofs.Common.{arith, refl, sym, ap, subst, ◌∙◌, inl, inr}
 use lib.ListN.{length-append}
 use Rattle.std.proofs.lemmas.Option.{get_or_from_slice_get, none-some, slice_get-get_or, slice_get_within}
 use Rattle.std.proofs.lemmas.List.{append-nil, append_assoc, take_all}
@@ -21,13 +23,18 @@ use Rattle.rad_journal.specs.Leads.{FreshAreKept, KeptLastOverTime, KeptLeadOn}
 use Rattle.rad_journal.specs.declared.journal.JournalFault.{JournalFault}
 use Rattle.rad_journal.specs.declared.kept.Kept.{Kept}
 use Rattle.rad_shell.specs.Passages.{Came, Fault, HavePassed, In, Out, Passage, Went, clock_told}
-use Rattle.rad_shell.specs.Serving.{AddTurn, AddUp, AddsTurn, AreSent, AreTurns, AreTurnsSoFar, HasDrawn, IsAnswered, IsBetween, IsCounted, IsLost, IsMade, IsRoundMade, IsServed, IsWithoutMemory, Outlives, Situation, Tally, UnlessJournal, between, came_of, emptied, exchange_count, is_exchanged, is_replied, is_reply, no_sums, no_turn, nothing_done, one_more, received_all, replied_count, replies, reply_count, round_lost, stopped, with_turn}
+use Rattle.rad_shell.specs.Serving.{AddTurn, AddUp, AddsTurn, AreSent, AreTurns, AreTurnsSoFar, HasDrawn, IsAnswered, IsBetween}
+use Rattle.rad_shell.specs.Serving.{IsCounted, IsLost, IsMade, IsRoundMade, IsServed, IsWithoutMemory, Outlives, Situation, Tally}
+use Rattle.rad_shell.specs.Serving.{UnlessJournal, between, came_of, emptied, exchange_count, is_exchanged, is_replied, is_reply}
+use Rattle.rad_shell.specs.Serving.{no_sums, no_turn, nothing_done, one_more, received_all, replied_count, replies, reply_count}
+use Rattle.rad_shell.specs.Serving.{round_lost, stopped, with_turn}
 use Rattle.rad_round.specs.declared.outcome.Outcome.{Outcome}
 use Rattle.rad_round.specs.declared.outcome.Outcome.TheVariants.{Dropped, Busy, NoMemory, Reply}
 use Rattle.rad_shell.specs.declared.ports.PortFault.{PortFault}
 use Rattle.rad_shell.specs.declared.serve_fault.ServeFault.{ServeFault}
 use Rattle.rad_shell.specs.declared.serve_fault.ServeFault.TheVariants as faults
-use Rattle.rad_shell.proofs.KeepingLemmas.{adds_all, adds_none, adds_some, leads_by_none, leads_by_turn, leads_by_unkept, leads_in_time, leads_nowhere, leads_settled, outlives_all, outlives_until}
+use Rattle.rad_shell.proofs.KeepingLemmas.{adds_all, adds_none, adds_some, leads_by_none, leads_by_turn, leads_by_unkept}
+use Rattle.rad_shell.proofs.KeepingLemmas.{leads_in_time, leads_nowhere, leads_settled, outlives_all, outlives_until}
 use Rattle.rad_shell.proofs.PassageLemmas.{both_passed}
 use Rattle.rad_shell.specs.declared.served.Served.{Served}
 use Rattle.rad_round.specs.declared.timed.Timed.{Timed}
@@ -45,8 +52,11 @@ one_more_reply outcomes i d lt = length-filter_more is_replied outcomes i d lt
 -- ---- entries, counted
 
 -- the first of a list, counted
-count_cons : {A : Type 0} (p : A → Bool) (x : A) (rest : List A) → length (filter p (x ∷ rest)) ≡ cond (p x) 1 0 + length (filter p rest)
-count_cons p x rest = length-filter p (x ∷ rest) ∙ sum_by-cons (λ y. cond (p y) 1 0) x rest ∙ ap (λ n. cond (p x) 1 0 + n) (sym (length-filter p rest))
+count_cons : {A : Type 0} (p : A → Bool) (x : A) (rest : List A)
+    → length (filter p (x ∷ rest)) ≡ cond (p x) 1 0 + length (filter p rest)
+count_cons p x rest =
+    length-filter p (x ∷ rest) ∙ sum_by-cons (λ y. cond (p y) 1 0) x rest
+    ∙ ap (λ n. cond (p x) 1 0 + n) (sym (length-filter p rest))
 
 count_append : {A : Type 0} (p : A → Bool) (first rest : List A)
     → length (filter p (first ++ rest)) ≡ length (filter p first) + length (filter p rest)
@@ -121,10 +131,12 @@ tally counts f [] = 0
 tally counts f (entry ∷ rest) = cond (counts entry) (f entry.tag) 0 + tally counts f rest
 
 tally_more : (counts : Entry → Bool) (history : List Entry) (end : ℕ)
-    → tally counts (λ tag. below tag (suc end)) history ≡ tally counts (λ tag. below tag end) history + tally counts (λ tag. same tag end) history
+    → tally counts (λ tag. below tag (suc end)) history
+    ≡ tally counts (λ tag. below tag end) history + tally counts (λ tag. same tag end) history
 tally_more counts [] end = omega arith
 tally_more counts (entry ∷ rest) end =
-    let one = sum_if (counts entry) (below entry.tag (suc end)) (below entry.tag end) (same entry.tag end) (below_more entry.tag end) in
+    let one = sum_if (counts entry) (below entry.tag (suc end)) (below entry.tag end) (same entry.tag end)
+    (below_more entry.tag end) in
     omega (arith, one, tally_more counts rest end)
 
 tally_none : (counts : Entry → Bool) (history : List Entry) → tally counts (λ tag. below tag 0) history ≡ 0
@@ -157,15 +169,19 @@ once counts [] tag place entry own at is so = absurd (none-some entry at)
 once counts (first ∷ rest) tag zero entry own at is so =
     let found : first ≡ entry = get_or_from_slice_get (first ∷ rest) 0 entry first at in
     let tagged : first.tag ≡ tag = ap (λ e. e.tag) found ∙ is in
-    let one = one_if (counts first) (same first.tag tag) (ap counts found ∙ so) (subst (λ t. same first.tag t ≡ 1) tagged (same_yes first.tag)) in
-    let none = absent counts rest tag (λ place other there so equal. absurd (apart (own 0 (suc place) first other refl there (tagged ∙ sym equal)))) in
+    let one = one_if (counts first) (same first.tag tag) (ap counts found ∙ so)
+    (subst (λ t. same first.tag t ≡ 1) tagged (same_yes first.tag)) in
+    let none = absent counts rest tag
+    (λ place other there so equal. absurd (apart (own 0 (suc place) first other refl there (tagged ∙ sym equal)))) in
     omega (arith, one, none)
   where
     apart : {place : ℕ} → 0 ≡ suc place → ⊥
     apart is = absurd (omega arith)
 once counts (first ∷ rest) tag (suc place) entry own at is so =
-    let one = zero_if (counts first) (same first.tag tag) (λ counted. same_no first.tag tag (λ equal. absurd (apart (own 0 (suc place) first entry refl at (equal ∙ sym is))))) in
-    let more = once counts rest tag place entry (λ p q e f there also equal. less (own (suc p) (suc q) e f there also equal)) at is so in
+    let one = zero_if (counts first) (same first.tag tag)
+    (λ counted. same_no first.tag tag (λ equal. absurd (apart (own 0 (suc place) first entry refl at (equal ∙ sym is))))) in
+    let more = once counts rest tag place entry (λ p q e f there also equal. less (own (suc p) (suc q) e f there also equal)) at
+    is so in
     omega (arith, one, more)
   where
     apart : {place : ℕ} → 0 ≡ suc place → ⊥
@@ -241,7 +257,8 @@ counted_in_round is_counted counts counted before arrivals outcomes history afte
         (round.entries place entry (slice_get_within history place entry at))
 
     within : (place : ℕ) (entry : Entry) → slice_get history place ≡ Some entry → entry.tag < length outcomes
-    within place entry at = let found = entry_at place entry at in slice_get_within outcomes entry.tag found.outcome found.outcome_is
+    within place entry at = let found = entry_at place entry at in
+        slice_get_within outcomes entry.tag found.outcome found.outcome_is
 
     -- the entries that count, with the tag of an outcome
     tagged : (number : ℕ) (outcome : Outcome) → slice_get outcomes number ≡ Some outcome → (so : Bool) → is_counted outcome ≡ so
@@ -252,14 +269,17 @@ counted_in_round is_counted counts counted before arrivals outcomes history afte
         let timed = found.0 in
         let answered = round.answered number timed found.1 in
         let equal : answered.0 ≡ outcome = same_some answered.0 outcome (sym answered.1 ∙ at) in
-        let entry = entry_of clients history number timed outcome (subst (IsOutcome clients (HasEntry history) number timed) equal answered.2)
+        let entry = entry_of clients history number timed outcome
+        (subst (IsOutcome clients (HasEntry history) number timed) equal answered.2)
         (counted.has outcome is) in
         once counts history number entry.1.0 entry.0 round.tags entry.1.1 entry.2.asked.has_tag
         (sym (counted.agree clients number timed outcome entry.0 entry.2) ∙ is)
     tagged number outcome at false is = absent counts history number (λ place entry there so equal.
         let found = entry_at place entry there in
-        let one : outcome ≡ found.outcome = same_some outcome found.outcome (sym at ∙ ap (slice_get outcomes) (sym equal) ∙ found.outcome_is) in
-        absurd (differ (sym is ∙ ap is_counted one ∙ counted.agree clients entry.tag found.timed found.outcome entry found.entry_of ∙ so)))
+        let one : outcome ≡ found.outcome =
+        same_some outcome found.outcome (sym at ∙ ap (slice_get outcomes) (sym equal) ∙ found.outcome_is) in
+        absurd (differ (sym is ∙ ap is_counted one ∙ counted.agree clients entry.tag found.timed found.outcome entry found.entry_of
+        ∙ so)))
 
     up_to : (end : ℕ) → end ≤ length outcomes
         → tally counts (λ tag. below tag end) history ≡ length (filter is_counted (take end outcomes))
@@ -307,7 +327,8 @@ as_many_replies (Some moment) (entry ∷ rest) = by_answer (is_reply entry.answe
     others : List Entry
     others = filter (λ e. is_reply e.answer) rest
 
-    by_answer : (b : Bool) → length (cond b (record entry { moment = max moment entry.moment } ∷ others) others) ≡ length (cond b (entry ∷ others) others)
+    by_answer : (b : Bool) → length (cond b (record entry { moment = max moment entry.moment } ∷ others) others)
+        ≡ length (cond b (entry ∷ others) others)
     by_answer true = refl
     by_answer false = refl
 
@@ -324,8 +345,10 @@ round_made before came drawn arrivals outcomes history marks after few arrived d
   round = round;
   marked = marked;
   enough = λ wall. fresh before history marks after wall valid lawful marked;
-  exchanged = sym (count_every history) ∙ counted_in_round is_exchanged every exchanges_counted before arrivals outcomes history after round;
-  replied = counted_in_round is_replied (λ entry. is_reply entry.answer) replies_counted before arrivals outcomes history after round;
+  exchanged = sym (count_every history)
+      ∙ counted_in_round is_exchanged every exchanges_counted before arrivals outcomes history after round;
+  replied = counted_in_round is_replied (λ entry. is_reply entry.answer) replies_counted before arrivals outcomes history after
+      round;
   few = subst (λ n. n ≤ arrivals_max) (sym round.count) few;
 }
 
@@ -336,10 +359,12 @@ no_round : (before after : Server) → after ≡ before → IsHistory before [] 
 no_round before after is = subst (IsHistory before []) (sym is) (no_exchange before)
 
 -- a turn, and what it did to a journal of which these facts hold if it is clean
-abbrev pub IsTurnOf : {A : Type 0} → Bool → Situation → Served → Result A ServeFault → Situation → Served → Type 0 → List Kept → List Kept
+abbrev pub IsTurnOf : {A : Type 0} → Bool → Situation → Served → Result A ServeFault → Situation → Served → Type 0 → List Kept
+    → List Kept
     → (List Kept → Type 0) → (List Kept → Type 0) → Type 0
 IsTurnOf keeps before served result after served_after clean kept kept_now left left_now =
-    (turn : IsCounted keeps before served result after served_after) × (clean → AddsTurn kept turn.tally result kept_now left left_now)
+    (turn : IsCounted keeps before served result after served_after)
+    × (clean → AddsTurn kept turn.tally result kept_now left left_now)
 
 lost : {A : Type 0} (keeps : Bool) (before : Situation) (served : Served) (result : A) (after : Situation) (served_after : Served)
     (clean : Type 0) (kept : List Kept) (left : List Kept → Type 0)
@@ -358,7 +383,8 @@ lost keeps before served result after served_after clean kept left is server sum
 )
 
 -- a turn without memory for datagrams
-pub idle_turn : {A : Type 0} (keeps : Bool) (before : Situation) (served : Served) (waited : Option (List Passage)) (result : A) (after : Situation)
+pub idle_turn : {A : Type 0} (keeps : Bool) (before : Situation) (served : Served) (waited : Option (List Passage)) (result : A)
+    (after : Situation)
     (served_after : Served) (clean : Type 0) (kept : List Kept) (left : List Kept → Type 0)
     → HavePassed [] before.passed waited → HavePassed [] waited after.passed
     → after.random ≡ before.random → after.server ≡ before.server → AddTurn 0 0 1 served served_after
@@ -385,7 +411,8 @@ lost_turn keeps before served came drawn passed result after served_after clean 
     })) server sums
 
 -- a turn whose round isn't made
-pub cut_short : {A : Type 0} (keeps : Bool) (before : Situation) (served : Served) (came : List Came) (waited : Option (List Passage))
+pub cut_short : {A : Type 0} (keeps : Bool) (before : Situation) (served : Served) (came : List Came)
+    (waited : Option (List Passage))
     (receiving : Result (Unit {0}) PortFault) (after : Situation) (served_after : Served) (clean : Type 0) (kept : List Kept)
     (left : List Kept → Type 0) → is_err receiving ≡ true
     → HavePassed [] before.passed waited → HavePassed (received_all receiving came) waited after.passed
@@ -413,10 +440,13 @@ cut_short {A} keeps before served came waited (Err fault) after served_after cle
 )
 
 -- a round is made of what came, and this is to be kept of it
-answered : (keeps : Bool) (before : Situation) (came : List Came) (drawn : List (List ℕ)) (outcomes : List Outcome) (history : List Entry)
-    (marks : List Bool) (wall : ℕ) (passed : Option (List Passage)) (after : Situation) → HasDrawn before came drawn after.random passed
+answered : (keeps : Bool) (before : Situation) (came : List Came) (drawn : List (List ℕ)) (outcomes : List Outcome)
+    (history : List Entry)
+    (marks : List Bool) (wall : ℕ) (passed : Option (List Passage)) (after : Situation)
+    → HasDrawn before came drawn after.random passed
     → IsRoundMade before.server came drawn outcomes history marks after.server
-    → IsAnswered keeps before came outcomes history (added keeps (kept_of wall (fresh_of before.server.state.clock history marks))) after
+    → IsAnswered keeps before came outcomes history
+    (added keeps (kept_of wall (fresh_of before.server.state.clock history marks))) after
 answered keeps before came drawn outcomes history marks wall passed after has round = record {
   arrivals = round.arrivals;
   marks = marks;
@@ -430,7 +460,8 @@ answered keeps before came drawn outcomes history marks wall passed after has ro
 }
 
 -- a turn whose round is made and kept
-made : (keeps : Bool) (before : Situation) (came : List Came) (drawn : List (List ℕ)) (outcomes listed : List Outcome) (history : List Entry)
+made : (keeps : Bool) (before : Situation) (came : List Came) (drawn : List (List ℕ)) (outcomes listed : List Outcome)
+    (history : List Entry)
     (marks : List Bool) (wall : ℕ) (passed : Option (List Passage)) (result : Result (Unit {0}) PortFault) (after : Situation)
     → HasDrawn before came drawn after.random passed
     → IsRoundMade before.server came drawn outcomes history marks after.server → listed ≡ outcomes
@@ -441,7 +472,8 @@ made keeps before came drawn outcomes listed history marks wall passed result af
   went = sent.went;
   outcomes = outcomes;
   answered = answered keeps before came drawn outcomes history marks wall passed after has round;
-  passed = both_passed (map In came ++ emptied came) (map Out sent.went ++ stopped sent.left) before.passed passed after.passed has.passed_is sent.passed;
+  passed = both_passed (map In came ++ emptied came) (map Out sent.went ++ stopped sent.left) before.passed passed after.passed
+      has.passed_is sent.passed;
   replied = sent.replied ∙ ap (replies came) is;
 }
 
@@ -451,23 +483,29 @@ pub record IsCommitted (added : List Kept) (kept kept_now : List Kept) (left lef
   pub crash : (one : List Kept) → left_now one → left one ⊎ (one ≡ kept ++ added)
 
 -- what is kept of the same entries with the same marks since the same clock is the same
-pub same_fresh : (clock now : ℕ) (listed history : List Entry) (noted marks : List Bool) → clock ≡ now → listed ≡ history → noted ≡ marks
+pub same_fresh : (clock now : ℕ) (listed history : List Entry) (noted marks : List Bool) → clock ≡ now → listed ≡ history
+    → noted ≡ marks
     → fresh_of clock listed noted ≡ fresh_of now history marks
 same_fresh clock now listed history noted marks clocks entries both =
-    ap (λ n. fresh_of n listed noted) clocks ∙ ap (λ list. fresh_of now list noted) entries ∙ ap (λ list. fresh_of now history list) both
+    ap (λ n. fresh_of n listed noted) clocks ∙ ap (λ list. fresh_of now list noted) entries
+    ∙ ap (λ list. fresh_of now history list) both
 
 pub made_turn : {A : Type 0} (keeps : Bool) (before : Situation) (served : Served) (came : List Came) (drawn : List (List ℕ))
     (outcomes listed : List Outcome) (history : List Entry) (marks : List Bool) (wall : ℕ)
-    (passed : Option (List Passage)) (sending : Result (Unit {0}) PortFault) (result : A) (after : Situation) (served_after : Served)
+    (passed : Option (List Passage)) (sending : Result (Unit {0}) PortFault) (result : A) (after : Situation)
+    (served_after : Served)
     (clean : Type 0) (kept kept_now : List Kept) (left left_now : List Kept → Type 0)
     → is_err sending ≡ false → HasDrawn before came drawn after.random passed
     → IsRoundMade before.server came drawn outcomes history marks after.server → listed ≡ outcomes
     → AreSent (replies came listed) sending passed after.passed
     → AddTurn (exchange_count outcomes) (replied_count outcomes) 0 served served_after
-    → (clean → IsCommitted (added keeps (kept_of wall (fresh_of before.server.state.clock history marks))) kept kept_now left left_now)
+    → (clean → IsCommitted (added keeps (kept_of wall (fresh_of before.server.state.clock history marks))) kept kept_now left
+    left_now)
     → IsTurnOf keeps before served (Ok result) after served_after clean kept kept_now left left_now
-made_turn keeps before served came drawn outcomes listed history marks wall passed (Err fault) result after served_after clean kept kept_now left left_now ok has round is sent sums committed = absurd cc
-made_turn keeps before served came drawn outcomes listed history marks wall passed (Ok done) result after served_after clean kept kept_now left left_now ok has round is sent sums committed =
+made_turn keeps before served came drawn outcomes listed history marks wall passed (Err fault) result after served_after clean kept
+    kept_now left left_now ok has round is sent sums committed = absurd cc
+made_turn keeps before served came drawn outcomes listed history marks wall passed (Ok done) result after served_after clean kept
+    kept_now left left_now ok has round is sent sums committed =
     let all = kept_of wall (fresh_of before.server.state.clock history marks) in
     let tally : Tally = record { history = history; lost = 0; kept = added keeps all; unkept = [] } in (
       record {
@@ -488,9 +526,11 @@ made_turn keeps before served came drawn outcomes listed history marks wall pass
     )
 
 -- a turn whose round is made and kept, but whose replies aren't all sent
-some_left : (keeps : Bool) (before : Situation) (tally : Tally) (left : List Went) (after : Situation) → tally.lost ≡ 0 → tally.unkept ≡ []
+some_left : (keeps : Bool) (before : Situation) (tally : Tally) (left : List Went) (after : Situation) → tally.lost ≡ 0
+    → tally.unkept ≡ []
     → (left ≡ [] → ⊥) → IsMade keeps before tally.history tally.kept left after
-    → (next : Went) × (rest : List Went) × IsMade keeps before tally.history tally.kept (next ∷ rest) after × (tally.lost ≡ 0) × (tally.unkept ≡ [])
+    → (next : Went) × (rest : List Went) × IsMade keeps before tally.history tally.kept (next ∷ rest) after × (tally.lost ≡ 0)
+    × (tally.unkept ≡ [])
 some_left keeps before tally [] after none settled some is = absurd (some refl)
 some_left keeps before tally (next ∷ rest) after none settled some is = (next, rest, is, none, settled)
 
@@ -501,10 +541,13 @@ pub unsent_turn : {A : Type 0} (keeps : Bool) (before : Situation) (served : Ser
     → is_err sending ≡ true → HasDrawn before came drawn after.random passed
     → IsRoundMade before.server came drawn outcomes history marks after.server → listed ≡ outcomes
     → AreSent (replies came listed) sending passed after.passed
-    → (clean → IsCommitted (added keeps (kept_of wall (fresh_of before.server.state.clock history marks))) kept kept_now left left_now)
+    → (clean → IsCommitted (added keeps (kept_of wall (fresh_of before.server.state.clock history marks))) kept kept_now left
+    left_now)
     → IsTurnOf {A = A} keeps before served (Err faults.Send) after served_after clean kept kept_now left left_now
-unsent_turn keeps before served came drawn outcomes listed history marks wall passed (Ok done) after served_after clean kept kept_now left left_now failed has round is sent committed = absurd cc
-unsent_turn {A} keeps before served came drawn outcomes listed history marks wall passed (Err fault) after served_after clean kept kept_now left left_now failed has round is sent committed =
+unsent_turn keeps before served came drawn outcomes listed history marks wall passed (Ok done) after served_after clean kept
+    kept_now left left_now failed has round is sent committed = absurd cc
+unsent_turn {A} keeps before served came drawn outcomes listed history marks wall passed (Err fault) after served_after clean kept
+    kept_now left left_now failed has round is sent committed =
     let all = kept_of wall (fresh_of before.server.state.clock history marks) in
     let tally : Tally = record { history = history; lost = 0; kept = added keeps all; unkept = [] } in (
       record {
@@ -516,7 +559,8 @@ unsent_turn {A} keeps before served came drawn outcomes listed history marks wal
         settled = tt;
         sums = tt;
       },
-      λ is_clean. let done = committed is_clean in adds_all {A = A} kept tally (Err faults.Send) kept_now left left_now refl done.now done.crash,
+      λ is_clean. let done = committed is_clean in
+          adds_all {A = A} kept tally (Err faults.Send) kept_now left left_now refl done.now done.crash,
     )
 
 -- a turn whose round is made, but perhaps not kept
@@ -529,7 +573,8 @@ pub unkept_turn : {A : Type 0} (keeps : Bool) (before : Situation) (served : Ser
     → (clean → (one : List Kept) → left_now one
     → left one ⊎ (one ≡ kept ++ added keeps (kept_of wall (fresh_of before.server.state.clock history marks))))
     → IsTurnOf {A = A} keeps before served (Err (faults.Journal fault)) after served_after clean kept kept_now left left_now
-unkept_turn {A} keeps before served came drawn outcomes history marks wall fault after served_after clean kept kept_now left left_now has round fails crash =
+unkept_turn {A} keeps before served came drawn outcomes history marks wall fault after served_after clean kept kept_now left
+    left_now has round fails crash =
     let all = kept_of wall (fresh_of before.server.state.clock history marks) in
     let tally : Tally = record { history = history; lost = 0; kept = []; unkept = added keeps all } in (
       record {
@@ -539,7 +584,8 @@ unkept_turn {A} keeps before served came drawn outcomes history marks wall fault
             came = came;
             outcomes = outcomes;
             answered = answered keeps before came drawn outcomes history marks wall after.passed after has round;
-            passed = subst (λ list. HavePassed list before.passed after.passed) (sym (append-nil (map In came ++ emptied came))) has.passed_is;
+            passed = subst (λ list. HavePassed list before.passed after.passed) (sym (append-nil (map In came ++ emptied came)))
+                has.passed_is;
             fails = fails;
           },
           refl,
@@ -557,7 +603,8 @@ unkept_turn {A} keeps before served came drawn outcomes history marks wall fault
 
 -- time passes up to a moment that the ports told
 pub between_by : (before after : Server) (passed passed_after : Option (List Passage)) (moment : Option ℕ)
-    → HavePassed (clock_told moment) passed passed_after → IfSome moment (λ m. m ≤ moment_max) → after.configuration ≡ before.configuration
+    → HavePassed (clock_told moment) passed passed_after → IfSome moment (λ m. m ≤ moment_max)
+    → after.configuration ≡ before.configuration
     → after.state ≡ when_passed moment before.state → IsBetween before passed after passed_after
 between_by before after passed passed_after moment told small same is = record {
   moment = moment;
@@ -568,7 +615,8 @@ between_by before after passed passed_after moment told small same is = record {
 }
 
 -- nothing is done
-pub none_between : (before after : Server) (passed passed_after : Option (List Passage)) → HavePassed [] passed passed_after → after ≡ before
+pub none_between : (before after : Server) (passed passed_after : Option (List Passage)) → HavePassed [] passed passed_after
+    → after ≡ before
     → IsBetween before passed after passed_after
 none_between before after passed passed_after none is =
     between_by before after passed passed_after None none tt (ap (λ s. s.configuration) is) (ap (λ s. s.state) is)
@@ -596,7 +644,8 @@ pub none_add_up : AddUp no_sums
 none_add_up = record { rounds = omega arith; most = omega arith; once = omega arith; lost = omega arith; each = λ _. refl }
 
 pub nothing_served : (keeps : Bool) (situation : Situation) (served : Served) (clean : Type 0) (kept : List Kept)
-    → served.replies + served.busy ≡ 0 → served.failed ≡ 0 → served.rounds ≡ 0 → AreKeptSoFar keeps situation served situation clean kept kept
+    → served.replies + served.busy ≡ 0 → served.failed ≡ 0 → served.rounds ≡ 0
+    → AreKeptSoFar keeps situation served situation clean kept kept
 nothing_served keeps situation served clean kept none no_lost no_rounds = (
   record {
     tally = nothing_done;
@@ -612,14 +661,18 @@ nothing_served keeps situation served clean kept none no_lost no_rounds = (
 )
 
 -- one more turn, and what is done after it
-pub one_more_turn : {A : Type 0} (keeps : Bool) (before : Situation) (served : Served) (middle : Situation) (result : A) (after : Situation)
-    (served_after : Served) (server : Server) (passed : Option (List Passage)) (clean : Type 0) (kept kept_middle kept_now : List Kept)
+pub one_more_turn : {A : Type 0} (keeps : Bool) (before : Situation) (served : Served) (middle : Situation) (result : A)
+    (after : Situation)
+    (served_after : Served) (server : Server) (passed : Option (List Passage)) (clean : Type 0)
+    (kept kept_middle kept_now : List Kept)
     (left left_now : List Kept → Type 0) → HistoriesAfterTime → KeptLeadOn → KeptLastOverTime
     → (so_far : AreTurnsSoFar keeps before served middle) → (clean → kept_middle ≡ kept ++ so_far.tally.kept)
     → IsTurnOf keeps middle served (Ok result) after served_after clean kept_middle kept_now left left_now
     → IsBetween after.server after.passed server passed
-    → AreKeptSoFar keeps before served_after (record { server = server; random = after.random; passed = passed }) clean kept kept_now
-one_more_turn {A} keeps before served middle result after served_after server passed clean kept kept_middle kept_now left left_now joins leads_on lasts so_far was (turn, adds) is =
+    → AreKeptSoFar keeps before served_after (record { server = server; random = after.random; passed = passed }) clean kept
+    kept_now
+one_more_turn {A} keeps before served middle result after served_after server passed clean kept kept_middle kept_now left left_now
+    joins leads_on lasts so_far was (turn, adds) is =
     let more : List Entry = not_before so_far.run.passed turn.tally.history in
     let tally : Tally = with_turn so_far.run.passed so_far.tally turn.tally in
     let run : LeadsTo before.server tally.history after.server =
@@ -630,7 +683,8 @@ one_more_turn {A} keeps before served middle result after served_after server pa
       record {
         tally = tally;
         turned = between server passed
-            (subst (λ n. AreTurns keeps before n tally (Ok tt) after) (sym turn.sums.rounds) (one_more turn.tally so_far.run so_far.turned turn.turn)) is;
+            (subst (λ n. AreTurns keeps before n tally (Ok tt) after) (sym turn.sums.rounds)
+            (one_more turn.tally so_far.run so_far.turned turn.turn)) is;
         run = subst (λ list. LeadsTo before.server list server)
             (ap (λ list. tally.history ++ list) (none_not_before run.passed) ∙ append-nil tally.history) later;
         enough = λ keeping. leads_in_time before.server after.server server after.passed passed tally.kept lasts
@@ -671,34 +725,46 @@ pub served_all : (keeps : Bool) (turns : ℕ) (before : Situation) (served : Ser
     → (so_far : AreTurnsSoFar keeps before served after) → (clean → kept_now ≡ kept ++ so_far.tally.kept)
     → (clean → opened → (left : List Kept) → may_leave left → left ≡ kept_now) → AddUp served → served.rounds ≡ turns
     → IsServedOf keeps turns before (Ok served) after clean opened kept kept_now may_leave
-served_all keeps turns before served after clean opened kept kept_now may_leave repeats laws valid lawful so_far was settled sums rounds = (
-  record {
-    made = served.rounds;
-    tally = so_far.tally;
-    turned = so_far.turned;
-    most = omega (arith, rounds);
-    all = rounds;
-    run = so_far.run;
-    repeat = repeats before.server.configuration before.server.state so_far.tally.history valid lawful;
-    lawful = laws before.server.configuration before.server.state so_far.tally.history valid lawful;
-    enough = λ is. leads_by_turn true before.server so_far.tally.kept so_far.tally after.server (so_far.enough is) refl so_far.settled refl;
-    settled = so_far.settled;
-    sums = record { rounds = rounds; failed = so_far.failed; replies = so_far.replied; exchanged = so_far.exchanged; datagrams = sums.each };
-  },
-  λ is_clean was_open. outlives_all kept so_far.tally served kept_now may_leave (was is_clean) (settled is_clean was_open),
-)
+served_all keeps turns before served after clean opened kept kept_now may_leave repeats laws valid lawful so_far was settled sums
+    rounds = (
+      record {
+        made = served.rounds;
+        tally = so_far.tally;
+        turned = so_far.turned;
+        most = omega (arith, rounds);
+        all = rounds;
+        run = so_far.run;
+        repeat = repeats before.server.configuration before.server.state so_far.tally.history valid lawful;
+        lawful = laws before.server.configuration before.server.state so_far.tally.history valid lawful;
+        enough = λ is. leads_by_turn true before.server so_far.tally.kept so_far.tally after.server (so_far.enough is) refl
+            so_far.settled refl;
+        settled = so_far.settled;
+        sums = record {
+          rounds = rounds;
+          failed = so_far.failed;
+          replies = so_far.replied;
+          exchanged = so_far.exchanged;
+          datagrams = sums.each;
+        };
+      },
+      λ is_clean was_open. outlives_all kept so_far.tally served kept_now may_leave (was is_clean) (settled is_clean was_open),
+    )
 
 -- turns until a fault
-pub served_until : {A : Type 0} (keeps : Bool) (turns : ℕ) (before : Situation) (served : Served) (middle : Situation) (fault reported : ServeFault)
-    (after : Situation) (served_after : Served) (clean opened : Type 0) (kept kept_middle kept_now : List Kept) (left left_now : List Kept → Type 0)
+pub served_until : {A : Type 0} (keeps : Bool) (turns : ℕ) (before : Situation) (served : Served) (middle : Situation)
+    (fault reported : ServeFault)
+    (after : Situation) (served_after : Served) (clean opened : Type 0) (kept kept_middle kept_now : List Kept)
+    (left left_now : List Kept → Type 0)
     → RunsRepeat → RunsAreLawful → HistoriesAfterTime → KeptLeadOn
     → IsConfiguration before.server.configuration → IsLawful before.server.configuration before.server.state
-    → (so_far : AreTurnsSoFar keeps before served middle) → (clean → kept_middle ≡ kept ++ so_far.tally.kept) → served.rounds < turns → reported ≡ fault
+    → (so_far : AreTurnsSoFar keeps before served middle) → (clean → kept_middle ≡ kept ++ so_far.tally.kept)
+    → served.rounds < turns → reported ≡ fault
     → IsTurnOf {A = A} keeps middle served (Err fault) after served_after clean kept_middle kept_now left left_now
     → (clean → opened → (one : List Kept) → left one → one ≡ kept_middle)
     → (clean → opened → UnlessJournal {A = A} (Err fault) ((one : List Kept) → left_now one → one ≡ kept_now))
     → IsServedOf keeps turns before (Err reported) after clean opened kept kept_now left_now
-served_until {A} keeps turns before served middle fault reported after served_after clean opened kept kept_middle kept_now left left_now repeats laws joins leads_on valid lawful so_far was fewer is (turn, adds) settled still =
+served_until {A} keeps turns before served middle fault reported after served_after clean opened kept kept_middle kept_now left
+    left_now repeats laws joins leads_on valid lawful so_far was fewer is (turn, adds) settled still =
     let total : Tally = with_turn so_far.run.passed so_far.tally turn.tally in
     subst (λ f. IsServedOf keeps turns before (Err f) after clean opened kept kept_now left_now) (sym is) (
       record {
@@ -714,12 +780,14 @@ served_until {A} keeps turns before served middle fault reported after served_af
         enough = λ keeping.
             let last = turn.enough keeping in record {
               middle = last.middle;
-              kept = leads_on before.server middle.server last.middle so_far.tally.kept turn.tally.kept (so_far.enough keeping) last.kept;
+              kept = leads_on before.server middle.server last.middle so_far.tally.kept turn.tally.kept (so_far.enough keeping)
+                  last.kept;
               unkept = last.unkept;
             };
         settled = tt;
         sums = tt;
       },
-      λ is_clean was_open. outlives_until {A = A} keeps middle after kept kept_middle kept_now so_far.tally.kept turn.tally fault total left left_now turn.turn
+      λ is_clean was_open. outlives_until {A = A} keeps middle after kept kept_middle kept_now so_far.tally.kept turn.tally fault
+          total left left_now turn.turn
           (adds is_clean) (was is_clean) refl refl (settled is_clean was_open) (still is_clean was_open),
     )

@@ -1,7 +1,7 @@
 -- Passages: what passes the ports of a server, in the order in which it passes them.
 --
--- A datagram comes from a source to one of the server's two ports, or goes from one of them to an address and a port (RFC 2865, section 3;
--- RFC 2866, section 3). Moments are milliseconds.
+-- A datagram comes from a source to one of the server's two ports, or goes from one of them to an address and a port (RFC 2865,
+-- section 3; RFC 2866, section 3). Moments are milliseconds.
 use Rattle.std.specs.Prelude.{◌≡◌, ℕ, List, [], ◌∷◌, ◌++◌, take, Option, Some, None, Result, Ok, Err}
 use Rattle.rad_auth.specs.Datagrams.{Datagram}
 use Rattle.rad_auth.specs.declared.arrival.Door.{Door}
@@ -20,8 +20,8 @@ pub record Went : Type 0 where
   pub port : ℕ
   pub octets : List ℕ
 
--- what ports tell of: a datagram that was received, one that was handed over to be sent, that none waited, a moment that their clock told,
--- or a fault that they reported
+-- what ports tell of: a datagram that was received, one that was handed over to be sent, that none waited, a moment that their
+-- clock told, or a fault that they reported
 pub data Passage : Type 0 where
   In : Came → Passage
   Out : Went → Passage

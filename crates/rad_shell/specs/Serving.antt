@@ -1,8 +1,10 @@
 -- Serving: turns, in each of which datagrams are received, answered in a round, and their replies sent.
 --
--- A turn receives until no datagram waits or a round is full. A round may be lost: then the server is as it was, and the round is counted.
--- Between turns time may pass for the server, up to a moment that the ports told.
-use Rattle.std.specs.Prelude.{◌≡◌, ◌⊎◌, ℕ, zero, suc, ◌+◌, ◌-◌, ◌*◌, ◌^◌, ◌==◌, ◌||◌, min, ◌≤◌, ◌<◌, Bool, true, false, List, [], ◌∷◌, ◌++◌, drop, length, map, take, filter, Option, Result, Ok, Err, IfOk, IfSome, IsTrue, OnErr, OnOk, nat_lt, if◌then◌else◌}
+-- A turn receives until no datagram waits or a round is full. A round may be lost: then the server is as it was, and the round is
+-- counted. Between turns time may pass for the server, up to a moment that the ports told.
+use Rattle.std.specs.Prelude.{◌≡◌, ◌⊎◌, ℕ, zero, suc, ◌+◌, ◌-◌, ◌*◌, ◌^◌, ◌==◌, ◌||◌, min, ◌≤◌, ◌<◌, Bool, true, false, List, []}
+use Rattle.std.specs.Prelude.{◌∷◌, ◌++◌, drop, length, map, take, filter, Option, Result, Ok, Err, IfOk, IfSome, IsTrue, OnErr}
+use Rattle.std.specs.Prelude.{OnOk, nat_lt, if◌then◌else◌}
 use Rattle.std.specs.List.{list_any, sum_by}
 use Rattle.rand_core.specs.Stream.{Stream, fill_bytes}
 use Rattle.rad_auth.specs.Datagrams.{datagram_of}
@@ -43,8 +45,8 @@ serve_fault_number faults.Send = 2
 serve_fault_number faults.Mismatch = 3
 serve_fault_number (faults.Journal fault) = 4
 
--- the fault of a port is reported only if failures were counted: they were so many before, and so many after; that of a journal, only if
--- anything is kept; no other fault is reported
+-- the fault of a port is reported only if failures were counted: they were so many before, and so many after; that of a journal,
+-- only if anything is kept; no other fault is reported
 abbrev pub HasCause : Bool → ℕ → ℕ → ServeFault → Type 0
 HasCause keeps before after faults.Receive = before < after
 HasCause keeps before after faults.Send = before < after
@@ -126,8 +128,8 @@ is_reply answers.Busy = false
 abbrev pub reply_count : List Entry → ℕ
 reply_count history = length (filter (λ entry. is_reply entry.answer) history)
 
--- The sums of so many turns, of which so many are lost, that made these exchanges: there are as many replies as entries whose answer is
--- one, and as many busy ones as other entries; and if no round was lost, there are as many datagrams as outcomes.
+-- The sums of so many turns, of which so many are lost, that made these exchanges: there are as many replies as entries whose
+-- answer is one, and as many busy ones as other entries; and if no round was lost, there are as many datagrams as outcomes.
 pub record AreSums (turns lost : ℕ) (history : List Entry) (served : Served) : Type 0 where
   pub rounds : served.rounds ≡ turns
   pub failed : served.failed ≡ lost
@@ -137,8 +139,8 @@ pub record AreSums (turns lost : ℕ) (history : List Entry) (served : Served) :
 
 -- ---- turns
 
--- What turns came to: their exchanges; how many rounds were lost; what was kept of the exchanges; and what was to be kept of the last
--- round and perhaps isn't, since the journal failed.
+-- What turns came to: their exchanges; how many rounds were lost; what was kept of the exchanges; and what was to be kept of the
+-- last round and perhaps isn't, since the journal failed.
 pub record Tally : Type 0 where
   pub history : List Entry
   pub lost : ℕ
@@ -180,9 +182,10 @@ stopped (next ∷ rest) = Fault ∷ []
 abbrev pub passages : List Came → List Went → List Went → List Passage
 passages came went left = (map In came ++ emptied came) ++ (map Out went ++ stopped left)
 
--- A round of just the datagrams that came, with their moments, and with the next draws. What is to be kept of it, if anything is kept at
--- all, is its fresh entries, each at the moment at which it counted, at one wall time.
-pub record IsAnswered (keeps : Bool) (before : Situation) (came : List Came) (outcomes : List Outcome) (history : List Entry) (kept : List Kept)
+-- A round of just the datagrams that came, with their moments, and with the next draws. What is to be kept of it, if anything is
+-- kept at all, is its fresh entries, each at the moment at which it counted, at one wall time.
+pub record IsAnswered (keeps : Bool) (before : Situation) (came : List Came) (outcomes : List Outcome) (history : List Entry)
+    (kept : List Kept)
     (after : Situation) : Type 0 where
   pub arrivals : List Timed
   pub marks : List Bool
@@ -195,7 +198,8 @@ pub record IsAnswered (keeps : Bool) (before : Situation) (came : List Came) (ou
   pub fresh : kept ≡ added keeps (kept_of wall (fresh_of before.server.state.clock history marks))
 
 -- a turn whose round is made and kept: just the replies to what came went, in their order, but for the last ones that are left
-pub record IsMade (keeps : Bool) (before : Situation) (history : List Entry) (kept : List Kept) (left : List Went) (after : Situation) : Type 0 where
+pub record IsMade (keeps : Bool) (before : Situation) (history : List Entry) (kept : List Kept) (left : List Went)
+    (after : Situation) : Type 0 where
   pub came : List Came
   pub went : List Went
   pub outcomes : List Outcome
@@ -204,7 +208,8 @@ pub record IsMade (keeps : Bool) (before : Situation) (history : List Entry) (ke
   pub replied : went ++ left ≡ replies came outcomes
 
 -- a turn whose round is made, but perhaps not kept, since the journal failed: nothing went
-pub record IsUnkept (keeps : Bool) (before : Situation) (history : List Entry) (unkept : List Kept) (after : Situation) : Type 0 where
+pub record IsUnkept (keeps : Bool) (before : Situation) (history : List Entry) (unkept : List Kept) (after : Situation) : Type
+    0 where
   pub came : List Came
   pub outcomes : List Outcome
   pub answered : IsAnswered keeps before came outcomes history unkept after
@@ -231,15 +236,16 @@ pub record IsCutShort (before : Situation) (after : Situation) : Type 0 where
   pub random : after.random ≡ before.random
   pub server : after.server ≡ before.server
 
--- A turn, by how it ends: all replies of its round went, or it is lost; or a port failed before the round, or while replies were sent, so
--- that some are left; or the journal failed before any was sent.
+-- A turn, by how it ends: all replies of its round went, or it is lost; or a port failed before the round, or while replies were
+-- sent, so that some are left; or the journal failed before any was sent.
 abbrev pub IsTurn : Bool → Situation → Tally → Result (Unit {0}) ServeFault → Situation → Type 0
 IsTurn keeps before tally (Ok done) after =
     (IsMade keeps before tally.history tally.kept [] after × (tally.lost ≡ 0) × (tally.unkept ≡ []))
     ⊎ ((IsLost before after ⊎ IsWithoutMemory before after) × (tally ≡ round_lost))
 IsTurn keeps before tally (Err faults.Receive) after = IsCutShort before after × (tally ≡ nothing_done)
 IsTurn keeps before tally (Err faults.Send) after =
-    (next : Went) × (rest : List Went) × IsMade keeps before tally.history tally.kept (next ∷ rest) after × (tally.lost ≡ 0) × (tally.unkept ≡ [])
+    (next : Went) × (rest : List Went) × IsMade keeps before tally.history tally.kept (next ∷ rest) after × (tally.lost ≡ 0)
+    × (tally.unkept ≡ [])
 IsTurn keeps before tally (Err faults.Mismatch) after = ⊥
 IsTurn keeps before tally (Err (faults.Journal fault)) after =
     IsUnkept keeps before tally.history tally.unkept after × (tally.lost ≡ 0) × (tally.kept ≡ [])
@@ -253,8 +259,8 @@ pub record IsBetween (before : Server) (passed : Option (List Passage)) (after :
   pub configuration : after.configuration ≡ before.configuration
   pub state : after.state ≡ when_passed moment before.state
 
--- So many turns one after another, up to the first fault, and what they came to. Where time has passed since the last exchange, the next one
--- doesn't come before then.
+-- So many turns one after another, up to the first fault, and what they came to. Where time has passed since the last exchange, the
+-- next one doesn't come before then.
 pub data AreTurns (keeps : Bool) (before : Situation) : ℕ → Tally → Result (Unit {0}) ServeFault → Situation → Type 0 where
   no_turn : AreTurns keeps before 0 nothing_done (Ok tt) before
   one_more : {turns : ℕ} {tally : Tally} {middle : Situation} (more : Tally)
@@ -270,16 +276,19 @@ abbrev pub ended : {A : Type 0} → Result A ServeFault → Result (Unit {0}) Se
 ended (Ok served) = Ok tt
 ended (Err fault) = Err fault
 
--- what is kept leads from one server to one that is like another from now on, by way of the one before the last round, if that is unkept
+-- what is kept leads from one server to one that is like another from now on, by way of the one before the last round, if that is
+-- unkept
 pub record LeadsByKept (before : Server) (tally : Tally) (after : Server) : Type 0 where
   pub middle : Server
   pub kept : LeadKept before tally.kept middle
   pub unkept : LeadKept middle tally.unkept after
 
--- What so many turns make, or fewer up to a fault: their exchanges lead from the server before to the one after, but for time that may
--- have passed since; each repeat is answered again, and every state on the way is lawful. If anything is kept, that is enough to come to a
--- server that no later step can tell from the one after. If no fault ended the turns, their sums count these exchanges and the lost turns.
-pub record IsServed (keeps : Bool) (turns : ℕ) (before : Situation) (result : Result Served ServeFault) (after : Situation) : Type 0 where
+-- What so many turns make, or fewer up to a fault: their exchanges lead from the server before to the one after, but for time that
+-- may have passed since; each repeat is answered again, and every state on the way is lawful. If anything is kept, that is enough
+-- to come to a server that no later step can tell from the one after. If no fault ended the turns, their sums count these exchanges
+-- and the lost turns.
+pub record IsServed (keeps : Bool) (turns : ℕ) (before : Situation) (result : Result Served ServeFault) (after : Situation) : Type
+    0 where
   pub made : ℕ
   pub tally : Tally
   pub turned : AreTurns keeps before made tally (ended result) after
@@ -302,8 +311,8 @@ UnlessJournal (Err faults.Send) P = P
 UnlessJournal (Err faults.Mismatch) P = P
 UnlessJournal (Err (faults.Journal fault)) P = Unit {0}
 
--- Turns came to this: each crash from now on leaves what was kept before and what they kept, and perhaps what the last one didn't keep,
--- since the journal failed. If it didn't, the journal has just the first.
+-- Turns came to this: each crash from now on leaves what was kept before and what they kept, and perhaps what the last one didn't
+-- keep, since the journal failed. If it didn't, the journal has just the first.
 pub record Outlives {A : Type 0} (kept : List Kept) (tally : Tally) (result : Result A ServeFault) (kept_now : List Kept)
     (may_leave : List Kept → Type 0) : Type 0 where
   pub now : UnlessJournal result (kept_now ≡ kept ++ tally.kept)
@@ -379,7 +388,8 @@ received_all (Ok done) came = map In came ++ emptied came
 received_all (Err fault) came = map In came ++ Fault ∷ []
 
 -- these datagrams have come in a turn, and these draws were taken for them
-pub record HasDrawn (before : Situation) (came : List Came) (drawn : List (List ℕ)) (random : Stream) (passed : Option (List Passage))
+pub record HasDrawn (before : Situation) (came : List Came) (drawn : List (List ℕ)) (random : Stream)
+    (passed : Option (List Passage))
     : Type 0 where
   pub passed_is : HavePassed (map In came ++ emptied came) before.passed passed
   pub drawn_are : drawn ≡ draws (length came) before.random
@@ -395,14 +405,15 @@ pub record AreSent (all : List Went) (result : Result (Unit {0}) PortFault) (bef
   pub some_left : OnErr result (left ≡ [] → ⊥)
 
 -- these replies went, but for those to these datagrams
-pub record AreSentBefore (all : List Went) (got : List Got) (outcomes : List Outcome) (before now : Option (List Passage)) : Type 0 where
+pub record AreSentBefore (all : List Went) (got : List Got) (outcomes : List Outcome) (before now : Option (List Passage)) : Type
+    0 where
   pub went : List Went
   pub octets : List ℕ
   pub passed : HavePassed (map Out went) before now
   pub replied : went ++ replies (came_in got octets) outcomes ≡ all
 
--- a round of these datagrams with these draws was made: there is one exchange for each outcome of an exchange, and as many are answered
--- by a reply as there are replies; what is kept of it is enough
+-- a round of these datagrams with these draws was made: there is one exchange for each outcome of an exchange, and as many are
+-- answered by a reply as there are replies; what is kept of it is enough
 pub record IsRoundMade (before : Server) (came : List Came) (drawn : List (List ℕ)) (outcomes : List Outcome) (history : List Entry)
     (marks : List Bool) (after : Server) : Type 0 where
   pub arrivals : List Timed
@@ -416,7 +427,8 @@ pub record IsRoundMade (before : Server) (came : List Came) (drawn : List (List 
   pub few : length outcomes ≤ arrivals_max
 
 -- a turn, whose exchanges are counted if there is no fault
-pub record IsCounted {A : Type 0} (keeps : Bool) (before : Situation) (served : Served) (result : Result A ServeFault) (after : Situation)
+pub record IsCounted {A : Type 0} (keeps : Bool) (before : Situation) (served : Served) (result : Result A ServeFault)
+    (after : Situation)
     (served_after : Served) : Type 0 where
   pub tally : Tally
   pub turn : IsTurn keeps before tally (ended result) after

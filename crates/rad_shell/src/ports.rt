@@ -55,8 +55,9 @@ pub enum PortCall {
 /// may be counted without being reported: the datagram is lost, as on any network. When the count is 2^64 - 1 it stays, and nothing
 /// is reported any more. A datagram is received into a buffer that the caller lends, so that receiving takes no memory.
 ///
-/// Contracts see what passed, in this order: each datagram that was received, or that none waited; each that was handed over to be sent;
-/// each moment that the clock told; each fault that was reported. Ports that can't tell say `None`. A caller can't see which ports it has.
+/// Contracts see what passed, in this order: each datagram that was received, or that none waited; each that was handed over to be
+/// sent; each moment that the clock told; each fault that was reported. Ports that can't tell say `None`. A caller can't see which
+/// ports it has.
 pub trait Ports {
     /// The failures so far.
     ghost failures: { Self → ℕ };

@@ -1,9 +1,11 @@
 //! What a turn received.
-ghost use Rattle.std.specs.Prelude.{◌≡◌, ◌≤◌, ◌<◌, ◌+◌, ◌*◌, [], ◌∷◌, All, IfErr, IfOk, OnErr, OnOk, length, map, true, vec_capacity, vec_len};
+ghost use Rattle.std.specs.Prelude.{◌≡◌, ◌≤◌, ◌<◌, ◌+◌, ◌*◌, [], ◌∷◌, All, IfErr, IfOk, OnErr, OnOk, length, map, true};
+ghost use Rattle.std.specs.Prelude.{vec_capacity, vec_len};
 ghost use Rattle.rad_packet.specs.Packets.{length_max};
 ghost use Rattle.rad_round.specs.Rounds.{AreMoments, arrivals_max};
 ghost use Rattle.rad_shell.specs.Passages.{Fault, HavePassed, Out, came_by, reported_by};
-ghost use Rattle.rad_shell.specs.Serving.{AreSent, IsReceived, after_draws, came_in, came_of, draws, is_replied, octet_count, received_all, replies, reply_to};
+ghost use Rattle.rad_shell.specs.Serving.{AreSent, IsReceived, after_draws, came_in, came_of, draws, is_replied, octet_count};
+ghost use Rattle.rad_shell.specs.Serving.{received_all, replies, reply_to};
 
 use crate::ports::{Got, PortFault, Ports, RECEIVED_MAX};
 use rad_auth::Arrival;

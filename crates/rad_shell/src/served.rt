@@ -1,7 +1,8 @@
 //! What turns came to.
 ghost use Rattle.std.specs.Prelude.{◌≡◌, ◌+◌, ◌≤◌, ◌<◌, ◌^◌, cond, length};
 ghost use Rattle.rad_round.specs.Rounds.{arrivals_max};
-ghost use Rattle.rad_shell.specs.Serving.{AddTurn, AddUp, exchange_count, is_exchanged, is_replied, no_sums, outcome_count, replied_count, turns_max, with_sums};
+ghost use Rattle.rad_shell.specs.Serving.{AddTurn, AddUp, exchange_count, is_exchanged, is_replied, no_sums, outcome_count};
+ghost use Rattle.rad_shell.specs.Serving.{replied_count, turns_max, with_sums};
 
 use rad_round::Outcome;
 use std::fmt;

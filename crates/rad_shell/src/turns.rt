@@ -1,5 +1,6 @@
 //! Turns: in each, datagrams are received and answered in a round, which is kept, and then their replies are sent.
-ghost use Rattle.std.specs.Prelude.{◌≡◌, ◌⊎◌, ◌≤◌, ◌<◌, ◌+◌, ◌++◌, cond, false, length, List, IfErr, IfNone, IfOk, IfSome, IsSome, IsTrue, OnErr, OnOk, vec_len};
+ghost use Rattle.std.specs.Prelude.{◌≡◌, ◌⊎◌, ◌≤◌, ◌<◌, ◌+◌, ◌++◌, cond, false, length, List, IfErr, IfNone, IfOk, IfSome, IsSome};
+ghost use Rattle.std.specs.Prelude.{IsTrue, OnErr, OnOk, vec_len};
 ghost use Rattle.std.specs.List.{list_any};
 ghost use Rattle.rad_round.specs.Rounds.{workers_max};
 ghost use Rattle.rad_server.specs.Runs.{fresh_of};
@@ -7,7 +8,8 @@ ghost use Rattle.rad_journal.specs.Journals.{added};
 ghost use Rattle.rad_journal.specs.Kept.{kept_of};
 ghost use Rattle.rad_journal.specs.declared.kept.Kept.{Kept};
 ghost use Rattle.rad_journal.specs.Stores.{Beside};
-ghost use Rattle.rad_shell.specs.Serving.{AddUp, AddsTurn, HasCause, IsBetween, IsCounted, IsRoundMade, IsServed, Outlives, UnlessJournal, came_in, is_refused, port_faults, turns_max, wants_time};
+ghost use Rattle.rad_shell.specs.Serving.{AddUp, AddsTurn, HasCause, IsBetween, IsCounted, IsRoundMade, IsServed, Outlives};
+ghost use Rattle.rad_shell.specs.Serving.{UnlessJournal, came_in, is_refused, port_faults, turns_max, wants_time};
 
 use crate::ports::Ports;
 use crate::received::Received;
@@ -33,8 +35,8 @@ enum Left {
     Time,
 }
 
-/// What turns have besides a service and its ports: the source of their draws, the gate of their rounds, who watches them, and memory for
-/// the datagrams of a turn, which each turn uses again.
+/// What turns have besides a service and its ports: the source of their draws, the gate of their rounds, who watches them, and
+/// memory for the datagrams of a turn, which each turn uses again.
 #[derive(Drop)]
 pub struct Turns<'a, D, G, W> {
     random: &'a mut D,
@@ -118,13 +120,13 @@ impl<'a, D: Rng, G: Gate + Sync, W: Watch + Drop> Turns<'a, D, G, W> {
 
     /// The same, and what a journal has to keep of each turn is kept before a reply of it is sent.
     ///
-    /// A turn waits, receives until no datagram waits or there are `ARRIVALS_MAX`, takes 16 octets of the source for each datagram, in
-    /// order of arrival, makes a round of them, commits its fresh entries to the journal, and sends the replies in order of arrival. If
-    /// memory is refused for a round, its datagrams are lost, and after a pause the next turn goes on with the server as it was. After a
-    /// turn without datagrams, or one that was refused memory, time passes for the server, so that what has expired gives its memory
-    /// back. A fault ends the turns: `ServeFault::Receive` or `ServeFault::Send`, if a port failed; `ServeFault::Journal`, if the
-    /// journal failed: then the server is ahead of the journal, and nobody was told. `ServeFault::Mismatch` never comes. The call may
-    /// wait.
+    /// A turn waits, receives until no datagram waits or there are `ARRIVALS_MAX`, takes 16 octets of the source for each datagram,
+    /// in order of arrival, makes a round of them, commits its fresh entries to the journal, and sends the replies in order of
+    /// arrival. If memory is refused for a round, its datagrams are lost, and after a pause the next turn goes on with the server
+    /// as it was. After a turn without datagrams, or one that was refused memory, time passes for the server, so that what has
+    /// expired gives its memory back. A fault ends the turns: `ServeFault::Receive` or `ServeFault::Send`, if a port failed;
+    /// `ServeFault::Journal`, if the journal failed: then the server is ahead of the journal, and nobody was told.
+    /// `ServeFault::Mismatch` never comes. The call may wait.
     pub fn run_keeping<R: Threads + Wait + Sync, P: Ports, J: Journal>(
         &mut self,
         rt: &R,

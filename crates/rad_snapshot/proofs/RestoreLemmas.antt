@@ -24,7 +24,8 @@ use Rattle.rad_snapshot.proofs.RowLemmas.{IsCut, cut_at, one_of, row_same, rows_
 
 -- ---- results
 
-bound : {A B E : Type 0} (first : Result A E) (next : A → Result B E) (value : B) → (first >>= next) ≡ Ok value → (x : A) × (first ≡ Ok x) × (next x ≡ Ok value)
+bound : {A B E : Type 0} (first : Result A E) (next : A → Result B E) (value : B) → (first >>= next) ≡ Ok value
+    → (x : A) × (first ≡ Ok x) × (next x ≡ Ok value)
 bound (Ok x) next value is = (x, refl, is)
 bound (Err fault) next value is = absurd (cc)
 
@@ -37,7 +38,8 @@ ok_has x y is = ap inside is
 
 -- ---- one row
 
-passes : (configuration : Configuration) (row : StateRow) (rest : List StateRow) (before after : State) → restored configuration (row ∷ rest) before ≡ Ok after
+passes : (configuration : Configuration) (row : StateRow) (rest : List StateRow) (before after : State)
+    → restored configuration (row ∷ rest) before ≡ Ok after
     → (restorable configuration row before ≡ Ok tt) × (restored configuration rest (with_row row before) ≡ Ok after)
 unfolding restored
 passes configuration row rest before after is =
@@ -47,7 +49,8 @@ passes configuration row rest before after is =
     fit : (r : Result (Unit {0}) RowFault) (x : Unit {0}) → r ≡ Ok x → r ≡ Ok tt
     fit r x is = is
 
-goes : (configuration : Configuration) (row : StateRow) (rest : List StateRow) (before : State) → restorable configuration row before ≡ Ok tt
+goes : (configuration : Configuration) (row : StateRow) (rest : List StateRow) (before : State)
+    → restorable configuration row before ≡ Ok tt
     → restored configuration (row ∷ rest) before ≡ restored configuration rest (with_row row before)
 unfolding restored
 goes configuration row rest before fits = ap (λ r. r >>= λ done. restored configuration rest (with_row row before)) fits
@@ -57,14 +60,16 @@ unfolding restored
 no_row configuration before = refl
 
 -- a server that put a row back is at the state with it
-pub one_restored : (configuration : Configuration) (row : StateRow) (before after : State) → FollowsRules (restorable configuration row before) (Ok tt)
+pub one_restored : (configuration : Configuration) (row : StateRow) (before after : State)
+    → FollowsRules (restorable configuration row before) (Ok tt)
     → after ≡ with_row row before → restored configuration (row ∷ []) before ≡ Ok after
 one_restored configuration row before after follows is =
     let fits : restorable configuration row before ≡ Ok tt = ⊎_elim (λ same. sym same) (λ other. other.0) follows in
     goes configuration row [] before fits ∙ no_row configuration (with_row row before) ∙ ap (λ (s : State). Ok s) (sym is)
 
 -- a row that a server refuses leads nowhere
-pub one_refused : (configuration : Configuration) (table : SnapshotTable) (place : ℕ) (row : StateRow) (before : State) (fault : RowFault)
+pub one_refused : (configuration : Configuration) (table : SnapshotTable) (place : ℕ) (row : StateRow) (before : State)
+    (fault : RowFault)
     → FollowsRules (restorable configuration row before) (Err fault) → IsOfRows (refused_at table place fault)
     → (after : State) → restored configuration (row ∷ []) before ≡ Ok after → ⊥
 one_refused configuration table place row before fault follows of_rows after is =
@@ -79,7 +84,8 @@ one_refused configuration table place row before fault follows of_rows after is 
 
 -- ---- rows that follow one another
 
-pub split : (configuration : Configuration) (xs ys : List StateRow) (before after : State) → restored configuration (xs ++ ys) before ≡ Ok after
+pub split : (configuration : Configuration) (xs ys : List StateRow) (before after : State)
+    → restored configuration (xs ++ ys) before ≡ Ok after
     → (mid : State) × (restored configuration xs before ≡ Ok mid) × (restored configuration ys mid ≡ Ok after)
 split configuration [] ys before after is = (before, no_row configuration before, is)
 split configuration (x ∷ xs) ys before after is =
@@ -96,17 +102,20 @@ join configuration (x ∷ xs) ys before mid is =
     goes configuration x (xs ++ ys) before one.0 ∙ join configuration xs ys (with_row x before) mid one.1
 
 -- two states that rows lead to are one
-pub leads_to_one : (configuration : Configuration) (xs : List StateRow) (before one other : State) → restored configuration xs before ≡ Ok one
+pub leads_to_one : (configuration : Configuration) (xs : List StateRow) (before one other : State)
+    → restored configuration xs before ≡ Ok one
     → restored configuration xs before ≡ Ok other → one ≡ other
 leads_to_one configuration xs before one other here there = ok_has one other (sym here ∙ there)
 
 -- ---- a table
 
 module _ (configuration : Configuration) (table : SnapshotTable) (stored : List Row) (before : State) where
-  pub put_back_same : (after other : State) → ArePutBack configuration table stored before after → ArePutBack configuration table stored before other → after ≡ other
+  pub put_back_same : (after other : State) → ArePutBack configuration table stored before after
+      → ArePutBack configuration table stored before other → after ≡ other
   put_back_same after other one two =
       let same : one.items ≡ two.items = rows_same table 1 one.items two.items one.kind two.kind (sym one.are ∙ two.are) in
-      leads_to_one configuration two.items before after other (subst (λ (l : List StateRow). restored configuration l before ≡ Ok after) same one.restored) two.restored
+      leads_to_one configuration two.items before after other
+      (subst (λ (l : List StateRow). restored configuration l before ≡ Ok after) same one.restored) two.restored
 
   module _ (done : List StateRow) (row : Row) (left : List Row) (now : State) (are : stored ≡ rows_from 1 done ++ row ∷ left)
       (kinds : AllByRecursion (IsOf table) done) (led : restored configuration done before ≡ Ok now) where
@@ -114,32 +123,41 @@ module _ (configuration : Configuration) (table : SnapshotTable) (stored : List 
     cut_of after put = cut_at table 1 done put.items row left kinds put.kind (sym put.are ∙ are)
 
     -- a row that is none of the table's
-    pub stray : (place : ℕ) → place ≡ 1 + length done → (IsRowAt table place row → ⊥) → CannotPutBack configuration table stored before
+    pub stray : (place : ℕ) → place ≡ 1 + length done → (IsRowAt table place row → ⊥)
+        → CannotPutBack configuration table stored before
     stray place is none after put within =
         let cut = cut_of after put in
         none (record {
           item = cut.item;
-          kind = one_of (IsOf table) done cut.item cut.rest (subst (λ (l : List StateRow). AllByRecursion (IsOf table) l) cut.split put.kind);
-          within = one_of IsWithin done cut.item cut.rest (subst (λ (l : List StateRow). AllByRecursion IsWithin l) cut.split within);
+          kind = one_of (IsOf table) done cut.item cut.rest
+              (subst (λ (l : List StateRow). AllByRecursion (IsOf table) l) cut.split put.kind);
+          within = one_of IsWithin done cut.item cut.rest
+              (subst (λ (l : List StateRow). AllByRecursion IsWithin l) cut.split within);
           is = cut.is ∙ ap (λ (k : ℕ). row_of k cut.item) (sym is);
         })
 
     -- a row that is refused
     pub refused : (place : ℕ) (item : StateRow) → place ≡ 1 + length done → IsOf table item → row ≡ row_of place item
-        → ((after : State) → restored configuration (item ∷ []) now ≡ Ok after → ⊥) → CannotPutBack configuration table stored before
+        → ((after : State) → restored configuration (item ∷ []) now ≡ Ok after → ⊥)
+        → CannotPutBack configuration table stored before
     refused place item is kind of never after put within =
         let cut = cut_of after put in
-        let kind' = one_of (IsOf table) done cut.item cut.rest (subst (λ (l : List StateRow). AllByRecursion (IsOf table) l) cut.split put.kind) in
-        let same : cut.item ≡ item = row_same table place cut.item item kind' kind (ap (λ (k : ℕ). row_of k cut.item) is ∙ sym cut.is ∙ of) in
-        let led' = split configuration done (cut.item ∷ cut.rest) before after (subst (λ (l : List StateRow). restored configuration l before ≡ Ok after) cut.split put.restored) in
+        let kind' = one_of (IsOf table) done cut.item cut.rest
+        (subst (λ (l : List StateRow). AllByRecursion (IsOf table) l) cut.split put.kind) in
+        let same : cut.item ≡ item =
+        row_same table place cut.item item kind' kind (ap (λ (k : ℕ). row_of k cut.item) is ∙ sym cut.is ∙ of) in
+        let led' = split configuration done (cut.item ∷ cut.rest) before after
+        (subst (λ (l : List StateRow). restored configuration l before ≡ Ok after) cut.split put.restored) in
         let here : led'.0 ≡ now = leads_to_one configuration done before led'.0 now led'.1 led in
         let one = split configuration (cut.item ∷ []) cut.rest led'.0 after led'.2 in
-        never one.0 (subst (λ (s : State). restored configuration (item ∷ []) s ≡ Ok one.0) here (subst (λ (x : StateRow). restored configuration (x ∷ []) led'.0 ≡ Ok one.0) same one.1))
+        never one.0 (subst (λ (s : State). restored configuration (item ∷ []) s ≡ Ok one.0) here
+        (subst (λ (x : StateRow). restored configuration (x ∷ []) led'.0 ≡ Ok one.0) same one.1))
 
 -- ---- lists of rows of one kind
 
 -- rows of the table of sessions are those of sessions
-pub sessions_as : (items : List StateRow) → AllByRecursion (IsOf tables.Sessions) items → (xs : List Session) × (items ≡ map rows.Session xs)
+pub sessions_as : (items : List StateRow) → AllByRecursion (IsOf tables.Sessions) items
+    → (xs : List Session) × (items ≡ map rows.Session xs)
 sessions_as [] kinds = ([], refl)
 sessions_as (rows.Session session ∷ items) kinds =
     let more = sessions_as items kinds.1 in
@@ -154,7 +172,8 @@ sessions_of [] = tt
 sessions_of (x ∷ xs) = (tt, sessions_of xs)
 
 -- rows of the table of replies are those of replies
-pub replies_as : (items : List StateRow) → AllByRecursion (IsOf tables.Replies) items → (xs : List Kept) × (items ≡ map rows.Reply xs)
+pub replies_as : (items : List StateRow) → AllByRecursion (IsOf tables.Replies) items
+    → (xs : List Kept) × (items ≡ map rows.Reply xs)
 replies_as [] kinds = ([], refl)
 replies_as (rows.Session session ∷ items) kinds = absurd kinds.0
 replies_as (rows.LastSession last ∷ items) kinds = absurd kinds.0
@@ -169,7 +188,8 @@ replies_of [] = tt
 replies_of (x ∷ xs) = (tt, replies_of xs)
 
 -- rows of the table of challenges are those of challenges
-pub challenges_as : (items : List StateRow) → AllByRecursion (IsOf tables.Challenges) items → (xs : List Challenge) × (items ≡ map rows.Challenge xs)
+pub challenges_as : (items : List StateRow) → AllByRecursion (IsOf tables.Challenges) items
+    → (xs : List Challenge) × (items ≡ map rows.Challenge xs)
 challenges_as [] kinds = ([], refl)
 challenges_as (rows.Session session ∷ items) kinds = absurd kinds.0
 challenges_as (rows.LastSession last ∷ items) kinds = absurd kinds.0
@@ -185,46 +205,59 @@ challenges_of (x ∷ xs) = (tt, challenges_of xs)
 
 -- ---- what the rows of a table make of a state
 
-pub sessions_put : (configuration : Configuration) (xs : List Session) (before after : State) → restored configuration (map rows.Session xs) before ≡ Ok after
-    → (next : ℕ) × (after ≡ record before { sessions = record before.sessions { sessions = before.sessions.sessions ++ xs; next = next } })
+pub sessions_put : (configuration : Configuration) (xs : List Session) (before after : State)
+    → restored configuration (map rows.Session xs) before ≡ Ok after
+    → (next : ℕ) × (after ≡ record before
+    { sessions = record before.sessions { sessions = before.sessions.sessions ++ xs; next = next } })
 sessions_put configuration [] before after is =
     let same : before ≡ after = ok_has before after (sym (no_row configuration before) ∙ is) in (
       before.sessions.next,
-      sym same ∙ ap (λ (l : List Session). record before { sessions = record before.sessions { sessions = l } }) (sym (append-nil before.sessions.sessions)),
+      sym same ∙ ap (λ (l : List Session). record before { sessions = record before.sessions { sessions = l } })
+          (sym (append-nil before.sessions.sessions)),
     )
 sessions_put configuration (x ∷ xs) before after is =
     let one = passes configuration (rows.Session x) (map rows.Session xs) before after is in
     let more = sessions_put configuration xs (with_row (rows.Session x) before) after one.1 in (
       more.0,
-      more.1 ∙ ap (λ (l : List Session). record before { sessions = record before.sessions { sessions = l; next = more.0 } }) (append_assoc before.sessions.sessions (x ∷ []) xs),
+      more.1 ∙ ap (λ (l : List Session). record before { sessions = record before.sessions { sessions = l; next = more.0 } })
+          (append_assoc before.sessions.sessions (x ∷ []) xs),
     )
 
-pub replies_put : (configuration : Configuration) (xs : List Kept) (before after : State) → restored configuration (map rows.Reply xs) before ≡ Ok after
+pub replies_put : (configuration : Configuration) (xs : List Kept) (before after : State)
+    → restored configuration (map rows.Reply xs) before ≡ Ok after
     → after ≡ record before { replies = record before.replies { kept = before.replies.kept ++ xs } }
 replies_put configuration [] before after is =
     let same : before ≡ after = ok_has before after (sym (no_row configuration before) ∙ is) in
-    sym same ∙ ap (λ (l : List Kept). record before { replies = record before.replies { kept = l } }) (sym (append-nil before.replies.kept))
+    sym same ∙ ap (λ (l : List Kept). record before { replies = record before.replies { kept = l } })
+    (sym (append-nil before.replies.kept))
 replies_put configuration (x ∷ xs) before after is =
     let one = passes configuration (rows.Reply x) (map rows.Reply xs) before after is in
     replies_put configuration xs (with_row (rows.Reply x) before) after one.1
-    ∙ ap (λ (l : List Kept). record before { replies = record before.replies { kept = l } }) (append_assoc before.replies.kept (x ∷ []) xs)
+    ∙ ap (λ (l : List Kept). record before { replies = record before.replies { kept = l } })
+    (append_assoc before.replies.kept (x ∷ []) xs)
 
-pub challenges_put : (configuration : Configuration) (xs : List Challenge) (before after : State) → restored configuration (map rows.Challenge xs) before ≡ Ok after
-    → (next : ℕ) × (after ≡ record before { challenges = record before.challenges { challenges = before.challenges.challenges ++ xs; next = next } })
+pub challenges_put : (configuration : Configuration) (xs : List Challenge) (before after : State)
+    → restored configuration (map rows.Challenge xs) before ≡ Ok after
+    → (next : ℕ) × (after ≡ record before
+    { challenges = record before.challenges { challenges = before.challenges.challenges ++ xs; next = next } })
 challenges_put configuration [] before after is =
     let same : before ≡ after = ok_has before after (sym (no_row configuration before) ∙ is) in (
       before.challenges.next,
-      sym same ∙ ap (λ (l : List Challenge). record before { challenges = record before.challenges { challenges = l } }) (sym (append-nil before.challenges.challenges)),
+      sym same ∙ ap (λ (l : List Challenge). record before { challenges = record before.challenges { challenges = l } })
+          (sym (append-nil before.challenges.challenges)),
     )
 challenges_put configuration (x ∷ xs) before after is =
     let one = passes configuration (rows.Challenge x) (map rows.Challenge xs) before after is in
     let more = challenges_put configuration xs (with_row (rows.Challenge x) before) after one.1 in (
       more.0,
-      more.1 ∙ ap (λ (l : List Challenge). record before { challenges = record before.challenges { challenges = l; next = more.0 } }) (append_assoc before.challenges.challenges (x ∷ []) xs),
+      more.1 ∙ ap (λ (l : List Challenge). record before
+          { challenges = record before.challenges { challenges = l; next = more.0 } })
+          (append_assoc before.challenges.challenges (x ∷ []) xs),
     )
 
 -- a row of its own leads to the state with it
-pub one_put : (configuration : Configuration) (row : StateRow) (before after : State) → restored configuration (row ∷ []) before ≡ Ok after → after ≡ with_row row before
+pub one_put : (configuration : Configuration) (row : StateRow) (before after : State)
+    → restored configuration (row ∷ []) before ≡ Ok after → after ≡ with_row row before
 one_put configuration row before after is =
     let one = passes configuration row [] before after is in
     ok_has after (with_row row before) (sym one.1 ∙ no_row configuration (with_row row before))

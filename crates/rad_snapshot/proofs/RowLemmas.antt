@@ -1,5 +1,6 @@
 -- Rows come back as what they are of.
-use Rattle.std.proofs.Common.{◌≡◌, ℕ, suc, ◌+◌, List, [], ◌∷◌, ◌++◌, length, Option, Some, None, true, false, refl, sym, ap, ◌∙◌, arith}
+use Rattle.std.proofs.Common.{◌≡◌, ℕ, suc, ◌+◌, List, [], ◌∷◌, ◌++◌, length, Option, Some, None, true, false, refl, sym, ap, ◌∙◌}
+use Rattle.std.proofs.Common.{arith}
 use Rattle.std.specs.Prelude.{is_some}
 use Rattle.std.specs.List.{AllByRecursion}
 use Rattle.rad_packet.specs.Attributes.{Attribute, attributes_octets, attributes_of}
@@ -16,7 +17,8 @@ use Rattle.rad_server.specs.declared.state_row.StateRow.TheVariants as rows
 use Rattle.sqlite_value.specs.declared.value.Value.TheVariants.{Blob}
 use Rattle.sqlite_value.specs.Order.{Row, column}
 use Rattle.rad_snapshot.specs.Restoring.{HasRow, IsChallengeRow, IsOf, IsReplyRow, IsRowAt, IsSessionRow, item_of}
-use Rattle.rad_snapshot.specs.Rows.{at_reply_attributes, IsWithin, challenge_of, challenge_row, number_if_any, number_or_null, phase_number, phase_of, reply_of, reply_row, row_of, rows_from, session_of, session_row}
+use Rattle.rad_snapshot.specs.Rows.{at_reply_attributes, IsWithin, challenge_of, challenge_row, number_if_any, number_or_null}
+use Rattle.rad_snapshot.specs.Rows.{phase_number, phase_of, reply_of, reply_row, row_of, rows_from, session_of, session_row}
 use Rattle.rad_snapshot.specs.declared.snapshot_table.SnapshotTable.{SnapshotTable}
 use Rattle.rad_snapshot.specs.declared.snapshot_table.SnapshotTable.TheVariants as tables
 
@@ -33,7 +35,8 @@ phase_back Ended = refl
 
 pub session_back : (place : ℕ) (session : Session) → session_of (session_row place session) ≡ session
 session_back place session =
-    ap (λ (n : Option ℕ). record session { address = n; phase = phase_of (phase_number session.phase) }) (number_back session.address)
+    ap (λ (n : Option ℕ). record session { address = n; phase = phase_of (phase_number session.phase) })
+    (number_back session.address)
     ∙ ap (λ (p : Phase). record session { phase = p }) (phase_back session.phase)
 
 pub reply_back : (place : ℕ) (reply : Kept) → reply_of (reply_row place reply) ≡ reply
@@ -92,7 +95,8 @@ has_row tables.Numbers (rows.Challenge challenge) is place = absurd is
 has_row tables.Numbers (rows.LastChallenge last) is place = absurd is
 
 -- rows at one place that are one are of one
-pub row_same : (table : SnapshotTable) (place : ℕ) (one other : StateRow) → IsOf table one → IsOf table other → row_of place one ≡ row_of place other → one ≡ other
+pub row_same : (table : SnapshotTable) (place : ℕ) (one other : StateRow) → IsOf table one → IsOf table other
+    → row_of place one ≡ row_of place other → one ≡ other
 row_same table place one other kind kind' same =
     sym (row_back table place one kind) ∙ ap (λ (r : Row). item_of table r) same ∙ row_back table place other kind'
 
@@ -105,14 +109,17 @@ rest_same : {A : Type 0} (x y : A) (xs ys : List A) → x ∷ xs ≡ y ∷ ys �
 rest_same x y xs ys same = cc same
 
 -- rows that are one are of one list
-pub rows_same : (table : SnapshotTable) (n : ℕ) (xs ys : List StateRow) → AllByRecursion (IsOf table) xs → AllByRecursion (IsOf table) ys
+pub rows_same : (table : SnapshotTable) (n : ℕ) (xs ys : List StateRow) → AllByRecursion (IsOf table) xs
+    → AllByRecursion (IsOf table) ys
     → rows_from n xs ≡ rows_from n ys → xs ≡ ys
 rows_same table n [] [] kinds kinds' same = refl
 rows_same table n [] (y ∷ ys) kinds kinds' same = absurd (cc same)
 rows_same table n (x ∷ xs) [] kinds kinds' same = absurd (cc same)
 rows_same table n (x ∷ xs) (y ∷ ys) kinds kinds' same =
-    let one : x ≡ y = row_same table n x y kinds.0 kinds'.0 (first_same (row_of n x) (row_of n y) (rows_from (suc n) xs) (rows_from (suc n) ys) same) in
-    let others : xs ≡ ys = rows_same table (suc n) xs ys kinds.1 kinds'.1 (rest_same (row_of n x) (row_of n y) (rows_from (suc n) xs) (rows_from (suc n) ys) same) in
+    let one : x ≡ y = row_same table n x y kinds.0 kinds'.0
+    (first_same (row_of n x) (row_of n y) (rows_from (suc n) xs) (rows_from (suc n) ys) same) in
+    let others : xs ≡ ys = rows_same table (suc n) xs ys kinds.1 kinds'.1
+    (rest_same (row_of n x) (row_of n y) (rows_from (suc n) xs) (rows_from (suc n) ys) same) in
     ap (λ (z : StateRow). z ∷ xs) one ∙ ap (λ (l : List StateRow). y ∷ l) others
 
 -- one row of many: those before it, and it
@@ -122,7 +129,8 @@ pub record IsCut (n : ℕ) (done xs : List StateRow) (row : Row) : Type 0 where
   pub split : xs ≡ done ++ item ∷ rest
   pub is : row ≡ row_of (n + length done) item
 
-pub cut_at : (table : SnapshotTable) (n : ℕ) (done xs : List StateRow) (row : Row) (left : List Row) → AllByRecursion (IsOf table) done → AllByRecursion (IsOf table) xs
+pub cut_at : (table : SnapshotTable) (n : ℕ) (done xs : List StateRow) (row : Row) (left : List Row)
+    → AllByRecursion (IsOf table) done → AllByRecursion (IsOf table) xs
     → rows_from n xs ≡ rows_from n done ++ row ∷ left → IsCut n done xs row
 cut_at table n [] [] row left kinds kinds' same = absurd (cc same)
 cut_at table n [] (x ∷ xs) row left kinds kinds' same =
@@ -135,8 +143,10 @@ cut_at table n [] (x ∷ xs) row left kinds kinds' same =
     }
 cut_at table n (d ∷ done) [] row left kinds kinds' same = absurd (cc same)
 cut_at table n (d ∷ done) (x ∷ xs) row left kinds kinds' same =
-    let one : x ≡ d = row_same table n x d kinds'.0 kinds.0 (first_same (row_of n x) (row_of n d) (rows_from (suc n) xs) (rows_from (suc n) done ++ row ∷ left) same) in
-    let more = cut_at table (suc n) done xs row left kinds.1 kinds'.1 (rest_same (row_of n x) (row_of n d) (rows_from (suc n) xs) (rows_from (suc n) done ++ row ∷ left) same) in
+    let one : x ≡ d = row_same table n x d kinds'.0 kinds.0
+    (first_same (row_of n x) (row_of n d) (rows_from (suc n) xs) (rows_from (suc n) done ++ row ∷ left) same) in
+    let more = cut_at table (suc n) done xs row left kinds.1 kinds'.1
+    (rest_same (row_of n x) (row_of n d) (rows_from (suc n) xs) (rows_from (suc n) done ++ row ∷ left) same) in
     let there : suc n + length done ≡ n + length (d ∷ done) = omega arith in
     record {
       item = more.item;
@@ -146,21 +156,25 @@ cut_at table n (d ∷ done) (x ∷ xs) row left kinds kinds' same =
     }
 
 -- what holds of each holds of one in the midst
-pub one_of : (P : StateRow → Type 0) (done : List StateRow) (item : StateRow) (rest : List StateRow) → AllByRecursion P (done ++ item ∷ rest) → P item
+pub one_of : (P : StateRow → Type 0) (done : List StateRow) (item : StateRow) (rest : List StateRow)
+    → AllByRecursion P (done ++ item ∷ rest) → P item
 one_of P [] item rest each = each.0
 one_of P (d ∷ done) item rest each = one_of P done item rest each.1
 
 -- and of one more
-pub one_more : (P : StateRow → Type 0) (done : List StateRow) (item : StateRow) → AllByRecursion P done → P item → AllByRecursion P (done ++ item ∷ [])
+pub one_more : (P : StateRow → Type 0) (done : List StateRow) (item : StateRow) → AllByRecursion P done → P item
+    → AllByRecursion P (done ++ item ∷ [])
 one_more P [] item each it = (it, tt)
 one_more P (d ∷ done) item each it = (each.0, one_more P done item each.1 it)
 
 -- the rows of one more
-pub rows_push : (n : ℕ) (done : List StateRow) (item : StateRow) → rows_from n (done ++ item ∷ []) ≡ rows_from n done ++ row_of (n + length done) item ∷ []
+pub rows_push : (n : ℕ) (done : List StateRow) (item : StateRow)
+    → rows_from n (done ++ item ∷ []) ≡ rows_from n done ++ row_of (n + length done) item ∷ []
 rows_push n [] item = let here : n ≡ n + 0 = omega arith in ap (λ (k : ℕ). row_of k item ∷ []) here
 rows_push n (d ∷ done) item =
     let there : suc n + length done ≡ n + length (d ∷ done) = omega arith in
-    ap (λ (l : List Row). row_of n d ∷ l) (rows_push (suc n) done item ∙ ap (λ (k : ℕ). rows_from (suc n) done ++ row_of k item ∷ []) there)
+    ap (λ (l : List Row). row_of n d ∷ l)
+    (rows_push (suc n) done item ∙ ap (λ (k : ℕ). rows_from (suc n) done ++ row_of k item ∷ []) there)
 
 -- ---- rows that are none of a table
 
@@ -205,19 +219,23 @@ no_numbers_row row place at = pick at.item at.kind
     pick (rows.LastChallenge last) kind = kind
 
 -- a row that differs from the one that is made again of it
-pub row_unlike : (table : SnapshotTable) (place : ℕ) (row wanted : Row) (item : StateRow) → item ≡ item_of table row → wanted ≡ row_of place item
+pub row_unlike : (table : SnapshotTable) (place : ℕ) (row wanted : Row) (item : StateRow) → item ≡ item_of table row
+    → wanted ≡ row_of place item
     → (row ≡ wanted → ⊥) → IsRowAt table place row → ⊥
 row_unlike table place row wanted item of again differs at =
     let same : item ≡ at.item = of ∙ ap (λ (r : Row). item_of table r) at.is ∙ row_back table place at.item at.kind in
     differs (at.is ∙ ap (λ (x : StateRow). row_of place x) (sym same) ∙ sym again)
 
 -- malformed attributes are in no kept reply's row
-pub no_body : (row : Row) (octets : List ℕ) → column row at_reply_attributes ≡ Blob octets → is_some (attributes_of octets) ≡ false → IsReplyRow row → ⊥
+pub no_body : (row : Row) (octets : List ℕ) → column row at_reply_attributes ≡ Blob octets → is_some (attributes_of octets) ≡ false
+    → IsReplyRow row → ⊥
 no_body row octets at none reply =
     let list = reply.1.body.attributes in
-    let there : column row at_reply_attributes ≡ Blob (attributes_octets list) = ap (λ (r : Row). column r at_reply_attributes) reply.3 in
+    let there : column row at_reply_attributes ≡ Blob (attributes_octets list) =
+    ap (λ (r : Row). column r at_reply_attributes) reply.3 in
     let same : octets ≡ attributes_octets list = blob octets (attributes_octets list) (sym at ∙ there) in
-    let some : is_some (attributes_of octets) ≡ true = ap (λ (l : List ℕ). is_some (attributes_of l)) same ∙ ap (λ (o : Option (List Attribute)). is_some o) (of-spelled list) in
+    let some : is_some (attributes_of octets) ≡ true =
+    ap (λ (l : List ℕ). is_some (attributes_of l)) same ∙ ap (λ (o : Option (List Attribute)). is_some o) (of-spelled list) in
     absurd (cc (none, some))
   where
     blob : (a b : List ℕ) → Blob a ≡ Blob b → a ≡ b

@@ -1,5 +1,6 @@
 -- Rows that are put into a table, one behind the other.
-use Rattle.std.proofs.Common.{◌≡◌, ◌<◌, ℕ, suc, ◌+◌, Bool, cond, pos, ◌-◌, List, [], ◌∷◌, ◌++◌, map, length, Less, refl, sym, ap, subst, ◌∙◌, arith}
+use Rattle.std.proofs.Common.{◌≡◌, ◌<◌, ℕ, suc, ◌+◌, Bool, cond, pos, ◌-◌, List, [], ◌∷◌, ◌++◌, map, length, Less, refl, sym, ap}
+use Rattle.std.proofs.Common.{subst, ◌∙◌, arith}
 use Rattle.std.specs.List.{AllByRecursion}
 use Rattle.std.proofs.lemmas.Bool.{eq-eqb, ne_eqb}
 use Rattle.std.proofs.lemmas.Bool.Decides.{nat_tests}
@@ -31,7 +32,8 @@ put_last : (m n : ℕ) (items : List StateRow) (item : StateRow) → AllByRecurs
 put_last m n [] item has it is = let same : m ≡ n = omega (arith, is) in ap (λ (k : ℕ). row_of k item ∷ []) same
 put_last m n (first ∷ items) item has it is =
     let order : value_cmp (column (row_of n first) 0) (column (row_of m item) 0) ≡ Less =
-    ap (λ (v : Value). value_cmp v (column (row_of m item) 0)) (has.0 n) ∙ ap (λ (v : Value). value_cmp (Int (pos n)) v) (it m) ∙ lower n m (omega (arith, is)) in
+    ap (λ (v : Value). value_cmp v (column (row_of m item) 0)) (has.0 n) ∙ ap (λ (v : Value). value_cmp (Int (pos n)) v) (it m)
+    ∙ lower n m (omega (arith, is)) in
     rw order (ap (λ (l : List Row). row_of n first ∷ l) (put_last m (suc n) items item has.1 it (omega (arith, is))))
 
 -- ---- one tree of many
@@ -51,7 +53,8 @@ pub record PutSoFar (old new : View) (clean : Type 0) (table : SnapshotTable) (a
   pub within : AllByRecursion IsWithin done
   pub put : clean → IsPut old.trees new.trees table (rows_from 1 done)
 
-pub begun : (view : View) (clean : Type 0) (table : SnapshotTable) (all : List StateRow) → (clean → view.trees (tree_of table) ≡ []) → PutSoFar view view clean table all all 1
+pub begun : (view : View) (clean : Type 0) (table : SnapshotTable) (all : List StateRow) → (clean → view.trees (tree_of table) ≡ [])
+    → PutSoFar view view clean table all all 1
 begun view clean table all empty = record {
   done = [];
   split = refl;
@@ -61,16 +64,21 @@ begun view clean table all empty = record {
   put = λ it. record { here = empty it; others = λ tree other. refl };
 }
 
-put_one : (old mid new : View) (table : SnapshotTable) (rows : List Row) (row : Row) → IsPut old.trees mid.trees table rows → SetsTree mid new (tree_of table) (put_row row)
+put_one : (old mid new : View) (table : SnapshotTable) (rows : List Row) (row : Row) → IsPut old.trees mid.trees table rows
+    → SetsTree mid new (tree_of table) (put_row row)
     → IsPut old.trees new.trees table (put_row row rows)
 put_one old mid new table rows row was sets =
-    let trees : new.trees ≡ with_tree mid.trees (tree_of table) (put_row row (mid.trees (tree_of table))) = ap (λ (v : View). v.trees) sets.is in
+    let trees : new.trees ≡ with_tree mid.trees (tree_of table) (put_row row (mid.trees (tree_of table))) =
+    ap (λ (v : View). v.trees) sets.is in
     record {
-      here = ap (λ (t : Trees). t (tree_of table)) trees ∙ here mid.trees (tree_of table) (put_row row (mid.trees (tree_of table))) ∙ ap (λ (l : List Row). put_row row l) was.here;
-      others = λ tree other. ap (λ (t : Trees). t tree) trees ∙ there mid.trees (tree_of table) tree (put_row row (mid.trees (tree_of table))) other ∙ was.others tree other;
+      here = ap (λ (t : Trees). t (tree_of table)) trees ∙ here mid.trees (tree_of table) (put_row row (mid.trees (tree_of table)))
+          ∙ ap (λ (l : List Row). put_row row l) was.here;
+      others = λ tree other. ap (λ (t : Trees). t tree) trees
+          ∙ there mid.trees (tree_of table) tree (put_row row (mid.trees (tree_of table))) other ∙ was.others tree other;
     }
 
-pub put_next : (old mid new : View) (was_clean clean : Type 0) (table : SnapshotTable) (all before after : List StateRow) (place : ℕ) (row : Row)
+pub put_next : (old mid new : View) (was_clean clean : Type 0) (table : SnapshotTable) (all before after : List StateRow)
+    (place : ℕ) (row : Row)
     → PutSoFar old mid was_clean table all before place → IsNext before after place row → (clean → was_clean)
     → (clean → SetsTree mid new (tree_of table) (put_row row)) → PutSoFar old new clean table all after (place + 1)
 put_next old mid new was_clean clean table all before after place row was next stays sets =
@@ -95,13 +103,15 @@ all_done : (done : List StateRow) → done ++ [] ≡ done
 all_done [] = refl
 all_done (d ∷ done) = ap (λ (l : List StateRow). d ∷ l) (all_done done)
 
-pub put_all : (old new : View) (clean : Type 0) (table : SnapshotTable) (all rest : List StateRow) (place : ℕ) → PutSoFar old new clean table all rest place → rest ≡ []
+pub put_all : (old new : View) (clean : Type 0) (table : SnapshotTable) (all rest : List StateRow) (place : ℕ)
+    → PutSoFar old new clean table all rest place → rest ≡ []
     → clean → IsPut old.trees new.trees table (rows_from 1 all)
 put_all old new clean table all rest place was none it =
     let same : was.done ≡ all = sym (all_done was.done) ∙ ap (λ (l : List StateRow). was.done ++ l) (sym none) ∙ sym was.split in
     subst (λ (l : List StateRow). IsPut old.trees new.trees table (rows_from 1 l)) same (was.put it)
 
-pub within_all : (old new : View) (clean : Type 0) (table : SnapshotTable) (all rest : List StateRow) (place : ℕ) → PutSoFar old new clean table all rest place → rest ≡ []
+pub within_all : (old new : View) (clean : Type 0) (table : SnapshotTable) (all rest : List StateRow) (place : ℕ)
+    → PutSoFar old new clean table all rest place → rest ≡ []
     → AllByRecursion IsWithin all
 within_all old new clean table all rest place was none =
     let same : was.done ≡ all = sym (all_done was.done) ∙ ap (λ (l : List StateRow). was.done ++ l) (sym none) ∙ sym was.split in
@@ -111,7 +121,8 @@ pub frames : (first second third : View) → OnlyWrites first second → OnlyWri
 frames first second third here there = there ∙ ap (λ (v : View). record v { trees = third.trees; cursors = third.cursors }) here
 
 -- the row of numbers
-pub put_first : (old new : View) (numbers : Numbers) (row : Row) → old.trees (tree_of tables.Numbers) ≡ [] → row ≡ numbers_row numbers.clock numbers.last_session numbers.last_challenge
+pub put_first : (old new : View) (numbers : Numbers) (row : Row) → old.trees (tree_of tables.Numbers) ≡ []
+    → row ≡ numbers_row numbers.clock numbers.last_session numbers.last_challenge
     → SetsTree old new (tree_of tables.Numbers) (put_row row) → IsPut old.trees new.trees tables.Numbers (numbers_rows numbers)
 put_first old new numbers row empty is sets =
     subst (λ (l : List Row). IsPut old.trees new.trees tables.Numbers l) (ap (λ (r : Row). r ∷ []) is)
@@ -121,21 +132,30 @@ put_first old new numbers row empty is sets =
 
 module _ (first second third fourth fifth : Trees) (xs ys zs : List StateRow) (numbers : Numbers)
     (one : IsPut first second tables.Sessions (rows_from 1 xs)) (two : IsPut second third tables.Replies (rows_from 1 ys))
-    (three : IsPut third fourth tables.Challenges (rows_from 1 zs)) (four : IsPut fourth fifth tables.Numbers (numbers_rows numbers)) where
+    (three : IsPut third fourth tables.Challenges (rows_from 1 zs))
+    (four : IsPut fourth fifth tables.Numbers (numbers_rows numbers)) where
   pub all_written : (state : State) → xs ≡ map kinds.Session state.sessions.sessions → ys ≡ map kinds.Reply state.replies.kept
-      → zs ≡ map kinds.Challenge state.challenges.challenges → numbers.clock ≡ state.clock → state.sessions.next ≡ numbers.last_session + 1
+      → zs ≡ map kinds.Challenge state.challenges.challenges → numbers.clock ≡ state.clock
+      → state.sessions.next ≡ numbers.last_session + 1
       → state.challenges.next ≡ numbers.last_challenge + 1 → IsSnapshotOf fifth state
   all_written state sessions replies challenges clock next next' =
       let last_session : numbers.last_session ≡ state.sessions.next - 1 = omega (arith, next) in
       let last_challenge : numbers.last_challenge ≡ state.challenges.next - 1 = omega (arith, next') in
       record {
-        sessions = four.others (tree_of tables.Sessions) (λ e. omega (arith, e)) ∙ three.others (tree_of tables.Sessions) (λ e. omega (arith, e)) ∙ two.others (tree_of tables.Sessions) (λ e. omega (arith, e)) ∙ one.here ∙ ap (λ (l : List StateRow). rows_from 1 l) sessions;
-        replies = four.others (tree_of tables.Replies) (λ e. omega (arith, e)) ∙ three.others (tree_of tables.Replies) (λ e. omega (arith, e)) ∙ two.here ∙ ap (λ (l : List StateRow). rows_from 1 l) replies;
-        challenges = four.others (tree_of tables.Challenges) (λ e. omega (arith, e)) ∙ three.here ∙ ap (λ (l : List StateRow). rows_from 1 l) challenges;
+        sessions = four.others (tree_of tables.Sessions) (λ e. omega (arith, e))
+            ∙ three.others (tree_of tables.Sessions) (λ e. omega (arith, e))
+            ∙ two.others (tree_of tables.Sessions) (λ e. omega (arith, e)) ∙ one.here
+            ∙ ap (λ (l : List StateRow). rows_from 1 l) sessions;
+        replies = four.others (tree_of tables.Replies) (λ e. omega (arith, e))
+            ∙ three.others (tree_of tables.Replies) (λ e. omega (arith, e)) ∙ two.here
+            ∙ ap (λ (l : List StateRow). rows_from 1 l) replies;
+        challenges = four.others (tree_of tables.Challenges) (λ e. omega (arith, e)) ∙ three.here
+            ∙ ap (λ (l : List StateRow). rows_from 1 l) challenges;
         numbers = four.here ∙ ap (λ (n : ℕ). numbers_row n numbers.last_session numbers.last_challenge ∷ []) clock
             ∙ ap (λ (n : ℕ). numbers_row state.clock n numbers.last_challenge ∷ []) last_session
             ∙ ap (λ (n : ℕ). numbers_row state.clock (state.sessions.next - 1) n ∷ []) last_challenge;
       }
 
   pub others_kept : KeepsOthers first fifth
-  others_kept tree none = four.others tree (none tables.Numbers) ∙ three.others tree (none tables.Challenges) ∙ two.others tree (none tables.Replies) ∙ one.others tree (none tables.Sessions)
+  others_kept tree none = four.others tree (none tables.Numbers) ∙ three.others tree (none tables.Challenges)
+      ∙ two.others tree (none tables.Replies) ∙ one.others tree (none tables.Sessions)

@@ -12,7 +12,8 @@ use Rattle.rad_server.specs.declared.state_row.StateRow.TheVariants as rows
 use Rattle.sqlite_trees.specs.Tree.{Trees}
 use Rattle.sqlite_value.specs.Order.{Row, column}
 use Rattle.sqlite_value.specs.declared.value.Value.TheVariants.{Int}
-use Rattle.rad_snapshot.specs.Rows.{IsChallenge, IsReply, IsSession, IsWithin, challenge_of, challenge_row, numbers_row, reply_of, reply_row, row_of, rows_from, session_of, session_row}
+use Rattle.rad_snapshot.specs.Rows.{IsChallenge, IsReply, IsSession, IsWithin, challenge_of, challenge_row, numbers_row, reply_of}
+use Rattle.rad_snapshot.specs.Rows.{reply_row, row_of, rows_from, session_of, session_row}
 use Rattle.rad_snapshot.specs.Snapshots.{tree_of}
 use Rattle.rad_snapshot.specs.declared.numbers.Numbers.{Numbers}
 use Rattle.rad_snapshot.specs.declared.rest.Rest.{Rest}
@@ -87,7 +88,8 @@ pub record IsPut (old new : Trees) (table : SnapshotTable) (stored : List Row) :
 -- ---- rows that are put back
 
 -- these are rows of a table, and put back in their order they lead from one state to another
-pub record ArePutBack (configuration : Configuration) (table : SnapshotTable) (stored : List Row) (before after : State) : Type 0 where
+pub record ArePutBack (configuration : Configuration) (table : SnapshotTable) (stored : List Row) (before after : State) : Type
+    0 where
   pub items : List StateRow
   pub are : stored ≡ rows_from 1 items
   pub kind : AllByRecursion (IsOf table) items
@@ -111,7 +113,8 @@ pub record AreAllPutBack (configuration : Configuration) (trees : Trees) (number
   pub last_challenge : restored configuration (rows.LastChallenge numbers.last_challenge ∷ []) challenged ≡ Ok after
 
 -- those that are put back are within their ranges
-pub record AreAllWithin (configuration : Configuration) (trees : Trees) (numbers : Numbers) (before after : State) (put : AreAllPutBack configuration trees numbers before after) : Type 0 where
+pub record AreAllWithin (configuration : Configuration) (trees : Trees) (numbers : Numbers) (before after : State)
+    (put : AreAllPutBack configuration trees numbers before after) : Type 0 where
   pub sessions : AllByRecursion IsWithin put.sessions.items
   pub replies : AllByRecursion IsWithin put.replies.items
   pub challenges : AllByRecursion IsWithin put.challenges.items
@@ -119,4 +122,5 @@ pub record AreAllWithin (configuration : Configuration) (trees : Trees) (numbers
 -- no rows of all tables within their ranges are these and can be put back
 abbrev pub CannotAllPutBack : Configuration → Trees → Numbers → State → Type 0
 CannotAllPutBack configuration trees numbers before =
-    (after : State) (put : AreAllPutBack configuration trees numbers before after) → AreAllWithin configuration trees numbers before after put → ⊥
+    (after : State) (put : AreAllPutBack configuration trees numbers before after)
+    → AreAllWithin configuration trees numbers before after put → ⊥

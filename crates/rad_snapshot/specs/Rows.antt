@@ -158,7 +158,10 @@ reply_of row = record {
     id = number_of (column row at_reply_id);
   };
   octets = octets_of (column row at_reply_request);
-  body = record { code = number_of (column row at_reply_code); attributes = attributes_in (octets_of (column row at_reply_attributes)) };
+  body = record {
+    code = number_of (column row at_reply_code);
+    attributes = attributes_in (octets_of (column row at_reply_attributes));
+  };
   made = number_of (column row at_reply_made);
 }
 

@@ -1,6 +1,7 @@
 //! Making rows.
 ghost use Rattle.std.specs.Prelude.{◌≡◌, OnOk};
-ghost use Rattle.rad_snapshot.specs.Rows.{IsChallenge, IsReply, IsSession, challenge_row, numbers_row, reply_row, row_of, session_row};
+ghost use Rattle.rad_snapshot.specs.Rows.{IsChallenge, IsReply, IsSession, challenge_row, numbers_row, reply_row, row_of};
+ghost use Rattle.rad_snapshot.specs.Rows.{session_row};
 
 use crate::columns::{integer, number_of_door, number_of_phase, value_or_null};
 use crate::numbers::Numbers;

@@ -30,8 +30,8 @@ use std::alloc::Global;
 
 /// Reads a snapshot into a server of a configuration.
 ///
-/// The key is for the hashes of its tables, as `Server::open_keyed` says. `Damaged`: what was read is not what was written, or a row is
-/// none of its table or not the next one's. `Row`: the server refuses a row; for a clock beyond `MOMENT_MAX` its moments.
+/// The key is for the hashes of its tables, as `Server::open_keyed` says. `Damaged`: what was read is not what was written, or a
+/// row is none of its table or not the next one's. `Row`: the server refuses a row; for a clock beyond `MOMENT_MAX` its moments.
 pub fn read<'c, S: Store>(
     alloc: Global,
     store: &mut S,

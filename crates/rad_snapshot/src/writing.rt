@@ -21,8 +21,8 @@ use std::alloc::Global;
 
 /// Puts the rows of what a server remembers into the four tables, which are empty, and commits nothing.
 ///
-/// Other tables stay as they were. `Full`: a number or a moment is 2 ^ 63 or more. After an error the store's transaction has some of
-/// the rows, and must be rolled back.
+/// Other tables stay as they were. `Full`: a number or a moment is 2 ^ 63 or more. After an error the store's transaction has some
+/// of the rows, and must be rolled back.
 pub fn write<S: Store>(alloc: Global, store: &mut S, server: &Server) -> Result<(), JournalFault>
     requires tables { IsClean (S.view store.old) → HasTables (S.view store.old) }
     requires empty { IsClean (S.view store.old) → AreEmpty (S.view store.old).trees }

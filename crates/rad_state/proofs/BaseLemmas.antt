@@ -1,5 +1,6 @@
 -- The base of the generation in a file, and what a crash leaves while the next one begins.
-use Rattle.std.proofs.Common.{◌≡◌, ◌<◌, ◌⊎◌, inl, inr, ⊎_elim, ℕ, suc, List, [], Option, Some, None, Result, Ok, refl, sym, ap, subst, ◌∙◌, arith, true, is_some, false}
+use Rattle.std.proofs.Common.{◌≡◌, ◌<◌, ◌⊎◌, inl, inr, ⊎_elim, ℕ, suc, List, [], Option, Some, None, Result, Ok, refl, sym, ap}
+use Rattle.std.proofs.Common.{subst, ◌∙◌, arith, true, is_some, false}
 use Rattle.rad_config.specs.Configurations.{Configuration, configuration_of_octets}
 use Rattle.rad_server.specs.Lawful.{IsLawful}
 use Rattle.rad_server.specs.Servers.{Server}
@@ -34,19 +35,24 @@ says_one law db one other here there =
     let same : one.configuration ≡ other.configuration = ok_same one.configuration other.configuration
     (sym here.configuration ∙ ap (λ (m : Meta). configuration_of_octets m.configuration) meta ∙ there.configuration) in
     let lawful = subst (λ (k : Configuration). IsLawful k one.state) same here.lawful in
-    let state : one.state ≡ other.state = law other.configuration db one.state other.state lawful there.lawful here.snapshot there.snapshot in
+    let state : one.state ≡ other.state =
+    law other.configuration db one.state other.state lawful there.lawful here.snapshot there.snapshot in
     ap (λ (k : Configuration). record one { configuration = k }) same ∙ ap (λ (s : State). record other { state = s }) state
 
-begins_says : (db : Trees) (meta : Meta) (base : Server) → Begins db meta base.state → configuration_of_octets meta.configuration ≡ Ok base.configuration
+begins_says : (db : Trees) (meta : Meta) (base : Server) → Begins db meta base.state
+    → configuration_of_octets meta.configuration ≡ Ok base.configuration
     → IsLawful base.configuration base.state → Says db base
-begins_says db meta base begins text lawful = record { meta = meta; held = begins.held; configuration = text; lawful = lawful; snapshot = begins.snapshot }
+begins_says db meta base begins text lawful =
+    record { meta = meta; held = begins.held; configuration = text; lawful = lawful; snapshot = begins.snapshot }
 
 -- ---- the generation that begins at a server
 
-module _ (law : OneSnapshotOneState) (meta : Meta) (server : Server) (text : configuration_of_octets meta.configuration ≡ Ok server.configuration)
+module _ (law : OneSnapshotOneState) (meta : Meta) (server : Server)
+    (text : configuration_of_octets meta.configuration ≡ Ok server.configuration)
     (lawful : IsLawful server.configuration server.state) where
   -- in a file that is settled
-  pub has_base : Fits meta true → (db : Trees) (recovers : Trees → Type 0) → ((left : Trees) → recovers left → left ≡ db) → Begins db meta server.state
+  pub has_base : Fits meta true → (db : Trees) (recovers : Trees → Type 0) → ((left : Trees) → recovers left → left ≡ db)
+      → Begins db meta server.state
       → HasBase recovers server
   unfolding begins_says
   has_base fits db recovers settled begins = record {
@@ -58,22 +64,27 @@ module _ (law : OneSnapshotOneState) (meta : Meta) (server : Server) (text : con
   }
 
   -- a file that may have it holds no other generation
-  holds_it : (db : Trees) (left : Generation) → (db meta_table ≡ []) ⊎ Begins db meta server.state → Holds db left → left ≡ just_begun server
+  holds_it : (db : Trees) (left : Generation) → (db meta_table ≡ []) ⊎ Begins db meta server.state → Holds db left
+      → left ≡ just_begun server
   holds_it db left outcome holds = ⊎_elim
       (λ none. absurd (no_meta holds.says.meta (sym none ∙ holds.says.held)))
       (λ begins.
       let base : left.base ≡ server = says_one law db left.base server holds.says (begins_says db meta server begins text lawful) in
       let entries : left.entries ≡ [] = sym holds.entries ∙ ap (λ (rows : List Row). entries_of rows) begins.none in
-      ap (λ (b : Server). record left { base = b }) base ∙ ap (λ (l : List Kept). record (just_begun server) { entries = l }) entries)
+      ap (λ (b : Server). record left { base = b }) base
+      ∙ ap (λ (l : List Kept). record (just_begun server) { entries = l }) entries)
       outcome
     where
       no_meta : (held : Meta) → [] ≡ meta_rows (Some held) → ⊥
       no_meta held is = absurd (cc is)
 
   -- what a crash leaves once it could not be begun, in a file that was made after the one in use
-  pub failed_leaves : {S : Type 0} (old new : ℕ → Type 0) (number : ℕ) (recovers : S → Trees → Type 0) (used failed : S) (base : Server)
-      → ((later : ℕ) → number < later → ¬ old later) → HasBase (recovers used) base → ((other : ℕ) → new other → old other ⊎ (other ≡ suc number))
-      → LeavesBeginning (recovers failed) meta server.state → (left : Generation) → LeavesIn new number recovers used (Some failed) left
+  pub failed_leaves : {S : Type 0} (old new : ℕ → Type 0) (number : ℕ) (recovers : S → Trees → Type 0) (used failed : S)
+      (base : Server)
+      → ((later : ℕ) → number < later → ¬ old later) → HasBase (recovers used) base
+      → ((other : ℕ) → new other → old other ⊎ (other ≡ suc number))
+      → LeavesBeginning (recovers failed) meta server.state → (left : Generation)
+      → LeavesIn new number recovers used (Some failed) left
       → ((left.base ≡ base) × MayLeave (recovers used) left.entries) ⊎ (left ≡ just_begun server)
   failed_leaves old new number recovers used failed base newest has only begins left may = ⊎_elim
       (λ here. inl (held_has_base (recovers used) base has left here.1))
@@ -86,12 +97,16 @@ module _ (law : OneSnapshotOneState) (meta : Meta) (server : Server) (text : con
       may
 
 -- what a crash leaves once it has begun
-pub begun_leaves : {S : Type 0} (has : ℕ → Type 0) (number : ℕ) (recovers : S → Trees → Type 0) (used : S) (next : Option S) (db : Trees) (configuration : Configuration)
-    (server : Server) → IsInUse has number (recovers used) configuration server → ((left : Trees) → recovers used left → left ≡ db) → db table ≡ []
+pub begun_leaves : {S : Type 0} (has : ℕ → Type 0) (number : ℕ) (recovers : S → Trees → Type 0) (used : S) (next : Option S)
+    (db : Trees) (configuration : Configuration)
+    (server : Server) → IsInUse has number (recovers used) configuration server → ((left : Trees) → recovers used left → left ≡ db)
+    → db table ≡ []
     → (left : Generation) → LeavesIn has number recovers used next left → left ≡ just_begun server
 begun_leaves has number recovers used next db configuration server in_use settled none left may =
     let (base, kept) = in_use_leaves has number recovers used next configuration server in_use left may in
-    let entries : left.entries ≡ [] = kept.2 ∙ ap (λ (t : Trees). entries_of (t table)) (settled kept.0 kept.1) ∙ ap (λ (rows : List Row). entries_of rows) none in
+    let entries : left.entries ≡ [] =
+    kept.2 ∙ ap (λ (t : Trees). entries_of (t table)) (settled kept.0 kept.1)
+    ∙ ap (λ (rows : List Row). entries_of rows) none in
     ap (λ (b : Server). record left { base = b }) base ∙ ap (λ (l : List Kept). record (just_begun server) { entries = l }) entries
 
 -- ---- which file is in use
@@ -101,8 +116,10 @@ none_of None is = refl
 none_of (Some x) is = absurd (cc is)
 
 -- the one that was made after the newest
-pub in_use_next : (old made new : ℕ → Type 0) (done : Type 0) (number next : ℕ) (recovers : Trees → Type 0) (configuration : Configuration) (server : Server)
-    → ((later : ℕ) → number < later → ¬ old later) → next ≡ suc number → ((other : ℕ) → made other → old other ⊎ (done × (other ≡ next)))
+pub in_use_next : (old made new : ℕ → Type 0) (done : Type 0) (number next : ℕ) (recovers : Trees → Type 0)
+    (configuration : Configuration) (server : Server)
+    → ((later : ℕ) → number < later → ¬ old later) → next ≡ suc number
+    → ((other : ℕ) → made other → old other ⊎ (done × (other ≡ next)))
     → ((other : ℕ) → new other → made other) → new next → HasBase recovers server → server.configuration ≡ configuration
     → IsInUse new next recovers configuration server
 in_use_next old made new done number next recovers configuration server newest is only within there base same = record {
@@ -127,8 +144,10 @@ in_use_among old new number recovers configuration base in_use others only = rec
 }
 
 -- it is still there, whether or not one was made
-pub still_leaves : {S : Type 0} (old new : ℕ → Type 0) (number : ℕ) (recovers : S → Trees → Type 0) (used : S) (next : Option S) (configuration : Configuration)
-    (base : Server) → IsInUse old number (recovers used) configuration base → ((other : ℕ) → old other → new other) → (db : Trees) → recovers used db
+pub still_leaves : {S : Type 0} (old new : ℕ → Type 0) (number : ℕ) (recovers : S → Trees → Type 0) (used : S) (next : Option S)
+    (configuration : Configuration)
+    (base : Server) → IsInUse old number (recovers used) configuration base → ((other : ℕ) → old other → new other) → (db : Trees)
+    → recovers used db
     → LeavesIn new number recovers used next (record { base = base; entries = entries_of (db table) })
 still_leaves old new number recovers used next configuration base in_use others db left =
     inl (others number in_use.there, held_stays (recovers used) base in_use.has_base db left)

@@ -61,10 +61,12 @@ module _ (old mid new : View) (meta : Meta) (state : State) (blank : IsBlank old
       ap (λ (v : View). v.trees (register_tree Grants)) sets.is
       ∙ others (register_tree Grants) (not_register Grants) ∙ blank_trees old blank (register_tree Grants) (omega arith)
 
-  pub begun : IsSnapshotOf mid.trees state → KeepsOthers old.trees mid.trees → SetsTree mid new meta_table (put_row (meta_row meta)) → Begins new.trees meta state
+  pub begun : IsSnapshotOf mid.trees state → KeepsOthers old.trees mid.trees → SetsTree mid new meta_table (put_row (meta_row meta))
+      → Begins new.trees meta state
   begun snapshot others sets = let none_in = none_recorded_in others sets in record {
     held = ap (λ (v : View). v.trees meta_table) sets.is
-        ∙ ap (λ (rows : List Row). put_row (meta_row meta) rows) (others meta_table not_meta ∙ blank_trees old blank meta_table (omega arith));
+        ∙ ap (λ (rows : List Row). put_row (meta_row meta) rows)
+        (others meta_table not_meta ∙ blank_trees old blank meta_table (omega arith));
     snapshot = record {
       sessions = ap (λ (v : View). v.trees (tree_of Sessions)) sets.is ∙ snapshot.sessions;
       replies = ap (λ (v : View). v.trees (tree_of Replies)) sets.is ∙ snapshot.replies;
@@ -79,27 +81,33 @@ module _ (old mid new : View) (meta : Meta) (state : State) (blank : IsBlank old
 
 pub commit_fresh : (old mid put new : View) → IsBlank old → OnlyWrites old mid → OnlyWrites mid put → Commits put new → IsFresh new
 commit_fresh old mid put new blank snapshot meta commits =
-    let wrote : put ≡ record old { trees = put.trees; cursors = put.cursors } = meta ∙ ap (λ (v : View). record v { trees = put.trees; cursors = put.cursors }) snapshot in
+    let wrote : put ≡ record old { trees = put.trees; cursors = put.cursors } =
+    meta ∙ ap (λ (v : View). record v { trees = put.trees; cursors = put.cursors }) snapshot in
     subst (λ (v : View). IsFresh v) (sym commits.is) (record {
       is_open = subst IsTrue (sym (ap (λ (v : View). v.is_open) wrote)) blank.opened.fresh.is_open;
       shapes = record {
         entries = ap (λ (v : View). v.shape table) wrote ∙ blank.opened.fresh.shapes.entries;
-        records = λ register. ap (λ (v : View). v.shape (register_tree register)) wrote ∙ blank.opened.fresh.shapes.records register;
+        records = λ register. ap (λ (v : View). v.shape (register_tree register)) wrote
+            ∙ blank.opened.fresh.shapes.records register;
       };
       committed_shape = refl;
       settled = refl;
     })
 
-pub commit_begins : (put new : View) (meta : Meta) (state : State) → Begins put.trees meta state → Commits put new → Begins new.committed meta state
+pub commit_begins : (put new : View) (meta : Meta) (state : State) → Begins put.trees meta state → Commits put new
+    → Begins new.committed meta state
 commit_begins put new meta state begins commits = subst (λ (v : View). Begins v.committed meta state) (sym commits.is) begins
 
-module _ (old : View) (before : Trees → Type 0) (meta : Meta) (state : State) (blank : IsBlank old) (settled : (db : Trees) → before db → db ≡ old.committed) where
+module _ (old : View) (before : Trees → Type 0) (meta : Meta) (state : State) (blank : IsBlank old)
+    (settled : (db : Trees) → before db → db ≡ old.committed) where
   -- nothing is committed
   pub blank_leaves : (after : Trees → Type 0) → ((db : Trees) → after db → before db) → LeavesBeginning after meta state
-  blank_leaves after earlier db left = inl (ap (λ (t : Trees). t meta_table) (settled db (earlier db left)) ∙ blank.none meta_table (omega arith))
+  blank_leaves after earlier db left =
+      inl (ap (λ (t : Trees). t meta_table) (settled db (earlier db left)) ∙ blank.none meta_table (omega arith))
 
   -- a commit comes to its end or not
-  pub commit_leaves : (put : View) (between after : Trees → Type 0) → Begins put.trees meta state → ((db : Trees) → between db → before db)
+  pub commit_leaves : (put : View) (between after : Trees → Type 0) → Begins put.trees meta state
+      → ((db : Trees) → between db → before db)
       → ((db : Trees) → after db → ((put.is_broken ≡ false) × (db ≡ put.trees)) ⊎ between db) → LeavesBeginning after meta state
   commit_leaves put between after begins earlier crash db left = ⊎_elim
       (λ now. inr (subst (λ (t : Trees). Begins t meta state) (sym now.1) begins))

@@ -44,7 +44,9 @@ module _ {D : Type 0} {g : Ghosts D} (it : FileStore D g) where
     snapshot_shapes = has_tables (view it) all;
   }
 
-  pub ready_is_blank : IsReady it → AreTables (view it) → (IsTrue (state it).is_clean → (tree : ℕ) → tree < 2 ^ 32 → (view it).committed tree ≡ []) → IsClean (view it) → IsBlank (view it)
+  pub ready_is_blank : IsReady it → AreTables (view it)
+      → (IsTrue (state it).is_clean → (tree : ℕ) → tree < 2 ^ 32 → (view it).committed tree ≡ []) → IsClean (view it)
+      → IsBlank (view it)
   ready_is_blank ready all empty clean = record {
     opened = ready_is_opened ready all clean;
     none = λ tree few. empty (clean_is (state it).is_clean clean) tree (omega (arith, few));

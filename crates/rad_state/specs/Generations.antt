@@ -32,7 +32,8 @@ LeavesOf configuration may_leave left = (left.base ≡ fresh_server configuratio
 
 -- ---- a generation in a file
 
--- the file says that its generation begins at this server: its meta has the text of the configuration, and its snapshot is the state's
+-- the file says that its generation begins at this server: its meta has the text of the configuration, and its snapshot is the
+-- state's
 pub record Says (db : Trees) (base : Server) : Type 0 where
   pub meta : Meta
   pub held : db meta_table ≡ meta_rows (Some meta)
@@ -69,18 +70,22 @@ pub record HasBase (recovers : Trees → Type 0) (base : Server) : Type 0 where
 
 -- ---- generations in the files of a folder
 
--- A crash may leave a generation in a file that was made after the one in use. Of the next one it is known what it may have; nobody knows of
--- any other, nor of the next one where that was let go of.
+-- A crash may leave a generation in a file that was made after the one in use. Of the next one it is known what it may have; nobody
+-- knows of any other, nor of the next one where that was let go of.
 abbrev pub LeavesLater : {S : Type 0} → (ℕ → Type 0) → ℕ → (S → Trees → Type 0) → Option S → Generation → Type 0
 LeavesLater has number recovers None left = (later : ℕ) × (number < later) × has later
-LeavesLater has number recovers (Some next) left = (later : ℕ) × (number < later) × has later × (later ≡ suc number → MayHold (recovers next) left)
+LeavesLater has number recovers (Some next) left =
+    (later : ℕ) × (number < later) × has later × (later ≡ suc number → MayHold (recovers next) left)
 
--- A crash may leave a generation in a folder that has these files: in the one in use, which has this number and this store, or in a later one.
+-- A crash may leave a generation in a folder that has these files: in the one in use, which has this number and this store, or in a
+-- later one.
 abbrev pub LeavesIn : {S : Type 0} → (ℕ → Type 0) → ℕ → (S → Trees → Type 0) → S → Option S → Generation → Type 0
-LeavesIn has number recovers used next left = (has number × MayHold (recovers used) left) ⊎ LeavesLater has number recovers next left
+LeavesIn has number recovers used next left =
+    (has number × MayHold (recovers used) left) ⊎ LeavesLater has number recovers next left
 
 -- the file in use is the newest, and its generation begins at this server, whose configuration is this one
-pub record IsInUse (has : ℕ → Type 0) (number : ℕ) (recovers : Trees → Type 0) (configuration : Configuration) (base : Server) : Type 0 where
+pub record IsInUse (has : ℕ → Type 0) (number : ℕ) (recovers : Trees → Type 0) (configuration : Configuration)
+    (base : Server) : Type 0 where
   pub there : has number
   pub newest : (later : ℕ) → number < later → ¬ has later
   pub has_base : HasBase recovers base

@@ -24,7 +24,8 @@ says_alike one other base alike says = record {
 }
 
 -- what a crash leaves in a file with a base has this base
-pub held_has_base : (recovers : Trees → Type 0) (base : Server) → HasBase recovers base → (left : Generation) → MayHold recovers left
+pub held_has_base : (recovers : Trees → Type 0) (base : Server) → HasBase recovers base → (left : Generation)
+    → MayHold recovers left
     → (left.base ≡ base) × MayLeave recovers left.entries
 held_has_base recovers base has left may = (
   has.only left.base (says_alike may.0 has.db left.base (has.beside may.0 may.1) may.2.says),
@@ -45,20 +46,24 @@ held_stays recovers base has db left = (
   },
 )
 
-none_later : {S : Type 0} (has : ℕ → Type 0) (number : ℕ) (recovers : S → Trees → Type 0) → ((later : ℕ) → number < later → ¬ has later)
+none_later : {S : Type 0} (has : ℕ → Type 0) (number : ℕ) (recovers : S → Trees → Type 0)
+    → ((later : ℕ) → number < later → ¬ has later)
     → (next : Option S) (left : Generation) → LeavesLater has number recovers next left → ⊥
 none_later has number recovers newest None left may = newest may.0 may.1 may.2
 none_later has number recovers newest (Some next) left may = newest may.0 may.1 may.2
 
-module _ {S : Type 0} (has : ℕ → Type 0) (number : ℕ) (recovers : S → Trees → Type 0) (used : S) (next : Option S) (configuration : Configuration)
+module _ {S : Type 0} (has : ℕ → Type 0) (number : ℕ) (recovers : S → Trees → Type 0) (used : S) (next : Option S)
+    (configuration : Configuration)
     (base : Server) (in_use : IsInUse has number (recovers used) configuration base) where
-  pub in_use_leaves : (left : Generation) → LeavesIn has number recovers used next left → (left.base ≡ base) × MayLeave (recovers used) left.entries
+  pub in_use_leaves : (left : Generation) → LeavesIn has number recovers used next left
+      → (left.base ≡ base) × MayLeave (recovers used) left.entries
   in_use_leaves left may = ⊎_elim
       (λ here. held_has_base (recovers used) base in_use.has_base left here.1)
       (λ later. absurd (none_later has number recovers in_use.newest next left later))
       may
 
-  pub in_use_stays : (db : Trees) → recovers used db → LeavesIn has number recovers used next (record { base = base; entries = entries_of (db table) })
+  pub in_use_stays : (db : Trees) → recovers used db
+      → LeavesIn has number recovers used next (record { base = base; entries = entries_of (db table) })
   in_use_stays db left = inl (in_use.there, held_stays (recovers used) base in_use.has_base db left)
 
 pub in_use_keeps : (has : ℕ → Type 0) (number : ℕ) (old new : Trees → Type 0) (configuration : Configuration) (base : Server)

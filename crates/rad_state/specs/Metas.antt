@@ -1,5 +1,5 @@
--- Metas as the rows of a table: the rowid 1, format, rules, the text of the configuration, the boot's id, what the boot clock showed at
--- moment 0, and the wall time at which the generation began, both in milliseconds.
+-- Metas as the rows of a table: the rowid 1, format, rules, the text of the configuration, the boot's id, what the boot clock
+-- showed at moment 0, and the wall time at which the generation began, both in milliseconds.
 use Rattle.std.specs.Prelude.{◌≡◌, ◌≢◌, ◌<◌, ◌^◌, ℕ, ℤ, pos, length, List, [], ◌∷◌, Option, None, Some, refl}
 use Rattle.sqlite_value.specs.declared.value.Value.{Value}
 use Rattle.sqlite_value.specs.declared.value.Value.TheVariants.{Null, Int, Real, Text, Blob}

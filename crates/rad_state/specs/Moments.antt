@@ -28,8 +28,8 @@ in_boot zero running = magnitude (pos running -ℤ zero)
 abbrev pub by_wall : Last → ℕ → ℕ
 by_wall last wall = last.moment + (wall - last.wall)
 
--- This is the moment now. In the same boot it goes by the boot clock, and is no earlier than that of the last times. After another boot it
--- goes by the wall clock.
+-- This is the moment now. In the same boot it goes by the boot clock, and is no earlier than that of the last times. After another
+-- boot it goes by the wall clock.
 pub record IsMoment (meta : Meta) (last : Last) (now : Clocks) (moment : ℕ) : Type 0 where
   pub same_boot : meta.boot ≡ now.boot → moment ≡ min (max (in_boot meta.zero now.running) last.moment) moment_max
   pub other_boot : meta.boot ≢ now.boot → moment ≡ min (by_wall last now.wall) moment_max

@@ -17,8 +17,8 @@ use std::alloc::Global;
 
 /// Writes the beginning of a generation into a blank store: the snapshot of a server and the meta, in one commit.
 ///
-/// A crash leaves both or no meta. After an error the store has to be opened again. `NoRoom`: the disk has none, or the configuration is
-/// too long for a row. `Full`: a number or a moment is 2 ^ 63 or more.
+/// A crash leaves both or no meta. After an error the store has to be opened again. `NoRoom`: the disk has none, or the
+/// configuration is too long for a row. `Full`: a number or a moment is 2 ^ 63 or more.
 pub fn write_generation<S: Store>(
     alloc: Global,
     store: &mut S,

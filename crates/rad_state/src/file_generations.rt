@@ -51,8 +51,8 @@ pub struct FileGenerations<'c, S: Store, F: Folder<S>> {
 impl<'c, S: Store + Drop, F: Folder<S> + Drop> FileGenerations<'c, S, F> {
     /// Begins the first generation of a life in the folder's next file, at a server.
     ///
-    /// `number` is that of the newest file, or 0. The meta has the text of the server's configuration, and the wall time now. At most
-    /// `files_max` files are kept, but at least 2: the oldest go.
+    /// `number` is that of the newest file, or 0. The meta has the text of the server's configuration, and the wall time now. At
+    /// most `files_max` files are kept, but at least 2: the oldest go.
     pub fn start(
         alloc: Global,
         folder: F,
@@ -184,8 +184,8 @@ impl<'c, S: Store + Drop, F: Folder<S> + Drop> Generations<StoreJournal<S>>
     }
 }
 
-// Removes the oldest files, as long as there are more than so many or they are too old, but neither the one with this number nor the one
-// before it.
+// Removes the oldest files, as long as there are more than so many or they are too old, but neither the one with this number nor
+// the one before it.
 fn remove_oldest<S: Store, F: Folder<S>>(folder: &mut F, number: u32, files_max: u32)
     ensures kept { (other : ℕ) → number - 1 ≤ other
         → F.has folder.old other → F.has folder.new other }

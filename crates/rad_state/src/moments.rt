@@ -47,8 +47,8 @@ pub struct Clocks {
 
 /// The moment now, given the meta of a generation and the times up to which it goes.
 ///
-/// In the same boot the boot clock has gone on, and after another boot the wall clock has, by 0 where it was set back. The moment is no
-/// earlier than those times', also where the boot clock shows less, and never above `MOMENT_MAX`.
+/// In the same boot the boot clock has gone on, and after another boot the wall clock has, by 0 where it was set back. The moment
+/// is no earlier than those times', also where the boot clock shows less, and never above `MOMENT_MAX`.
 pub fn next_moment(meta: &Meta, last: Last, now: &Clocks) -> u64
     requires last { last.moment ≤ MOMENT_MAX }
     requires running { now.now.running ≤ MOMENT_MAX }

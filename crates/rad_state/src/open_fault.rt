@@ -15,8 +15,8 @@ pub enum OpenFault {
     /// Another process has the file open. Only who opens host files tells it.
     #[error("another process uses the state")]
     InUse,
-    /// The files hold no database with these tables alone and page sums, or what was read is not what was written, or is no meta, entry
-    /// or snapshot.
+    /// The files hold no database with these tables alone and page sums, or what was read is not what was written, or is no meta,
+    /// entry or snapshot.
     #[error("it is no state, or it is damaged")]
     Damaged,
     /// The files hold a database without tables: making it was cut short, or its log is damaged at the beginning.

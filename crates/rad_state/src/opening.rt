@@ -61,9 +61,9 @@ const SNAPSHOT: &str =
 
 /// Opens the database in the files.
 ///
-/// It has the tables of the journal, of the meta and of the snapshot, in this order, and each page has a sum. `seed` is a random number,
-/// for the log's salts. `Unfinished`: the database has no table; nothing is written then. `Damaged`: the files hold something else, or a
-/// sum is wrong.
+/// It has the tables of the journal, of the meta and of the snapshot, in this order, and each page has a sum. `seed` is a random
+/// number, for the log's salts. `Unfinished`: the database has no table; nothing is written then. `Damaged`: the files hold
+/// something else, or a sum is wrong.
 pub fn open_files<D: Disk + Drop>(
     alloc: Global,
     files: Files<D>,

@@ -41,8 +41,8 @@ impl<S: Store + Drop> State<S> {
 
     /// The state of a store that was just opened, if what it has kept can be gone on from.
     ///
-    /// `OtherFormat`, `OtherRules`: as `Meta::check` says of the meta, where there is one. `Damaged`: the table of the meta has another row
-    /// or more than one, the last entry's row has no times, or there are entries and no meta.
+    /// `OtherFormat`, `OtherRules`: as `Meta::check` says of the meta, where there is one. `Damaged`: the table of the meta has
+    /// another row or more than one, the last entry's row has no times, or there are entries and no meta.
     pub fn open(alloc: Global, store: S) -> Result<State<S>, OpenFault>
         requires { IsClean (S.view store) → IsOpened (S.view store) }
         ensures fits { IfOk result (λ state.
@@ -83,8 +83,8 @@ impl<S: Store + Drop> State<S> {
 
     /// The server at which the generation begins, under its configuration, and its journal.
     ///
-    /// The key is for the hashes of the server's tables, as `Server::open_keyed` says. `Damaged`: a row is none of an entry or of the
-    /// snapshot, or not the next one's. `Snapshot`: the server refuses a row. `JournalFull`: there are more than
+    /// The key is for the hashes of the server's tables, as `Server::open_keyed` says. `Damaged`: a row is none of an entry or of
+    /// the snapshot, or not the next one's. `Snapshot`: the server refuses a row. `JournalFull`: there are more than
     /// `rad_journal::ENTRIES_MAX` entries.
     pub fn into_parts<'c>(
         self,

@@ -1,7 +1,8 @@
 -- A list of numbers without one of them.
 use Rattle.std.proofs.Common.{◌≡◌, ◌≢◌, ◌==◌, ℕ, Bool, true, false, not, List, [], ◌∷◌, refl, cond, sym, arith, subst}
 use Rattle.std.specs.List.{All, Contains, filter}
-use Rattle.std.proofs.lemmas.List.Elements.{All-cons, All-contains, All-contains_itself, All-filter, All-nil, All-weaker, Contains-append_left, Contains-append_right, Contains-push, filter_passes}
+use Rattle.std.proofs.lemmas.List.Elements.{All-cons, All-contains, All-contains_itself, All-filter, All-nil, All-weaker}
+use Rattle.std.proofs.lemmas.List.Elements.{Contains-append_left, Contains-append_right, Contains-push, filter_passes}
 
 abbrev pub is_other : ℕ → ℕ → Bool
 is_other n x = not (x == n)
@@ -26,7 +27,8 @@ head_stays n x xs false is other = absurd (other (grind (arith, is)))
 stay : (n : ℕ) (xs : List ℕ) → All (λ y. y ≢ n → Contains (without n xs) y) xs
 stay n [] = All-nil _
 stay n (x ∷ xs) =
-    All-cons (Stays n x xs (is_other n x)) x xs (head_stays n x xs (is_other n x) refl) (stays_behind n x xs (is_other n x) (stay n xs))
+    All-cons (Stays n x xs (is_other n x)) x xs (head_stays n x xs (is_other n x) refl)
+    (stays_behind n x xs (is_other n x) (stay n xs))
 
 -- n is gone, and nothing else
 pub record IsWithout (n : ℕ) (xs ys : List ℕ) : Type 0 where
@@ -36,7 +38,8 @@ pub record IsWithout (n : ℕ) (xs ys : List ℕ) : Type 0 where
 
 n_is_gone : (n : ℕ) (xs : List ℕ) → ¬ Contains (without n xs) n
 n_is_gone n xs has =
-    let passes : is_other n n ≡ true = All-contains (λ y. is_other n y ≡ true) (without n xs) n (filter_passes (is_other n) xs) has in
+    let passes : is_other n n ≡ true =
+    All-contains (λ y. is_other n y ≡ true) (without n xs) n (filter_passes (is_other n) xs) has in
     grind (arith, passes)
 
 pub without_is : (n : ℕ) (xs ys : List ℕ) → ys ≡ without n xs → IsWithout n xs ys

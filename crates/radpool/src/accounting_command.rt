@@ -243,7 +243,8 @@ fn copied(host: &HostRuntime, path: &str) -> Result<Option<CopiedStore>, StateFa
     }
 }
 
-// Prints the records of the generation with this number, whose file has this path. One that a server removes meanwhile is passed over.
+// Prints the records of the generation with this number, whose file has this path. One that a server removes meanwhile is passed
+// over.
 fn print_generation<W: Write>(
     alloc: Global,
     host: &HostRuntime,

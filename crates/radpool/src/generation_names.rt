@@ -1,6 +1,6 @@
 //! The names of the files in the folder of a state: `generation-N.db` has the generation N, and `generation-N.db-wal` its log. What
-//! couldn't be read has these names with `.unfinished` after `.db`, or `.unfinished-2`, and so on. A file `close` asks a server for another
-//! generation.
+//! couldn't be read has these names with `.unfinished` after `.db`, or `.unfinished-2`, and so on. A file `close` asks a server for
+//! another generation.
 
 use crate::numbers::Numbers;
 use std::alloc::{AllocError, Global};

@@ -1,6 +1,6 @@
-//! `radpool`: a RADIUS server. Its commands are `serve`, which answers over UDP, `check`, which checks a configuration, `replay`, which
-//! answers the datagrams of a transcript, `make`, which makes such datagrams, `accounting`, which prints what a state has recorded, and
-//! `state`, which closes a state.
+//! `radpool`: a RADIUS server. Its commands are `serve`, which answers over UDP, `check`, which checks a configuration, `replay`,
+//! which answers the datagrams of a transcript, `make`, which makes such datagrams, `accounting`, which prints what a state has
+//! recorded, and `state`, which closes a state.
 #![tactic(auto)]
 
 mod accounting_command;

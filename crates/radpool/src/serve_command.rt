@@ -227,8 +227,8 @@ impl<'a> Serve<'a> {
         })
     }
 
-    // The sockets, unless the address doesn't fit. Those that the process was given are as these options say, as far as they are there;
-    // any port will do where port 0 is asked for.
+    // The sockets, unless the address doesn't fit. Those that the process was given are as these options say, as far as they are
+    // there; any port will do where port 0 is asked for.
     fn sockets(&self, are_held: bool) -> Option<Sockets> {
         let address = match self.bind {
             Some(text) => Some(address_to_bind(text)?),

@@ -11,7 +11,8 @@ use rad_serve::ServeError;
 use rad_state::{Folder, OpenFault};
 use std::alloc::Global;
 
-/// The folder of a state as it was listed, whose files are copied into memory where they are opened. Nothing in it is made or removed.
+/// The folder of a state as it was listed, whose files are copied into memory where they are opened. Nothing in it is made or
+/// removed.
 #[derive(Drop)]
 pub struct StateCopies {
     host: HostRuntime,

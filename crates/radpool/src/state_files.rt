@@ -21,8 +21,8 @@ use std::random::RandomSource;
 /// The mode of a database, and of its log: it has the secrets of the configuration.
 const MODE: u32 = 0o600;
 
-/// How the database of a state begins: SQLite's mark, pages of 4,096 octets, both versions of a database with a log, and 8 octets at
-/// the end of each page, for its sum.
+/// How the database of a state begins: SQLite's mark, pages of 4,096 octets, both versions of a database with a log, and 8 octets
+/// at the end of each page, for its sum.
 const BEGINNING: [u8; 21] = *b"SQLite format 3\0\x10\0\x02\x02\x08";
 
 /// The octets of a log's head, which are others whenever the log begins anew.
@@ -175,8 +175,8 @@ fn read_beginning(host: &HostRuntime, path: &str, octets: &mut [u8]) -> io::Resu
     file.read(octets)
 }
 
-// Refuses what doesn't begin as the database of a state. A crash may have cut its making short, which writes the first octet last, and
-// leaves each of the others written or zero.
+// Refuses what doesn't begin as the database of a state. A crash may have cut its making short, which writes the first octet last,
+// and leaves each of the others written or zero.
 fn refuse_other(octets: &[u8]) -> Result<(), OpenFault> {
     let Some((first, rest)) = octets.split_first() else {
         return Err(OpenFault::Unfinished);

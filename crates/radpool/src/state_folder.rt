@@ -23,7 +23,8 @@ const DAY: u64 = 86_400;
 
 /// The folder of a state, which this process has locked: it has a file and a log for each generation.
 ///
-/// A generation's own file is locked too, while it is open. `Folder` is for a `&mut` to it, so that who lends it can ask for the fault.
+/// A generation's own file is locked too, while it is open. `Folder` is for a `&mut` to it, so that who lends it can ask for the
+/// fault.
 #[derive(Drop)]
 pub struct StateFolder {
     host: HostRuntime,
@@ -195,8 +196,8 @@ fn open_directory(host: &HostRuntime, path: &str) -> Result<File, StateFault> {
     Ok(fs::open(host, &path)?)
 }
 
-// Gives a file in which no generation can be read another name, and its log too, and tells it: it may be damaged. Where there is nothing
-// to lose, or no such name is left, it is removed.
+// Gives a file in which no generation can be read another name, and its log too, and tells it: it may be damaged. Where there is
+// nothing to lose, or no such name is left, it is removed.
 fn set_aside(host: &HostRuntime, path: &str) -> io::Result<()> {
     if !has_anything(host, path)? {
         return remove_files(host, path);

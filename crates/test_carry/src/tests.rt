@@ -1,5 +1,5 @@
-//! A server's rows are put in by hand, and carried to a server of another configuration; then what it remembers is compared with rows
-//! that are written down.
+//! A server's rows are put in by hand, and carried to a server of another configuration; then what it remembers is compared with
+//! rows that are written down.
 mod answering;
 mod carrying;
 mod configurations;

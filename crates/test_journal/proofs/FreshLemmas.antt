@@ -22,7 +22,8 @@ commit_fresh old mid new fresh frame commits = subst (λ (v : View). IsFresh v) 
   settled = refl;
 })
 
-pub ready_is_fresh : {D : Type 0} {g : Ghosts D} (it : FileStore D g) → IsReady it → HasTables (view it) → IsClean (view it) → IsFresh (view it)
+pub ready_is_fresh : {D : Type 0} {g : Ghosts D} (it : FileStore D g) → IsReady it → HasTables (view it) → IsClean (view it)
+    → IsFresh (view it)
 ready_is_fresh it ready journal clean = record {
   is_open = ready.is_open clean;
   shapes = journal;

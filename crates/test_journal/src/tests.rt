@@ -1,5 +1,5 @@
-//! Journals over a store in memory and over files, on disks that fail too; rows that are no entry's; what is kept of an entry; and servers
-//! restored from journals.
+//! Journals over a store in memory and over files, on disks that fail too; rows that are no entry's; what is kept of an entry; and
+//! servers restored from journals.
 mod commits;
 mod disks;
 mod entries;

@@ -22,5 +22,6 @@ pub one_run_of_nothing : (configuration : Configuration) (may_leave : List Kept 
     → LeavesOf configuration may_leave left → ((entries : List Kept) → may_leave entries → entries ≡ []) → sent ≡ []
     → IsOneRun [] (just_begun (fresh_server configuration)) [] → IsOneRun [] left sent
 one_run_of_nothing configuration may_leave left sent leaves none unsent one =
-    subst (λ (g : Generation). IsOneRun [] g sent) (same_generation left (fresh_server configuration) [] leaves.0 (none left.entries leaves.1))
+    subst (λ (g : Generation). IsOneRun [] g sent)
+    (same_generation left (fresh_server configuration) [] leaves.0 (none left.entries leaves.1))
     (subst (λ (s : List Went). IsOneRun [] (just_begun (fresh_server configuration)) s) (sym unsent) one)

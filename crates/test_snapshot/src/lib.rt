@@ -1,5 +1,5 @@
-//! Tests of `rad_snapshot`, by its public calls alone. They are a crate of their own, so that proving them doesn't prove the library
-//! once more.
+//! Tests of `rad_snapshot`, by its public calls alone. They are a crate of their own, so that proving them doesn't prove the
+//! library once more.
 #![tactic(auto)]
 
 #[cfg(test)]

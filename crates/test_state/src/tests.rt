@@ -1,4 +1,5 @@
-//! Generations in files in memory: opened again, damaged, other files, and a crash at each call of the disk; and what faults are told as.
+//! Generations in files in memory: opened again, damaged, other files, and a crash at each call of the disk; and what faults are
+//! told as.
 mod changed;
 mod crashes;
 mod files;

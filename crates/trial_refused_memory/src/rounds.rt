@@ -389,8 +389,8 @@ const ALL_SERVED: Served = Served {
     failed: 0,
 };
 
-// A turn without room for its datagrams leaves them to the next one. Of those that were received, each has a reply, is refused memory
-// alone, or is lost with its round.
+// A turn without room for its datagrams leaves them to the next one. Of those that were received, each has a reply, is refused
+// memory alone, or is lost with its round.
 fn is_counted(served: &Served, ports: &MemoryPorts) -> bool {
     let counted = served.replies.saturating_add(served.nomemory);
     served.rounds == ALL_SERVED.rounds

@@ -71,8 +71,8 @@ fn judge_over(alloc: Global, config: &Config, call: Call) -> Verdict {
     }
 }
 
-/// A call on a server. One that is copied has a session, a challenge and two kept replies; that of a later call has a kept reply, and
-/// a session or a challenge if the call makes one, none of which is live any more at that call.
+/// A call on a server. One that is copied has a session, a challenge and two kept replies; that of a later call has a kept reply,
+/// and a session or a challenge if the call makes one, none of which is live any more at that call.
 #[derive(Drop)]
 struct ServerTrial<'c> {
     alloc: Global,

@@ -321,7 +321,8 @@ impl Trial for KeptTrial {
     }
 }
 
-/// A call on challenges. Those that are copied, and those of a later call, have a challenge, which isn't live any more at that call.
+/// A call on challenges. Those that are copied, and those of a later call, have a challenge, which isn't live any more at that
+/// call.
 #[derive(Drop)]
 struct ChallengesTrial<'c> {
     alloc: Global,

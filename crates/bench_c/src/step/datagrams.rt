@@ -8,8 +8,8 @@ use rad_auth::{Arrival, Clients, Request, check8, sign_request};
 use rad_packet::{Frame, Octets};
 use std::alloc::Global;
 
-/// The request of a kind, signed, with the user and the Identifier of a place. A Start, a Stop or an answer means the session or the
-/// challenge of this number.
+/// The request of a kind, signed, with the user and the Identifier of a place. A Start, a Stop or an answer means the session or
+/// the challenge of this number.
 pub(crate) fn datagram(
     alloc: Global,
     clients: &Clients,

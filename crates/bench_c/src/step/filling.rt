@@ -10,8 +10,8 @@ use rad_config::Config;
 use rad_server::Server;
 use std::alloc::Global;
 
-/// A server whose tables are full; none without memory, or if a reply isn't as wanted. The nanoseconds of the step that each row took
-/// are put down, as far as there is room.
+/// A server whose tables are full; none without memory, or if a reply isn't as wanted. The nanoseconds of the step that each row
+/// took are put down, as far as there is room.
 pub(crate) fn full_server<'c>(
     alloc: Global,
     config: &'c Config,

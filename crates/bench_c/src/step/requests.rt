@@ -97,8 +97,8 @@ impl Kind {
     }
 }
 
-/// The request of a kind. It is of the user of a place, if sixteen take turns. A Start, a Stop or an answer means the session or the
-/// challenge of this number.
+/// The request of a kind. It is of the user of a place, if sixteen take turns. A Start, a Stop or an answer means the session or
+/// the challenge of this number.
 pub(crate) fn request(
     alloc: Global,
     kind: Kind,

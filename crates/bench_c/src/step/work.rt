@@ -41,8 +41,8 @@ impl Work {
         self.moment_of_row(self.rows.saturating_add(step))
     }
 
-    /// The place whose port, Identifier and user the request of a step has: that of the row that goes at the step, or of the last row if
-    /// its request is repeated.
+    /// The place whose port, Identifier and user the request of a step has: that of the row that goes at the step, or of the last
+    /// row if its request is repeated.
     pub fn place(self, step: usize) -> usize {
         match Kind::of(self.kind) {
             Kind::Repeat => self.rows.saturating_sub(1),

@@ -10,8 +10,8 @@ use rad_server::{HashKey, Server};
 use std::alloc::Global;
 use std::test::Fail;
 
-/// What the new server must remember: the number, client and user of each session; the Identifier and the client of each reply; how many
-/// challenges, and their client and user; and the numbers of the sessions that are left out.
+/// What the new server must remember: the number, client and user of each session; the Identifier and the client of each reply; how
+/// many challenges, and their client and user; and the numbers of the sessions that are left out.
 #[derive(Clone, Copy)]
 struct Wanted {
     sessions: &'static [(u64, u32, u32)],

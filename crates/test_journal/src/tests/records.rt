@@ -16,8 +16,8 @@ const START: &[u8; 26] = b"\x04\x01\x00\x1a\0\0\0\0\0\0\0\0\0\0\0\0\0\0\0\0\x28\
 /// An Access-Request of mira, and nothing else.
 const LOG_IN: &[u8; 26] = b"\x01\x01\x00\x1a\0\0\0\0\0\0\0\0\0\0\0\0\0\0\0\0\x01\x06mira";
 
-/// Answers as they are kept: an Access-Accept that gives 10.20.0.7 and session 1, one without a session, and an Access-Challenge that
-/// says the same.
+/// Answers as they are kept: an Access-Accept that gives 10.20.0.7 and session 1, one without a session, and an Access-Challenge
+/// that says the same.
 const ACCEPT: &[u8; 21] = b"\x02\x08\x06\x0a\x14\x00\x07\x19\x0eRAP1\0\0\0\0\0\0\0\x01";
 
 const ACCEPT_ALONE: &[u8; 7] = b"\x02\x08\x06\x0a\x14\x00\x07";

@@ -8,7 +8,8 @@ use rad_pool::{Refusal, Sessions};
 use rad_rows::HashKey;
 use std::alloc::Global;
 
-/// Where sessions come from: two neighbours, two further off, and the first and the last address. No session comes from the last two.
+/// Where sessions come from: two neighbours, two further off, and the first and the last address. No session comes from the last
+/// two.
 const SOURCES: [u32; 8] = [
     0xC0A8_0110,
     0xC0A8_110D,

@@ -42,7 +42,8 @@ enum Call {
     Count(u32, u32, u64),
     /// So many replies take a client's share.
     Len(u32, u64),
-    /// A client and a moment, and what putting back a reply to the request of this place answers. After a refusal nothing has changed.
+    /// A client and a moment, and what putting back a reply to the request of this place answers. After a refusal nothing has
+    /// changed.
     Restore(u32, u32, u64, Result<(), RowFault>),
     /// A reply to each of 65,536 requests is kept.
     Fill,

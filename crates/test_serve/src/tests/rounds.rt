@@ -95,7 +95,8 @@ fn answers_three_at<R: Net + Clock + Threads + Wait + Sync + AllocGlobal + Abort
     Ok(())
 }
 
-/// More than half of a round. The smallest receive buffer that the system gives to a socket that asks for a large one holds as many.
+/// More than half of a round. The smallest receive buffer that the system gives to a socket that asks for a large one holds as
+/// many.
 const HALF: u16 = 270;
 
 fn send_many(rt: &impl Abort, client: &UdpSocket, port: u16) {

@@ -108,7 +108,8 @@ fn lines_of_error(alloc: Global, error: ServeError) -> Option<String> {
     }
 }
 
-/// Files, ports, and the lines with which serving ends: the configuration's fault comes first, then the seed's, and then that of the ports.
+/// Files, ports, and the lines with which serving ends: the configuration's fault comes first, then the seed's, and then that of
+/// the ports.
 type Row = (&'static str, &'static str, u16, &'static str);
 
 const ROWS: &[Row] = &[

@@ -68,8 +68,8 @@ pub(crate) enum Sent {
     Strange(&'static [u8]),
     /// An Access-Request of the first client, by its Identifier, User-Name and password.
     Access(u8, &'static [u8], &'static [u8]),
-    /// An Accounting-Request of the first client about the first session, by its line, its Identifier and its Acct-Status-Type. Each
-    /// line is another source port.
+    /// An Accounting-Request of the first client about the first session, by its line, its Identifier and its Acct-Status-Type.
+    /// Each line is another source port.
     Account(u16, u8, u8),
 }
 

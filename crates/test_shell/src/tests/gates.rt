@@ -157,8 +157,8 @@ fn two_workers_have_a_batch_each_at_once(rt: HostRuntime) {
     holds(&rt, meeting.was_held(), "each batch saw the other come");
 }
 
-// While one worker is held with the first batch, the other one claims all others. So four of them are exchanged then, of which the last
-// three wouldn't be before the first batch if that had its exchanges before its gate.
+// While one worker is held with the first batch, the other one claims all others. So four of them are exchanged then, of which the
+// last three wouldn't be before the first batch if that had its exchanges before its gate.
 #[test]
 fn a_batch_has_no_exchange_before_its_gate(rt: HostRuntime) {
     const SIX: &[Sent] = &[V; 48];

@@ -31,8 +31,8 @@ const SHORTER: Sent = Octets(
 /// The Access-Accept of nemo in the first session.
 const ACCEPTED: Wanted = Wanted::Octets(NEMO_ACCEPTED);
 
-/// A round: the moment, what is sent, the outcomes, the tags of the entries, the numbers of the sessions after it, and what it shows.
-/// No round has more than eight datagrams, so one worker has them all, and their order is known.
+/// A round: the moment, what is sent, the outcomes, the tags of the entries, the numbers of the sessions after it, and what it
+/// shows. No round has more than eight datagrams, so one worker has them all, and their order is known.
 type Row = (
     u32,
     &'static [Sent],

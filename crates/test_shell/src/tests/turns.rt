@@ -21,8 +21,8 @@ type Cut = (u32, u32, u64, &'static str);
 /// A call of `receive` or `send` that fails, what it ends with, how many replies went out before, and what it is.
 type Failing = (u64, Result<(), ServeFault>, usize, &'static str);
 
-/// What the clock of the ports shows in a turn without datagrams after one that kept a reply at 0, whether it is still kept then, and
-/// what it is.
+/// What the clock of the ports shows in a turn without datagrams after one that kept a reply at 0, whether it is still kept then,
+/// and what it is.
 type Idle = (Option<u64>, bool, &'static str);
 
 /// What is tried.
@@ -320,8 +320,8 @@ fn answers_many<R: Threads + Wait + Sync>(rt: &R, alloc: Global, service: &mut S
         && in_turn.has_passed(38)
 }
 
-// Whether a turn ends so, with so many replies. If it isn't all received, no draw is taken and the server is as it was; otherwise it
-// is as after a turn without a fault. A second call goes on from that server.
+// Whether a turn ends so, with so many replies. If it isn't all received, no draw is taken and the server is as it was; otherwise
+// it is as after a turn without a fault. A second call goes on from that server.
 fn fails<R: Threads + Wait + Sync>(
     rt: &R,
     alloc: Global,
@@ -351,8 +351,8 @@ fn keeps(service: &Service, count: usize) -> bool {
     kept == count
 }
 
-// Whether a second call, to which one more request comes, answers what is left, and leads to the server of one call without a fault, of
-// those datagrams that the first call didn't drop. Nothing fails once more.
+// Whether a second call, to which one more request comes, answers what is left, and leads to the server of one call without a
+// fault, of those datagrams that the first call didn't drop. Nothing fails once more.
 fn goes_on<R: Threads + Wait + Sync>(
     rt: &R,
     alloc: Global,

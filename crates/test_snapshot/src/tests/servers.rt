@@ -13,8 +13,8 @@ use rad_server::{Server, StateRow};
 use std::alloc::{AllocError, Global};
 use test_common::{CLIENT, PORT, SECOND_CLIENT};
 
-// The text of a configuration, which `$more` continues: two clients; `nemo` with a pool of one address, and `many` with many sessions
-// and none.
+// The text of a configuration, which `$more` continues: two clients; `nemo` with a pool of one address, and `many` with many
+// sessions and none.
 macro_rules! text {
     ($more:literal) => {
         concat!(

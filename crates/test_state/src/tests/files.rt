@@ -22,8 +22,8 @@ pub(crate) fn blank(alloc: Global) -> Files<Memory>
     }
 }
 
-/// Files in which a generation was to begin at a server, and whether it did; or why no database was made. They were closed after the log
-/// was copied into the database, as far as it could be.
+/// Files in which a generation was to begin at a server, and whether it did; or why no database was made. They were closed after
+/// the log was copied into the database, as far as it could be.
 pub(crate) fn begun_in<D: Disk + Drop>(
     alloc: Global,
     files: Files<D>,

@@ -7,6 +7,7 @@ use Rattle.rad_carry.proofs.put.put_challenges.Given as goal
 abbrev pub invariant-loop-challenge : goal.invariant-loop-challenge
 invariant-loop-challenge l = record {
   put : and_rows l.places l.fn.server.configuration l.old.table (map rows.Challenge l.challenge-iterator) l.server.state
-      ≡ and_rows l.places l.fn.server.configuration l.old.table (map rows.Challenge l.challenges.table.challenges) l.fn.server.state;
+      ≡ and_rows l.places l.fn.server.configuration l.old.table (map rows.Challenge l.challenges.table.challenges)
+      l.fn.server.state;
   configuration : l.server.configuration ≡ l.fn.server.configuration;
 }

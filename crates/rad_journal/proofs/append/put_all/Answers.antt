@@ -22,11 +22,14 @@ loop-i-preserved g c =
       };
       frame = λ clean.
           let before : IsClean (S.view c.loop-i.store) = omega (arith, step.quiet.clean, clean) in
-          frames (S.view c.args.store.now) (S.view c.loop-i.store) (S.view c.put.new.store) (was.frame before) (c.in_ok-put.ensures.frame clean);
+          frames (S.view c.args.store.now) (S.view c.loop-i.store) (S.view c.put.new.store) (was.frame before)
+          (c.in_ok-put.ensures.frame clean);
       put = λ clean.
           let before : IsClean (S.view c.loop-i.store) = omega (arith, step.quiet.clean, clean) in
           let first : IsClean (S.view c.args.store.now) = omega (arith, was.clean, before) in
-          put_so_far (S.view c.loop-i.store) (S.view c.put.new.store) (entries_of ((S.view c.args.store.now).trees table)) c.args.entries.now c.loop-i.i c.args.count (c.loop-i.number + 1) c.index-entries-i.result it (omega arith) (c.in_ok-put.ensures.ok clean) (omega (arith, was.number)) (was.put before) ((c.requires.counted first).1);
+          put_so_far (S.view c.loop-i.store) (S.view c.put.new.store) (entries_of ((S.view c.args.store.now).trees table))
+          c.args.entries.now c.loop-i.i c.args.count (c.loop-i.number + 1) c.index-entries-i.result it (omega arith)
+          (c.in_ok-put.ensures.ok clean) (omega (arith, was.number)) (was.put before) ((c.requires.counted first).1);
       rest = λ clean.
           let before : IsClean (S.view c.loop-i.store) = omega (arith, step.quiet.clean, clean) in
           rest_on (S.view c.args.store.now) (S.view c.loop-i.store) (S.view c.put.new.store) table (was.rest before)

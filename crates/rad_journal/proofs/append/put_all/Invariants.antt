@@ -12,7 +12,9 @@ invariant-loop-i g l =
       outcomes : (db : Trees) → g.S.Store.recovers l.store db → g.S.Store.recovers l.fn.store db;
       schema : KeepsSchema (g.S.Store.view l.fn.store) (g.S.Store.view l.store);
       frame : IsClean (g.S.Store.view l.store) → OnlyWrites (g.S.Store.view l.fn.store) (g.S.Store.view l.store);
-      put : IsClean (g.S.Store.view l.store) → (g.S.Store.view l.store).trees table ≡ rows_from 1 (entries_of ((g.S.Store.view l.fn.store).trees table) ++ take l.i l.entries);
+      put : IsClean (g.S.Store.view l.store)
+          → (g.S.Store.view l.store).trees table
+          ≡ rows_from 1 (entries_of ((g.S.Store.view l.fn.store).trees table) ++ take l.i l.entries);
       rest : IsClean (g.S.Store.view l.store) → LeavesRest (g.S.Store.view l.fn.store) (g.S.Store.view l.store) table;
       number : l.number ≡ l.count + l.i;
     }

@@ -13,4 +13,5 @@ pub record_all-requires-2-clause-shape : goal.record_all-requires-2-clause-shape
 record_all-requires-2-clause-shape g c clean =
     let put : IsClean (g.S.Store.view c.put_all.new.store) = omega (arith, c.record_all.ensures.clean, clean) in
     let old : IsClean (g.S.Store.view c.args.store.now) = omega (arith, c.put_all.ensures.clean, put) in
-    ap (λ f. f (register_tree Grants)) (c.record_all.ensures.schema.shape ∙ c.put_all.ensures.schema.shape) ∙ (c.requires.shapes old).records Grants
+    ap (λ f. f (register_tree Grants)) (c.record_all.ensures.schema.shape ∙ c.put_all.ensures.schema.shape)
+    ∙ (c.requires.shapes old).records Grants

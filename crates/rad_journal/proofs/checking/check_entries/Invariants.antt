@@ -16,6 +16,7 @@ invariant-loop-place g l =
       same : IsClean (g.S.Store.view l.store) → OnlyReads (g.S.Store.view l.fn.store) (g.S.Store.view l.store);
       live : IsSome ((g.S.Store.view l.store).cursors 0);
       so_far : IsClean (g.S.Store.view l.store)
-          → (done left : List Row) × ((g.S.Store.view l.fn.store).trees table ≡ done ++ left) × ((g.S.Store.view l.store).cursors 0 ≡ Some left)
+          → (done left : List Row) × ((g.S.Store.view l.fn.store).trees table ≡ done ++ left)
+          × ((g.S.Store.view l.store).cursors 0 ≡ Some left)
           × (done ≡ rows_from 1 (entries_of done)) × (length done ≡ l.place);
     }

@@ -28,15 +28,18 @@ loop-place-preserved g c =
     let S = g.S.Store in
     let was = c.loop-place.invariant in
     let step = c.in_ok-check_record.ensures in
-    let before : IsClean (S.view c.check_record.new.store) → IsClean (S.view c.loop-place.store) = λ clean. omega (arith, c.check_record.ensures.clean, clean) in
+    let before : IsClean (S.view c.check_record.new.store) → IsClean (S.view c.loop-place.store) =
+    λ clean. omega (arith, c.check_record.ensures.clean, clean) in
     record {
       clean = omega (arith, was.clean, c.check_record.ensures.clean);
       outcomes = λ db left. was.outcomes db (c.check_record.ensures.outcomes db left);
-      same = λ clean. reads_on (S.view c.args.store.now) (S.view c.loop-place.store) (S.view c.check_record.new.store) (was.same (before clean)) (step.taken clean).2.reads;
+      same = λ clean. reads_on (S.view c.args.store.now) (S.view c.loop-place.store) (S.view c.check_record.new.store)
+          (was.same (before clean)) (step.taken clean).2.reads;
       live = step.live;
       so_far = λ clean.
           let taken = step.taken clean in
           let trees = ap (λ (v : View). v.trees) (was.same (before clean)) in
-          record_next c.args.register (S.view c.args.store.now) (S.view c.loop-place.store) (S.view c.check_record.new.store) c.loop-place.place taken.0 (was.so_far (before clean))
+          record_next c.args.register (S.view c.args.store.now) (S.view c.loop-place.store) (S.view c.check_record.new.store)
+          c.loop-place.place taken.0 (was.so_far (before clean))
           (subst (λ t. slice_get (entries_of (t table)) c.loop-place.place ≡ Some taken.0) trees taken.1) taken.2;
     }

@@ -16,6 +16,7 @@ invariant-loop-place g l =
       same : IsClean (g.S.Store.view l.store) → OnlyReads (g.S.Store.view l.fn.store) (g.S.Store.view l.store);
       live : IsSome ((g.S.Store.view l.store).cursors 0);
       so_far : IsClean (g.S.Store.view l.store)
-          → (left : List Row) × ((g.S.Store.view l.fn.store).trees (register_tree l.register) ≡ records_of l.register (take l.place (entries_of ((g.S.Store.view l.fn.store).trees table))) ++ left)
+          → (left : List Row) × ((g.S.Store.view l.fn.store).trees (register_tree l.register)
+          ≡ records_of l.register (take l.place (entries_of ((g.S.Store.view l.fn.store).trees table))) ++ left)
           × ((g.S.Store.view l.store).cursors 0 ≡ Some left);
     }

@@ -22,14 +22,18 @@ loop-i-preserved g c =
       };
       frame = λ clean.
           let before : IsClean (S.view c.loop-i.store) = omega (arith, step.clean, clean) in
-          frames (S.view c.args.store.now) (S.view c.loop-i.store) (S.view c.record.new.store) (was.frame before) (c.in_ok-record.ensures.frame clean);
+          frames (S.view c.args.store.now) (S.view c.loop-i.store) (S.view c.record.new.store) (was.frame before)
+          (c.in_ok-record.ensures.frame clean);
       recorded = λ clean first counted held.
           let before : IsClean (S.view c.loop-i.store) = omega (arith, step.clean, clean) in
-          recorded_so_far c.args.register (S.view c.loop-i.store) (S.view c.record.new.store) first c.args.entries.now c.loop-i.i c.args.count (c.loop-i.number + 1)
-          c.index-entries-i.result it (omega arith) (c.in_ok-record.ensures.ok clean) (omega (arith, was.number)) counted (was.recorded before first counted held);
+          recorded_so_far c.args.register (S.view c.loop-i.store) (S.view c.record.new.store) first c.args.entries.now c.loop-i.i
+          c.args.count (c.loop-i.number + 1)
+          c.index-entries-i.result it (omega arith) (c.in_ok-record.ensures.ok clean) (omega (arith, was.number)) counted
+          (was.recorded before first counted held);
       rest = λ clean.
           let before : IsClean (S.view c.loop-i.store) = omega (arith, step.clean, clean) in
-          rest_on (S.view c.args.store.now) (S.view c.loop-i.store) (S.view c.record.new.store) (register_tree c.args.register) (was.rest before)
+          rest_on (S.view c.args.store.now) (S.view c.loop-i.store) (S.view c.record.new.store) (register_tree c.args.register)
+          (was.rest before)
           (c.in_ok-record.ensures.ok clean).rest;
       number = omega (arith, was.number);
     }

@@ -16,6 +16,7 @@ invariant-loop-i g l =
       recorded : IsClean (g.S.Store.view l.store) → (before : List Kept) → length before ≡ l.count
           → (g.S.Store.view l.fn.store).trees (register_tree l.register) ≡ records_of l.register before
           → (g.S.Store.view l.store).trees (register_tree l.register) ≡ records_of l.register (before ++ take l.i l.entries);
-      rest : IsClean (g.S.Store.view l.store) → LeavesRest (g.S.Store.view l.fn.store) (g.S.Store.view l.store) (register_tree l.register);
+      rest : IsClean (g.S.Store.view l.store)
+          → LeavesRest (g.S.Store.view l.fn.store) (g.S.Store.view l.store) (register_tree l.register);
       number : l.number ≡ l.count + l.i;
     }

@@ -29,7 +29,13 @@ returns-clause-step c =
       entry = entry;
       exchange = record {
         request = c.in-Some.request;
-        asked = record { own = c.in-Some.ensures.own; admitted = admitted; client = sym c.in-Some.ensures.client; moment = moment; draw = draw };
+        asked = record {
+          own = c.in-Some.ensures.own;
+          admitted = admitted;
+          client = sym c.in-Some.ensures.client;
+          moment = moment;
+          draw = draw;
+        };
         answered = c.in_ok-answer.ensures.answered;
         session = sym so.names ∙ c.in_ok-answer.ensures.session;
       };

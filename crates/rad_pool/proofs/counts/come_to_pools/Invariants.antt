@@ -3,4 +3,5 @@ use Rattle.rad_pool.specs.Counts.{places_come}
 use Rattle.rad_pool.proofs.counts.come_to_pools.Given as goal
 
 abbrev pub invariant-loop-places : goal.invariant-loop-places
-invariant-loop-places l = l.places-items ≡ map (places_come l.address l.number) (take l.places-index l.fn.pools.items) ++ drop l.places-index l.fn.pools.items
+invariant-loop-places l = l.places-items
+    ≡ map (places_come l.address l.number) (take l.places-index l.fn.pools.items) ++ drop l.places-index l.fn.pools.items

@@ -8,4 +8,5 @@ returns-in-None c = meant_none c.args.client c.args.number c.args.rows.now.rows 
 pub returns-in-Some : goal.returns-in-Some
 returns-in-Some c =
     c.number_for.ensures
-    ∙ meant_found c.args.client c.args.number c.args.rows.now.rows c.in-Some.session.now c.numbers_rise.ensures.rising.rising (sym c.in-Some.ensures)
+    ∙ meant_found c.args.client c.args.number c.args.rows.now.rows c.in-Some.session.now c.numbers_rise.ensures.rising.rising
+    (sym c.in-Some.ensures)

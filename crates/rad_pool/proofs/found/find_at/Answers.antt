@@ -9,4 +9,5 @@ returns-in-Nobody c =
 pub returns-in-One : goal.returns-in-One
 returns-in-One c =
     c.number_if_wanted.ensures
-    ∙ meant_held c.args.client c.args.address c.args.name c.args.rows.now.rows (c.in-One.session.now ∷ []) (rw c.in-One.is at c.holder_of.ensures)
+    ∙ meant_held c.args.client c.args.address c.args.name c.args.rows.now.rows (c.in-One.session.now ∷ [])
+    (rw c.in-One.is at c.holder_of.ensures)

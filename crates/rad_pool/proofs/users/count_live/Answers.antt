@@ -9,5 +9,6 @@ returns c =
     let live = live_sessions c.args.rows.now.spans c.args.now c.args.rows.now.rows in
     subst (λ user. CountsUser user live c.tell_dead.new.tally) c.count-live.ensures.user
     (live_left c.args.rows.now.spans c.args.now c.args.rows.now.rows c.count-live.result c.tell_dead.new.tally
-    (subst (λ user. CountsUser user c.args.rows.now.rows c.count-live.result) (sym c.count-live.ensures.user) c.count-live.ensures.counts)
+    (subst (λ user. CountsUser user c.args.rows.now.rows c.count-live.result) (sym c.count-live.ensures.user)
+    c.count-live.ensures.counts)
     c.tell_dead.ensures)

@@ -4,4 +4,5 @@ use Rattle.rad_pool.specs.Sessions.{live_sessions}
 use Rattle.rad_pool.proofs.walk.is_held.Given as goal
 
 abbrev pub invariant-loop-row : goal.invariant-loop-row
-invariant-loop-row l = is_held (live_sessions l.rows.spans l.now l.row-iterator) l.address ≡ is_held (live_sessions l.rows.spans l.now l.rows.rows) l.address
+invariant-loop-row l = is_held (live_sessions l.rows.spans l.now l.row-iterator) l.address
+    ≡ is_held (live_sessions l.rows.spans l.now l.rows.rows) l.address

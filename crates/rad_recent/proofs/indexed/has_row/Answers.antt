@@ -17,4 +17,5 @@ returns c =
     c.is_some.ensures
     ∙ is_there c.get.result
     ∙ ap is_some c.get.ensures
-    ∙ sym (has_key_is c.args.index.now.map.entries c.args.key.now c.in-Some.number c.args.rows.now.rows (sym c.in-Some.ensures) c.requires)
+    ∙ sym (has_key_is c.args.index.now.map.entries c.args.key.now c.in-Some.number c.args.rows.now.rows (sym c.in-Some.ensures)
+    c.requires)

@@ -21,7 +21,8 @@ left c =
     let rows : SeenRows Numbered ℕ → List Numbered = λ seen. seen.rows in
     elim c.match-note.branch [
       | in-Some w ↦ (
-        ap rows w.rows-is ∙ w.remove.ensures.rows ∙ number_removed es key old w.in-Some.before (sym w.in-Some.ensures.before) indexed,
+        ap rows w.rows-is ∙ w.remove.ensures.rows
+            ∙ number_removed es key old w.in-Some.before (sym w.in-Some.ensures.before) indexed,
         ap last w.rows-is ∙ w.remove.ensures.last,
       )
       | in_default w ↦ (ap rows w.rows-is ∙ none_removed es key old (sym w.in_default.ensures.before) indexed, ap last w.rows-is)
@@ -29,7 +30,8 @@ left c =
 
 pub returns-clause-holds : goal.returns-clause-holds
 returns-clause-holds c =
-    holds_pushed (record { number = c.last-number.result + 1; kept = c.args.kept }) c.args.rows.now c.match-note.rows c.push.new.self
+    holds_pushed (record { number = c.last-number.result + 1; kept = c.args.kept }) c.args.rows.now c.match-note.rows
+    c.push.new.self
     c.args.index.now (record { map = c.note.new.map; ready = None }) (left c).0 c.numbers_rise.ensures.rising.given
     (ap (λ l. l + 1) c.last-number.ensures) (c.push.ensures.last ∙ ap (λ l. l + 1) (left c).1)
     c.push.ensures.rows c.note.ensures.noted refl c.requires.holds

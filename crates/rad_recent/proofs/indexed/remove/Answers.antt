@@ -6,12 +6,14 @@ use Rattle.rad_recent.proofs.indexed.remove.Goals as goal
 some_left : (c : goal.After-remove) → c.remove.new.self.rows ≡ filter (has_other_key c.args.key.now) c.args.rows.now.rows
 some_left c =
     c.remove.ensures.rows
-    ∙ number_removed c.args.index.now.map.entries c.args.key.now c.args.rows.now.rows c.in-Some.number (sym c.in-Some.ensures.before)
+    ∙ number_removed c.args.index.now.map.entries c.args.key.now c.args.rows.now.rows c.in-Some.number
+    (sym c.in-Some.ensures.before)
     c.requires.indexed
 
 none_left : (c : goal.In_default) → c.args.rows.now.rows ≡ filter (has_other_key c.args.key.now) c.args.rows.now.rows
 none_left c =
-    none_removed c.args.index.now.map.entries c.args.key.now c.args.rows.now.rows (sym c.in_default.ensures.before) c.requires.indexed
+    none_removed c.args.index.now.map.entries c.args.key.now c.args.rows.now.rows (sym c.in_default.ensures.before)
+    c.requires.indexed
 
 pub returns-in-Some-clause-holds : goal.returns-in-Some-clause-holds
 returns-in-Some-clause-holds c =

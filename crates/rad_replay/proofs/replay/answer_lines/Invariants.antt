@@ -9,7 +9,8 @@ use Rattle.rad_replay.proofs.replay.answer_lines.Given as goal
 abbrev pub invariant-loop-line : goal.invariant-loop-line
 invariant-loop-line g l =
     let lines = datagram_lines (lines_of l.datagrams) in
-    (text : List ℕ) × Progress l.config lines l.lines l.number l.replay.state text × Appends (g.W.Write.contents l.fn.writer) (g.W.Write.contents l.writer) text
+    (text : List ℕ) × Progress l.config lines l.lines l.number l.replay.state text
+    × Appends (g.W.Write.contents l.fn.writer) (g.W.Write.contents l.writer) text
     × (l.replay.configuration ≡ l.config) × (length l.octets ≡ length_max) × (l.number + length l.lines ≡ length lines)
 
 abbrev pub decreases-loop-line : goal.decreases-loop-line

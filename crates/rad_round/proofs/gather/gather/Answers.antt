@@ -15,7 +15,8 @@ close-requires g c =
     let claims = c.args.round.setting.claims in
     let seats : c.handed.inside.seats.items ≡ c.hand_in.new.handed.seats = ap (λ (h : HandedIn). h.seats) c.handed.view_is in
     subst (All (IsSeatOf claims)) (sym seats)
-    (All-weaker (IsFinishedSeatOf claims) (IsSeatOf claims) (λ seat of. of.0) c.hand_in.new.handed.seats c.hand_in.ensures.handed.finished)
+    (All-weaker (IsFinishedSeatOf claims) (IsSeatOf claims) (λ seat of. of.0) c.hand_in.new.handed.seats
+    c.hand_in.ensures.handed.finished)
 
 pub unreachable-requires : goal.unreachable-requires
 unreachable-requires g c =
@@ -43,12 +44,16 @@ returns-clause-round g c =
       capacity = vec_capacity c.handed.inside.seats;
     } in
     let view : handed ≡ c.hand_in.new.handed = c.handed.view_is in
-    let have : HaveHandedIn setting.claims opening.configuration.clients arrivals log c.args.outcomes.items (vec_len c.args.workers) handed =
-    subst (HaveHandedIn setting.claims opening.configuration.clients arrivals log c.args.outcomes.items (vec_len c.args.workers)) (sym view)
-    (subst (λ (clients : List Client). HaveHandedIn setting.claims clients arrivals log c.args.outcomes.items (vec_len c.args.workers)
+    let have : HaveHandedIn setting.claims opening.configuration.clients arrivals log c.args.outcomes.items (vec_len c.args.workers)
+    handed =
+    subst (HaveHandedIn setting.claims opening.configuration.clients arrivals log c.args.outcomes.items (vec_len c.args.workers))
+    (sym view)
+    (subst (λ (clients : List Client). HaveHandedIn setting.claims clients arrivals log c.args.outcomes.items
+    (vec_len c.args.workers)
     c.hand_in.new.handed) (ap (λ (server : Configuration). server.clients) setting.of_server) c.hand_in.ensures.handed) in
     let once : IsEachOnce (batch_count arrivals) (map (λ (seat : ClaimSeat). seat.claimed) handed.seats) =
     subst (λ n. IsEachOnce n (map (λ (seat : ClaimSeat). seat.claimed) handed.seats)) setting.batches
     (subst (IsEachOnce setting.claims.batches) c.in-Ok.ensures.dealt.of_seats c.in-Ok.ensures.dealt.once) in
-    gathered c.into_parts-unlocked.result.0.history.items c.into_parts-unlocked.result.0.server c.into_parts-unlocked.ensures.run c.into_parts-unlocked.ensures.logged have once
+    gathered c.into_parts-unlocked.result.0.history.items c.into_parts-unlocked.result.0.server c.into_parts-unlocked.ensures.run
+    c.into_parts-unlocked.ensures.logged have once
     (c.audit.ensures.whole (have.part_each ∙ c.requires.parts) ∙ c.into_parts-unlocked.ensures.total) c.requires.outcomes

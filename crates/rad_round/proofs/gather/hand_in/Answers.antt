@@ -16,7 +16,8 @@ loop-worker-init g c = record {
 
 pub take_in-frames-requires-clause-finished : goal.take_in-frames-requires-clause-finished
 take_in-frames-requires-clause-finished g c =
-    (All-pop (HasFinished c.args.setting.now.claims c.args.setting.now.config.now.clients c.args.setting.now.arrivals.now) c.loop-worker.workers.items
+    (All-pop (HasFinished c.args.setting.now.claims c.args.setting.now.config.now.clients c.args.setting.now.arrivals.now)
+    c.loop-worker.workers.items
     c.pop.new.self.items (Some c.in-Some.worker) c.in-Some.ensures.items c.loop-worker.invariant.finished).1
 
 pub loop-worker-preserved : goal.loop-worker-preserved
@@ -24,12 +25,14 @@ loop-worker-preserved g c =
     let claims = c.args.setting.now.claims in
     let clients = c.args.setting.now.config.now.clients in
     let arrivals = c.args.setting.now.arrivals.now in
-    let takes = subst (λ log. TakesIn claims clients arrivals log c.loop-worker.handed c.take_in-frames.new.handed) c.loop-worker.invariant.unchanged
+    let takes = subst (λ log. TakesIn claims clients arrivals log c.loop-worker.handed c.take_in-frames.new.handed)
+    c.loop-worker.invariant.unchanged
     c.take_in-frames.ensures.handed in
     record {
       unchanged = c.take_in-frames.ensures.unchanged ∙ c.loop-worker.invariant.unchanged;
       capacity = takes.capacity ∙ c.loop-worker.invariant.capacity;
-      finished = (All-pop (HasFinished claims clients arrivals) c.loop-worker.workers.items c.pop.new.self.items (Some c.in-Some.worker)
+      finished = (All-pop (HasFinished claims clients arrivals) c.loop-worker.workers.items c.pop.new.self.items
+          (Some c.in-Some.worker)
           c.in-Some.ensures.items c.loop-worker.invariant.finished).0;
       count = c.loop-worker.invariant.count + 1;
       counted = omega (arith, c.loop-worker.invariant.counted, c.in-Some.ensures.len);

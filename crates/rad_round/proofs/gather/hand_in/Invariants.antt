@@ -9,7 +9,8 @@ invariant-loop-worker g l = record {
   finished : All (HasFinished l.setting.claims l.setting.config.now.clients l.setting.arrivals.now) l.workers.items;
   count : ℕ;
   counted : count + vec_len l.workers ≡ vec_len l.initial.workers;
-  handed : HaveHandedIn l.setting.claims l.setting.config.now.clients l.setting.arrivals.now l.initial.keeper l.initial.handed.outcomes count l.handed;
+  handed : HaveHandedIn l.setting.claims l.setting.config.now.clients l.setting.arrivals.now l.initial.keeper
+      l.initial.handed.outcomes count l.handed;
 }
 
 abbrev pub decreases-loop-worker : goal.decreases-loop-worker

@@ -17,7 +17,8 @@ loop-batch-preserved g c =
     let in_log = IsInLog c.args.keeper.now in
     record {
       unchanged = c.put_batch.ensures.unchanged ∙ i.unchanged;
-      right = (All-pop (IsAnswered c.args.setting.now.config.now.clients c.args.setting.now.arrivals.now) c.loop-batch.answered.items rest
+      right = (All-pop (IsAnswered c.args.setting.now.config.now.clients c.args.setting.now.arrivals.now)
+          c.loop-batch.answered.items rest
           (Some c.in-Some.batch) items i.right).0;
       logged = λ logged. i.logged (subst (All in_log) (sym items) (All-push in_log rest c.in-Some.batch logged
           (subst (λ log. IsInLog log c.in-Some.batch) i.unchanged c.put_batch.ensures.logged)));

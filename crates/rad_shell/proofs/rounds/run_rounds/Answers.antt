@@ -8,6 +8,10 @@ returns-clause-served g c = (
   subst (λ random. IsServed false c.args.rounds
       (record { server = c.args.service.now; random = g.D.Rng.stream random; passed = g.P.Ports.passed c.args.ports.now })
       c.run.result
-      (record { server = c.run.new.service; random = g.D.Rng.stream c.run.new.self.random.now; passed = g.P.Ports.passed c.run.new.ports }))
+      (record {
+        server = c.run.new.service;
+        random = g.D.Rng.stream c.run.new.self.random.now;
+        passed = g.P.Ports.passed c.run.new.ports;
+      }))
       c.without_room.ensures.stream c.run.ensures.served,
 )

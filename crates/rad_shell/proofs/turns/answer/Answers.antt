@@ -17,8 +17,10 @@ returns-clause-made g c =
     let round : Round before c.in-Ok.arrivals.items made.done.outcomes.items made.done.history.items c.round_marked.new.self =
     subst (λ list. Round before list made.done.outcomes.items made.done.history.items c.round_marked.new.self) c.deref.ensures.value
     c.in-Ok-round_marked.ensures.round in
-    round_made before _ _ c.in-Ok.arrivals.items made.done.outcomes.items made.done.history.items made.marks.items c.round_marked.new.self
-    c.in-Ok.ensures.few c.in-Ok.ensures.came c.in-Ok.ensures.draws round c.in-Ok-round_marked.ensures.marked c.kept_is_enough.ensures.fresh valid lawful
+    round_made before _ _ c.in-Ok.arrivals.items made.done.outcomes.items made.done.history.items made.marks.items
+    c.round_marked.new.self
+    c.in-Ok.ensures.few c.in-Ok.ensures.came c.in-Ok.ensures.draws round c.in-Ok-round_marked.ensures.marked
+    c.kept_is_enough.ensures.fresh valid lawful
 
 pub returns-clause-marks : goal.returns-clause-marks
 returns-clause-marks g c = marks_as_many _ _ _ _ c.in-Ok-round_marked.ensures.marked

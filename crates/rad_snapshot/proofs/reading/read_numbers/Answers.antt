@@ -16,16 +16,19 @@ returns-in_err-numbers-clause-refused g c =
     let first = S.view c.args.store.now in
     let fault = c.in_err-numbers.field-0.0 in
     let given : c.from_residual-in_err-numbers.result ≡ Err (reported fault) = search rules in
-    subst (λ r. IfErr r (λ fault. IsOfRows fault → IsClean (S.view c.next.new.self) → MoreFaults (S.faults c.args.store.now) (S.faults c.next.new.self)
+    subst (λ r. IfErr r (λ fault. IsOfRows fault → IsClean (S.view c.next.new.self)
+    → MoreFaults (S.faults c.args.store.now) (S.faults c.next.new.self)
     ⊎ ((numbers : Numbers) → first.trees (tree_of tables.Numbers) ≢ numbers_rows numbers))) (sym given)
     (λ of clean.
     let sought : IsClean (S.view c.seek.new.self) = omega (arith, c.next.ensures.quiet.clean, clean) in
     let found : c.in_ok-next.field-0 ≡ true = search rules in
     let cursor = subst (λ t. (S.view c.seek.new.self).cursors 0 ≡ Some (first.trees t)) c.tree.ensures
     (sought_all first (S.view c.seek.new.self) c.tree.result _ c.new-key.ensures (c.in_ok-seek.ensures.ok sought)).0 in
-    let step = subst (λ b. Advances (S.view c.seek.new.self) (S.view c.next.new.self) 0 c.next.new.row b) found (c.in_ok-next.ensures.ok clean) in
+    let step = subst (λ b. Advances (S.view c.seek.new.self) (S.view c.next.new.self) 0 c.next.new.row b) found
+    (c.in_ok-next.ensures.ok clean) in
     inr (λ numbers is. c.in_err-numbers.ensures.damaged (damage_is fault of) numbers
-    (other_rows first (S.view c.seek.new.self) (S.view c.next.new.self) (tree_of tables.Numbers) c.next.new.row (numbers_row numbers.clock numbers.last_session numbers.last_challenge) cursor step is)))
+    (other_rows first (S.view c.seek.new.self) (S.view c.next.new.self) (tree_of tables.Numbers) c.next.new.row
+    (numbers_row numbers.clock numbers.last_session numbers.last_challenge) cursor step is)))
 
 pub returns-clause-found : goal.returns-clause-found
 returns-clause-found g c clean =
@@ -37,6 +40,9 @@ returns-clause-found g c clean =
     let none : c.in_ok-next-2.field-0 ≡ false = search rules in
     let cursor = subst (λ t. (S.view c.seek.new.self).cursors 0 ≡ Some (first.trees t)) c.tree.ensures
     (sought_all first (S.view c.seek.new.self) c.tree.result _ c.new-key.ensures (c.in_ok-seek.ensures.ok sought)).0 in
-    let step = subst (λ b. Advances (S.view c.seek.new.self) (S.view c.next.new.self) 0 c.next.new.row b) found (c.in_ok-next.ensures.ok once) in
-    let last = subst (λ b. Advances (S.view c.next.new.self) (S.view c.next-2.new.self) 0 c.next-2.new.row b) none (c.in_ok-next-2.ensures.ok clean) in
-    only_row first (S.view c.seek.new.self) (S.view c.next.new.self) (tree_of tables.Numbers) c.next.new.row c.next-2.new.row cursor step last.0 ∙ c.in_ok-numbers.ensures.found
+    let step = subst (λ b. Advances (S.view c.seek.new.self) (S.view c.next.new.self) 0 c.next.new.row b) found
+    (c.in_ok-next.ensures.ok once) in
+    let last = subst (λ b. Advances (S.view c.next.new.self) (S.view c.next-2.new.self) 0 c.next-2.new.row b) none
+    (c.in_ok-next-2.ensures.ok clean) in
+    only_row first (S.view c.seek.new.self) (S.view c.next.new.self) (tree_of tables.Numbers) c.next.new.row c.next-2.new.row cursor
+    step last.0 ∙ c.in_ok-numbers.ensures.found

@@ -16,5 +16,6 @@ invariant-loop-place g l =
       live : IsSome ((g.S.Store.view l.store).cursors 0);
       configuration : l.server.configuration ≡ l.fn.server.configuration;
       so_far : IsClean (g.S.Store.view l.store)
-          → ReadSoFar l.fn.server.configuration l.table ((g.S.Store.view l.fn.store).trees (tree_of l.table)) (g.S.Store.view l.store) l.place l.fn.server.state l.server.state;
+          → ReadSoFar l.fn.server.configuration l.table ((g.S.Store.view l.fn.store).trees (tree_of l.table))
+          (g.S.Store.view l.store) l.place l.fn.server.state l.server.state;
     }

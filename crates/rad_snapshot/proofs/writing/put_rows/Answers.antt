@@ -12,8 +12,10 @@ loop-place-preserved g c =
     let step = c.put.ensures in
     let row = c.fill_next.new.row in
     let more : c.in_ok-fill_next.field-0 ≡ true = search rules in
-    let next : IsNext (left c.loop-place.rest) (left c.fill_next.new.self) c.loop-place.place row = c.in_ok-fill_next.ensures.next more in
-    let before : IsClean (S.view c.put.new.self) → IsClean (S.view c.loop-place.store) = λ clean. omega (arith, step.quiet.clean, clean) in
+    let next : IsNext (left c.loop-place.rest) (left c.fill_next.new.self) c.loop-place.place row =
+    c.in_ok-fill_next.ensures.next more in
+    let before : IsClean (S.view c.put.new.self) → IsClean (S.view c.loop-place.store) =
+    λ clean. omega (arith, step.quiet.clean, clean) in
     record {
       clean = omega (arith, was.clean, step.quiet.clean);
       outcomes = λ db left. was.outcomes db (step.quiet.outcomes db left);
@@ -24,8 +26,11 @@ loop-place-preserved g c =
         committed_reals = step.schema.committed_reals ∙ was.schema.committed_reals;
         numbered = step.schema.numbered ∙ was.schema.numbered;
       };
-      frame = λ clean. frames (S.view c.args.store.now) (S.view c.loop-place.store) (S.view c.put.new.self) (was.frame (before clean)) (c.in_ok-put.ensures.frame clean);
-      so_far = put_next (S.view c.args.store.now) (S.view c.loop-place.store) (S.view c.put.new.self) (IsClean (S.view c.loop-place.store)) (IsClean (S.view c.put.new.self)) c.args.table
+      frame = λ clean. frames (S.view c.args.store.now) (S.view c.loop-place.store) (S.view c.put.new.self)
+          (was.frame (before clean)) (c.in_ok-put.ensures.frame clean);
+      so_far = put_next (S.view c.args.store.now) (S.view c.loop-place.store) (S.view c.put.new.self)
+          (IsClean (S.view c.loop-place.store)) (IsClean (S.view c.put.new.self)) c.args.table
           (left c.args.rest.now) (left c.loop-place.rest) (left c.fill_next.new.self) c.loop-place.place row was.so_far next before
-          (λ clean. subst (λ t. SetsTree (S.view c.loop-place.store) (S.view c.put.new.self) t (put_row row)) c.tree.ensures (c.in_ok-put.ensures.ok clean));
+          (λ clean. subst (λ t. SetsTree (S.view c.loop-place.store) (S.view c.put.new.self) t (put_row row)) c.tree.ensures
+          (c.in_ok-put.ensures.ok clean));
     }

@@ -12,5 +12,6 @@ invariant-loop-place g l =
       outcomes : (db : Trees) → g.S.Store.recovers l.store db → g.S.Store.recovers l.fn.store db;
       schema : KeepsSchema (g.S.Store.view l.fn.store) (g.S.Store.view l.store);
       frame : IsClean (g.S.Store.view l.store) → OnlyWrites (g.S.Store.view l.fn.store) (g.S.Store.view l.store);
-      so_far : PutSoFar (g.S.Store.view l.fn.store) (g.S.Store.view l.store) (IsClean (g.S.Store.view l.store)) l.table (left l.fn.rest) (left l.rest) l.place;
+      so_far : PutSoFar (g.S.Store.view l.fn.store) (g.S.Store.view l.store) (IsClean (g.S.Store.view l.store)) l.table
+          (left l.fn.rest) (left l.rest) l.place;
     }

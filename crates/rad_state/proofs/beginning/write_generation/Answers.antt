@@ -10,7 +10,8 @@ returns-clause-begins g c clean =
     let mid : IsClean (S.view c.write.new.store) = omega (arith, c.put.ensures.quiet.clean, put) in
     let old : IsClean (S.view c.args.store.now) = omega (arith, c.write.ensures.clean, mid) in
     commit_begins (S.view c.put.new.store) (S.view c.commit.new.self) c.args.meta.now c.args.server.now.state
-    (begun (S.view c.args.store.now) (S.view c.write.new.store) (S.view c.put.new.store) c.args.meta.now c.args.server.now.state (c.requires.blank old)
+    (begun (S.view c.args.store.now) (S.view c.write.new.store) (S.view c.put.new.store) c.args.meta.now c.args.server.now.state
+    (c.requires.blank old)
     (c.in_ok-write.ensures.snapshot mid) (c.in_ok-write.ensures.others mid) (c.in_ok-put.ensures.ok put))
     (c.in_ok-commit.ensures.ok clean)
 
@@ -24,7 +25,8 @@ returns-in_err-commit-clause-crash g c clean =
     commit_leaves (S.view c.args.store.now) (S.recovers c.args.store.now) c.args.meta.now c.args.server.now.state blank
     (λ db left. g.met.S.Store.settled c.args.store.now db blank.opened.fresh.is_open left)
     (S.view c.put.new.store) (S.recovers c.put.new.store) (S.recovers c.commit.new.self)
-    (begun (S.view c.args.store.now) (S.view c.write.new.store) (S.view c.put.new.store) c.args.meta.now c.args.server.now.state blank
+    (begun (S.view c.args.store.now) (S.view c.write.new.store) (S.view c.put.new.store) c.args.meta.now
+    c.args.server.now.state blank
     (c.in_ok-write.ensures.snapshot mid) (c.in_ok-write.ensures.others mid) (c.in_ok-put.ensures.ok put))
     (λ db left. c.write.ensures.outcomes db (c.put.ensures.quiet.outcomes db left)) c.commit.ensures.crash
 
@@ -38,6 +40,7 @@ returns-clause-crash g c clean =
     commit_leaves (S.view c.args.store.now) (S.recovers c.args.store.now) c.args.meta.now c.args.server.now.state blank
     (λ db left. g.met.S.Store.settled c.args.store.now db blank.opened.fresh.is_open left)
     (S.view c.put.new.store) (S.recovers c.put.new.store) (S.recovers c.commit.new.self)
-    (begun (S.view c.args.store.now) (S.view c.write.new.store) (S.view c.put.new.store) c.args.meta.now c.args.server.now.state blank
+    (begun (S.view c.args.store.now) (S.view c.write.new.store) (S.view c.put.new.store) c.args.meta.now
+    c.args.server.now.state blank
     (c.in_ok-write.ensures.snapshot mid) (c.in_ok-write.ensures.others mid) (c.in_ok-put.ensures.ok put))
     (λ db left. c.write.ensures.outcomes db (c.put.ensures.quiet.outcomes db left)) c.commit.ensures.crash

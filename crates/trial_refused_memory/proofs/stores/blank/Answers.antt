@@ -25,7 +25,8 @@ returns-clause-blank c =
               | Grants ↦ ap (λ f. f (register_tree Grants)) shape ∙ c.table-3.ensures
             ];
           };
-          committed_shape = (memory_is_unaltered c.in_ok-store.store (ap (λ (t : Trees). t catalog_tree) c.in_ok-store.ensures.clean)).0;
+          committed_shape =
+              (memory_is_unaltered c.in_ok-store.store (ap (λ (t : Trees). t catalog_tree) c.in_ok-store.ensures.clean)).0;
           settled = c.in_ok-store.ensures.clean;
         };
         meta_shape = ap (λ f. f meta_table) shape ∙ c.table-4.ensures;

@@ -11,6 +11,7 @@ invariant_of-result c = record {
       c.in_ok-rows.ensures.rows c.in_ok-rows.ensures.last
       (entries_from_clone _ _ (λ x y h. search rules) (λ x y h. search rules) _ _ c.in_ok-map.ensures.cases)
       (λ r. absurd (true≢false (sym r))) c.self.invariant.index;
-  clients = clients_copied c.self.inside.rows.rows c.in_ok-rows.rows.rows c.self.inside.notes.clients.items c.in_ok-clients.clients.items
+  clients = clients_copied c.self.inside.rows.rows c.in_ok-rows.rows.rows c.self.inside.notes.clients.items
+      c.in_ok-clients.clients.items
       c.self.invariant.clients c.in_ok-rows.ensures.rows (same_from_all_zip _ _ _ c.in_ok-clients.ensures.cases.0 (λ x y h. h));
 }

@@ -15,7 +15,8 @@ invariant_of-self c =
     let left_is : (with_items counts left).items ≡ left = with_items_is counts left left_len in
     let new_len : length new ≡ (with_items counts left).len = c.add_one.ensures.len ∙ c.deref_mut-2.ensures.len in
     let new_is : (with_items (with_items counts left) new).items ≡ new = with_items_is (with_items counts left) new new_len in
-    let gains : GainsClient c.args.reply.client left new = subst (λ mid. GainsClient c.args.reply.client mid new) (c.deref_mut-2.ensures.value ∙ left_is) c.add_one.ensures in
+    let gains : GainsClient c.args.reply.client left new =
+    subst (λ mid. GainsClient c.args.reply.client mid new) (c.deref_mut-2.ensures.value ∙ left_is) c.add_one.ensures in
     record {
       index = c.push.ensures.holds;
       clients = subst (CountsClients c.push.new.rows.rows) (sym new_is)

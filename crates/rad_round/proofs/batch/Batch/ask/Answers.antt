@@ -10,8 +10,10 @@ new-requires-clause-octets c =
     let own = c.self.inside in
     let read : c.index-requests-lane.result ≡ Some c.in_ok-prepared.prepared.now = search rules in
     let octets : c.index-octets-lane.result ≡ Some c.in_ok-octets.octets.now = search rules in
-    (lane_ready own.config.now own.arrivals.now own.number own.verdicts.now own.prepared.now own.octets.now c.args.lane c.index-requests-lane.result
-    c.index-octets-lane.result c.in_ok-prepared.prepared.now c.in_ok-octets.octets.now c.self.invariant c.requires c.index-requests-lane.is c.index-octets-lane.is
+    (lane_ready own.config.now own.arrivals.now own.number own.verdicts.now own.prepared.now own.octets.now c.args.lane
+    c.index-requests-lane.result
+    c.index-octets-lane.result c.in_ok-prepared.prepared.now c.in_ok-octets.octets.now c.self.invariant c.requires
+    c.index-requests-lane.is c.index-octets-lane.is
     read octets).octets_are
 
 pub returns : goal.returns
@@ -19,13 +21,17 @@ returns c =
     let own = c.self.inside in
     let read : c.index-requests-lane.result ≡ Some c.in_ok-prepared.prepared.now = search rules in
     let octets : c.index-octets-lane.result ≡ Some c.in_ok-octets.octets.now = search rules in
-    let lane = lane_ready own.config.now own.arrivals.now own.number own.verdicts.now own.prepared.now own.octets.now c.args.lane c.index-requests-lane.result
-    c.index-octets-lane.result c.in_ok-prepared.prepared.now c.in_ok-octets.octets.now c.self.invariant c.requires c.index-requests-lane.is c.index-octets-lane.is
+    let lane = lane_ready own.config.now own.arrivals.now own.number own.verdicts.now own.prepared.now own.octets.now c.args.lane
+    c.index-requests-lane.result
+    c.index-octets-lane.result c.in_ok-prepared.prepared.now c.in_ok-octets.octets.now c.self.invariant c.requires
+    c.index-requests-lane.is c.index-octets-lane.is
     read octets in
     let arrival : slice_get own.arrivals.now (own.number * 8 + c.args.lane) ≡ Some c.in_ok-timed.timed.now =
     slice_get_read own.arrivals.now (length own.arrivals.now) (own.number * 8 + c.args.lane) c.in_ok-timed.timed.now refl
-    (ltb-true (own.number * 8 + c.args.lane) (length own.arrivals.now) (sym c.in_ok-timed.ensures.lookup.0)) c.in_ok-timed.ensures.lookup.1 in
-    let batch : CheckedBatch = record { configuration = own.config.now; arrivals = own.arrivals.now; number = own.number; verdicts = own.verdicts.now } in
+    (ltb-true (own.number * 8 + c.args.lane) (length own.arrivals.now) (sym c.in_ok-timed.ensures.lookup.0))
+    c.in_ok-timed.ensures.lookup.1 in
+    let batch : CheckedBatch =
+    record { configuration = own.config.now; arrivals = own.arrivals.now; number = own.number; verdicts = own.verdicts.now } in
     subst (λ b. IsAskIn b c.args.lane c.new.result) c.self.view_is (record {
       configuration_is = ap (λ p. p.configuration) c.new.ensures.prepared ∙ lane.configuration_is;
       of = λ verdict at. record {

@@ -13,7 +13,8 @@ returns c =
       number = own.number;
       verdicts = own.verdicts.now;
     } in
-    let outcomes = c.unasked.result ∷ c.unasked-2.result ∷ c.unasked-3.result ∷ c.unasked-4.result ∷ c.unasked-5.result ∷ c.unasked-6.result
+    let outcomes =
+    c.unasked.result ∷ c.unasked-2.result ∷ c.unasked-3.result ∷ c.unasked-4.result ∷ c.unasked-5.result ∷ c.unasked-6.result
     ∷ c.unasked-7.result ∷ c.unasked-8.result ∷ [] in
     let are : outcomes ≡ map unasked own.verdicts.now =
     rw (

@@ -10,7 +10,8 @@ returns c =
     let verdicts = c.args.self.now.verdicts in
     let asked = c.args.asked.now in
     sealed_of clients verdicts asked
-    (c.job.result ∷ c.job-2.result ∷ c.job-3.result ∷ c.job-4.result ∷ c.job-5.result ∷ c.job-6.result ∷ c.job-7.result ∷ c.job-8.result ∷ [])
+    (c.job.result ∷ c.job-2.result ∷ c.job-3.result ∷ c.job-4.result ∷ c.job-5.result ∷ c.job-6.result ∷ c.job-7.result
+    ∷ c.job-8.result ∷ [])
     c.args.frames.now c.seal8.new.frames c.seal8.ensures
     (eight (IsJobIn clients verdicts asked)
     c.job.result c.job-2.result c.job-3.result c.job-4.result c.job-5.result c.job-6.result c.job-7.result c.job-8.result

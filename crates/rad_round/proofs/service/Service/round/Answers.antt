@@ -7,4 +7,5 @@ returns-clause-lawful g c =
     let before = c.server.result.now in
     let history = c.in_ok-marked.marked.done.history.items in
     subst (λ server. IsLawfulThroughout server.configuration server.state history) c.server.ensures
-    (c.runs_are_lawful.ensures before.configuration before.state history c.state_is_lawful.ensures.configuration c.state_is_lawful.ensures.state)
+    (c.runs_are_lawful.ensures before.configuration before.state history c.state_is_lawful.ensures.configuration
+    c.state_is_lawful.ensures.state)

@@ -10,6 +10,7 @@ invariant-loop-i l =
       made : vec_len l.arrivals ≡ l.i;
       moments : AreMoments l.arrivals.items;
       left : length l.rest ≡ octet_count (drop l.i l.self.got.items);
-      came : map came_of l.arrivals.items ++ came_in (drop l.i l.self.got.items) l.rest ≡ came_in l.self.got.items l.self.octets.items;
+      came : map came_of l.arrivals.items ++ came_in (drop l.i l.self.got.items) l.rest
+          ≡ came_in l.self.got.items l.self.octets.items;
       drawn : map (λ timed. timed.draw) l.arrivals.items ≡ take l.i l.self.draws.items;
     }

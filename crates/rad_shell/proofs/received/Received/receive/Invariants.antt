@@ -17,6 +17,7 @@ invariant-loop g l =
       draws_fit : arrivals_max ≤ vec_capacity l.self.draws;
       all : All IsReceived l.self.got.items;
       sum : octet_count l.self.got.items ≡ vec_len l.self.octets;
-      passed : HavePassed (map In (came_in l.self.got.items l.self.octets.items)) (g.P.Ports.passed l.fn.ports) (g.P.Ports.passed l.ports);
+      passed : HavePassed (map In (came_in l.self.got.items l.self.octets.items)) (g.P.Ports.passed l.fn.ports)
+          (g.P.Ports.passed l.ports);
       reported : g.P.Ports.reported l.ports ≡ g.P.Ports.reported l.fn.ports;
     }

@@ -17,17 +17,28 @@ returns-in_err-left-clause-served g c =
     let lawful = subst (λ server. IsLawful server.configuration server.state) c.server.ensures c.state_is_lawful.ensures.state in
     let i = c.loop.invariant in
     let served = served_until g.J.Journal.keeps c.args.rounds _ c.loop.served _ c.in_err-left.field-0.0 reported.0
-    _ c.make_turn.new.served (J.is_clean c.make_turn.new.journal) (J.is_open c.args.journal.now) (J.kept c.args.journal.now) (J.kept c.loop.journal)
+    _ c.make_turn.new.served (J.is_clean c.make_turn.new.journal) (J.is_open c.args.journal.now) (J.kept c.args.journal.now)
+    (J.kept c.loop.journal)
     (J.kept c.make_turn.new.journal) (J.may_leave c.loop.journal) (J.may_leave c.make_turn.new.journal)
     c.runs_repeat.ensures c.runs_are_lawful.ensures c.time_passes_unseen.ensures.histories c.kept_is_enough.ensures.on valid lawful
-    i.so_far (λ clean. i.kept (c.in_err-left.ensures.clean clean)) (omega (arith, i.turns, c.loop-test.true)) reported.2 c.in_err-left.ensures.turn
+    i.so_far (λ clean. i.kept (c.in_err-left.ensures.clean clean)) (omega (arith, i.turns, c.loop-test.true)) reported.2
+    c.in_err-left.ensures.turn
     (λ clean was. g.met.J.Journal.settled c.loop.journal (i.opened (c.in_err-left.ensures.clean clean) was))
     (λ clean was. unless_so Left c.in_err-left.field-0.0 _ _
-    (λ stays. g.met.J.Journal.settled c.make_turn.new.journal (stays clean (i.opened (c.in_err-left.ensures.clean clean) was))) c.in_err-left.ensures.open) in
+    (λ stays. g.met.J.Journal.settled c.make_turn.new.journal (stays clean (i.opened (c.in_err-left.ensures.clean clean) was)))
+    c.in_err-left.ensures.open) in
     subst (λ result. IsServedOf g.J.Journal.keeps c.args.rounds
-    (record { server = c.args.service.now; random = g.D.Rng.stream c.args.self.now.random.now; passed = g.P.Ports.passed c.args.ports.now })
+    (record {
+      server = c.args.service.now;
+      random = g.D.Rng.stream c.args.self.now.random.now;
+      passed = g.P.Ports.passed c.args.ports.now;
+    })
     result
-    (record { server = c.make_turn.new.service; random = g.D.Rng.stream c.make_turn.new.self.random.now; passed = g.P.Ports.passed c.make_turn.new.ports })
+    (record {
+      server = c.make_turn.new.service;
+      random = g.D.Rng.stream c.make_turn.new.self.random.now;
+      passed = g.P.Ports.passed c.make_turn.new.ports;
+    })
     (J.is_clean c.make_turn.new.journal) (J.is_open c.args.journal.now) (J.kept c.args.journal.now) (J.kept c.make_turn.new.journal)
     (J.may_leave c.make_turn.new.journal)) (sym reported.1) served
 
@@ -35,7 +46,8 @@ pub loop-init : goal.loop-init
 loop-init g c =
     let J = g.J.Journal in
     let none = c.nothing-served.ensures in
-    let first = nothing_served g.J.Journal.keeps _ c.nothing-served.result (J.is_clean c.args.journal.now) (J.kept c.args.journal.now)
+    let first = nothing_served g.J.Journal.keeps _ c.nothing-served.result (J.is_clean c.args.journal.now)
+    (J.kept c.args.journal.now)
     (ap (λ (s : Served). s.replies + s.busy) none) (ap (λ (s : Served). s.failed) none) (ap (λ (s : Served). s.rounds) none) in
     record {
       counted = omega arith;
@@ -65,7 +77,8 @@ loop-preserved g c =
       passed = g.P.Ports.passed c.make_turn.new.ports;
     } in
     let turn = c.in_ok-left.ensures.turn.0 in
-    let made = one_more_turn g.J.Journal.keeps _ c.loop.served middle c.in_ok-left.left after c.make_turn.new.served c.do_left.new.service
+    let made = one_more_turn g.J.Journal.keeps _ c.loop.served middle c.in_ok-left.left after c.make_turn.new.served
+    c.do_left.new.service
     (g.P.Ports.passed c.do_left.new.ports) (J.is_clean c.make_turn.new.journal) (J.kept c.args.journal.now) (J.kept c.loop.journal)
     (J.kept c.make_turn.new.journal) (J.may_leave c.loop.journal) (J.may_leave c.make_turn.new.journal)
     c.time_passes_unseen.ensures.histories c.kept_is_enough.ensures.on c.kept_is_enough.ensures.time i.so_far
@@ -78,7 +91,8 @@ loop-preserved g c =
       random = c.in_ok-left.ensures.random ∙ i.random;
       clean = λ clean. i.clean (c.in_ok-left.ensures.clean clean);
       opened = λ clean was. c.in_ok-left.ensures.open clean (i.opened (c.in_ok-left.ensures.clean clean) was);
-      beside = λ clean beside was. c.in_ok-left.ensures.beside clean beside (i.beside (c.in_ok-left.ensures.clean clean) beside was);
+      beside = λ clean beside was. c.in_ok-left.ensures.beside clean beside
+          (i.beside (c.in_ok-left.ensures.clean clean) beside was);
       so_far = made.0;
       kept = made.1;
     }
@@ -89,6 +103,8 @@ returns-clause-served g c =
     let i = c.loop.invariant in
     let valid = subst (λ server. IsConfiguration server.configuration) c.server.ensures c.state_is_lawful.ensures.configuration in
     let lawful = subst (λ server. IsLawful server.configuration server.state) c.server.ensures c.state_is_lawful.ensures.state in
-    served_all g.J.Journal.keeps c.args.rounds _ c.loop.served _ (J.is_clean c.loop.journal) (J.is_open c.args.journal.now) (J.kept c.args.journal.now)
-    (J.kept c.loop.journal) (J.may_leave c.loop.journal) c.runs_repeat.ensures c.runs_are_lawful.ensures valid lawful i.so_far i.kept
+    served_all g.J.Journal.keeps c.args.rounds _ c.loop.served _ (J.is_clean c.loop.journal) (J.is_open c.args.journal.now)
+    (J.kept c.args.journal.now)
+    (J.kept c.loop.journal) (J.may_leave c.loop.journal) c.runs_repeat.ensures c.runs_are_lawful.ensures valid lawful i.so_far
+    i.kept
     (λ clean was. g.met.J.Journal.settled c.loop.journal (i.opened clean was)) i.sums (omega (arith, i.turns))

@@ -13,7 +13,8 @@ invariant-loop g l =
       random : l.self.random.ghost_name ≡ l.fn.self.random.ghost_name;
       clean : g.J.Journal.is_clean l.journal → g.J.Journal.is_clean l.fn.journal;
       opened : g.J.Journal.is_clean l.journal → g.J.Journal.is_open l.fn.journal → g.J.Journal.is_open l.journal;
-      beside : g.J.Journal.is_clean l.journal → (beside : Beside) → g.J.Journal.leaves_beside l.fn.journal beside → g.J.Journal.leaves_beside l.journal beside;
+      beside : g.J.Journal.is_clean l.journal → (beside : Beside) → g.J.Journal.leaves_beside l.fn.journal beside
+          → g.J.Journal.leaves_beside l.journal beside;
       so_far : AreTurnsSoFar g.J.Journal.keeps
           (record { server = l.fn.service; random = g.D.Rng.stream l.fn.self.random.now; passed = g.P.Ports.passed l.fn.ports })
           l.served

@@ -14,9 +14,11 @@ returns-clause-in_use g c clean =
     let next : c.in-Some.number ≡ suc c.args.number = omega (arith, c.in-Some.ensures) in
     let fresh = c.in_ok-write_generation.ensures.fresh here in
     let base : HasBase (S.recovers store) server =
-    has_base c.snapshots_differ.ensures c.args.meta server c.requires.text c.state_is_lawful.ensures.state c.requires.fits (S.view store).committed (S.recovers store)
+    has_base c.snapshots_differ.ensures c.args.meta server c.requires.text c.state_is_lawful.ensures.state c.requires.fits
+    (S.view store).committed (S.recovers store)
     (λ db left. g.met.S.Store.settled store db fresh.is_open left) (c.in_ok-write_generation.ensures.begins here) in
-    in_use_next (has c.args.folder) (has c.create.new.self) (has c.remove_oldest.new.folder) _ c.args.number c.in-Some.number (S.recovers c.counted.result.store)
+    in_use_next (has c.args.folder) (has c.create.new.self) (has c.remove_oldest.new.folder) _ c.args.number c.in-Some.number
+    (S.recovers c.counted.result.store)
     server.configuration server c.requires.newest next c.create.ensures.only c.remove_oldest.ensures.only
     (c.remove_oldest.ensures.kept c.in-Some.number (omega arith) c.in_ok-store.ensures.made)
     (subst (λ s. HasBase (S.recovers s) server) (sym c.counted.ensures.store) base) refl

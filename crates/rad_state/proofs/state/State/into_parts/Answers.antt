@@ -12,7 +12,8 @@ pub open-requires : goal.open-requires
 open-requires g c clean =
     let S = g.S.Store in
     let first : IsClean (S.view c.args.self.store) = omega (arith, c.read.ensures.clean, clean) in
-    reads_fresh (S.view c.args.self.store) (S.view c.read.new.store) (c.in_ok-server.ensures.same clean) (c.args.self.opened first).fresh
+    reads_fresh (S.view c.args.self.store) (S.view c.read.new.store) (c.in_ok-server.ensures.same clean)
+    (c.args.self.opened first).fresh
 
 pub returns-clause-says : goal.returns-clause-says
 returns-clause-says g c clean meta found reads =
@@ -24,7 +25,8 @@ returns-clause-says g c clean meta found reads =
       held = c.args.self.metas first ∙ ap (λ (m : Option Meta). meta_rows m) found;
       configuration = reads ∙ ap (λ (k : Configuration). Ok k) (sym c.in_ok-server.ensures.configuration);
       lawful = c.state_is_lawful.ensures.state;
-      snapshot = subst (λ (t : Trees). IsSnapshotOf t c.in_ok-server.server.state) ((c.args.self.opened first).fresh.settled) (c.in_ok-server.ensures.snapshot mid);
+      snapshot = subst (λ (t : Trees). IsSnapshotOf t c.in_ok-server.server.state) ((c.args.self.opened first).fresh.settled)
+          (c.in_ok-server.ensures.snapshot mid);
     }
 
 pub returns-clause-crash : goal.returns-clause-crash

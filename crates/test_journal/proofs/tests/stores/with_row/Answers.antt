@@ -8,4 +8,5 @@ returns g c clean =
     let S = g.S.Store in
     let mid : IsClean (S.view c.put.new.self) = omega (arith, c.commit.ensures.clean, clean) in
     let old : IsClean (S.view c.args.store) = omega (arith, c.put.ensures.quiet.clean, mid) in
-    commit_fresh (S.view c.args.store) (S.view c.put.new.self) (S.view c.commit.new.self) (c.requires old) (c.in_ok-put.ensures.frame mid) (c.in_ok-commit.ensures.ok clean)
+    commit_fresh (S.view c.args.store) (S.view c.put.new.self) (S.view c.commit.new.self) (c.requires old)
+    (c.in_ok-put.ensures.frame mid) (c.in_ok-commit.ensures.ok clean)
