@@ -14,7 +14,7 @@ use crate::discard::Discard;
 use crate::request_authenticators::{accounting_authenticators, message_authenticators};
 use crate::same_octets::same_octets;
 use crate::summary::Summary;
-use rad_md5::DIGEST_LEN;
+use rad_md5::{DIGEST_LEN, each_lane};
 use rad_packet::attribute::MESSAGE_AUTHENTICATOR;
 use rad_packet::{Packet, code};
 

@@ -6,7 +6,7 @@ ghost use Rattle.rad_auth.specs.PasswordChecks.{AreLaneDigests, IsLaneDigest, us
 
 use crate::authenticators::nothing;
 use crate::password_check::PasswordCheck;
-use rad_md5::{DIGEST_LEN, LANES, Pieces, digest_some};
+use rad_md5::{DIGEST_LEN, LANES, Pieces, digest_some, each_lane};
 
 /// Whether each password is the one that was sent. A lane without one is wrong.
 ///

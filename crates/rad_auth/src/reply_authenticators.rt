@@ -9,7 +9,7 @@ ghost use Rattle.rad_auth.specs.Sealing.{AreJobs, IsJob};
 use crate::authenticators::{SIXTEEN_ZEROS, nothing};
 use crate::job::Job;
 use rad_hmac::{Key, hmac_some};
-use rad_md5::{DIGEST_LEN, LANES, Pieces, digest_some};
+use rad_md5::{DIGEST_LEN, LANES, Pieces, digest_some, each_lane};
 use rad_packet::attribute::MESSAGE_AUTHENTICATOR;
 use rad_packet::{HEADER_SIZE, code};
 

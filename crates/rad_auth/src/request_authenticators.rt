@@ -9,7 +9,7 @@ use crate::authenticators::{accounting_pieces, hmac_pieces, nothing};
 use crate::candidate::{Candidate, Lane, is_message_authenticator_checked};
 use crate::client::Clients;
 use rad_hmac::{Key, hmac_some};
-use rad_md5::{DIGEST_LEN, LANES, Pieces, digest_some};
+use rad_md5::{DIGEST_LEN, LANES, Pieces, digest_some, each_lane};
 use rad_packet::code;
 
 /// The Request Authenticators that the lanes' Accounting-Requests must have.

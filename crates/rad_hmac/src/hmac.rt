@@ -7,7 +7,7 @@ ghost use Rattle.rad_md5.specs.Pieces.{HasFreePiece, message};
 ghost use Rattle.rad_hmac.specs.Hmac.{keyed_message, mac_of, mac_under, text_limit, xor};
 
 use crate::key::Key;
-use rad_md5::{BLOCK_LEN, DIGEST_LEN, LANES, Pieces, digest_one, digest8, pass_pays};
+use rad_md5::{BLOCK_LEN, DIGEST_LEN, LANES, Pieces, digest_one, digest8, each_lane, pass_pays};
 
 // The octet that ipad repeats.
 const IPAD: u8 = 0x36;
@@ -43,17 +43,7 @@ pub fn hmac_some(
     if pass_pays(wanted) {
         return hmac8(messages);
     }
-    let [a, b, c, d, e, f, g, h] = messages;
-    [
-        hmac_if(wanted[0], a),
-        hmac_if(wanted[1], b),
-        hmac_if(wanted[2], c),
-        hmac_if(wanted[3], d),
-        hmac_if(wanted[4], e),
-        hmac_if(wanted[5], f),
-        hmac_if(wanted[6], g),
-        hmac_if(wanted[7], h),
-    ]
+    each_lane!(j, keyed of messages => hmac_if(wanted[j], keyed))
 }
 
 // The HMAC of a message under its key, if it is wanted.
@@ -102,17 +92,7 @@ fn outer(pad: &[u8; BLOCK_LEN], inner: &[u8; DIGEST_LEN]) -> [u8; DIGEST_LEN]
 fn pads8(messages: &[(&Key, Pieces); LANES], pad: u8) -> [[u8; BLOCK_LEN]; LANES]
     ensures { result ≡ map (λ keyed. xor keyed.0.now (replicate 64 pad)) messages.now }
 {
-    let [a, b, c, d, e, f, g, h] = messages;
-    [
-        a.0.xor(pad),
-        b.0.xor(pad),
-        c.0.xor(pad),
-        d.0.xor(pad),
-        e.0.xor(pad),
-        f.0.xor(pad),
-        g.0.xor(pad),
-        h.0.xor(pad),
-    ]
+    each_lane!(keyed of messages => keyed.0.xor(pad))
 }
 
 // The digest of each pad followed by its message.

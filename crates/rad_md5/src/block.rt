@@ -5,6 +5,7 @@ ghost use Rattle.rad_md5.specs.Blocks.{block_at, block_count, filled};
 ghost use Rattle.rad_md5.specs.Lanes.{ArePlaces, EachLane, HaveBlocks, HaveEnded, words_of};
 ghost use Rattle.rad_md5.specs.Pieces.{message, message_limit};
 
+use crate::each_lane;
 use crate::lanes::LANES;
 use crate::pieces::Pieces;
 use crate::table::{BLOCK_LEN, LENGTH_AT, PADDING};
@@ -27,16 +28,7 @@ fn words_at(blocks: &[[u8; BLOCK_LEN]; 8], k: usize) -> u32x8
     ensures { EachLane (λ j. slice_index result j
         ≡ word_at (slice_index_or blocks.now j []) (4 * k)) }
 {
-    u32x8::from_array([
-        word(&blocks[0], k),
-        word(&blocks[1], k),
-        word(&blocks[2], k),
-        word(&blocks[3], k),
-        word(&blocks[4], k),
-        word(&blocks[5], k),
-        word(&blocks[6], k),
-        word(&blocks[7], k),
-    ])
+    u32x8::from_array(each_lane!(j => word(&blocks[j], k)))
 }
 
 /// The words of eight blocks: word k of all of them is vector k.

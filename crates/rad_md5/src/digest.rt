@@ -6,6 +6,7 @@ ghost use Rattle.rad_md5.specs.Pieces.{IsDigested, digest};
 
 use crate::block::{block_count, next_blocks, words8};
 use crate::compress::compress8;
+use crate::each_lane;
 use crate::lanes::{LANES, State};
 use crate::pieces::Pieces;
 use crate::table::{BLOCK_LEN, INITIAL_HASH};
@@ -96,16 +97,7 @@ pub(crate) fn digests_in(state: State) -> [[u8; DIGEST_LEN]; LANES]
     let b = state.b.to_array();
     let c = state.c.to_array();
     let d = state.d.to_array();
-    [
-        digest_octets([a[0], b[0], c[0], d[0]]),
-        digest_octets([a[1], b[1], c[1], d[1]]),
-        digest_octets([a[2], b[2], c[2], d[2]]),
-        digest_octets([a[3], b[3], c[3], d[3]]),
-        digest_octets([a[4], b[4], c[4], d[4]]),
-        digest_octets([a[5], b[5], c[5], d[5]]),
-        digest_octets([a[6], b[6], c[6], d[6]]),
-        digest_octets([a[7], b[7], c[7], d[7]]),
-    ]
+    each_lane!(j => digest_octets([a[j], b[j], c[j], d[j]]))
 }
 
 // The places of eight messages in their order.
@@ -148,17 +140,7 @@ pub fn digest_some(messages: &[Pieces; LANES], wanted: &[bool; LANES]) -> [[u8; 
     if pass_pays(wanted) {
         return digest8(messages);
     }
-    let [a, b, c, d, e, f, g, h] = messages;
-    [
-        digest_if(wanted[0], a),
-        digest_if(wanted[1], b),
-        digest_if(wanted[2], c),
-        digest_if(wanted[3], d),
-        digest_if(wanted[4], e),
-        digest_if(wanted[5], f),
-        digest_if(wanted[6], g),
-        digest_if(wanted[7], h),
-    ]
+    each_lane!(j, message of messages => digest_if(wanted[j], message))
 }
 
 // The digest of a message, if it is wanted.

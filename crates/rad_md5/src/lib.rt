@@ -14,6 +14,7 @@ mod block;
 mod compress;
 mod digest;
 mod each;
+mod each_lane;
 mod lanes;
 mod pieces;
 mod table;

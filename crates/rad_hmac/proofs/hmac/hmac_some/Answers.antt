@@ -13,8 +13,6 @@ returns c =
     ∷ c.hmac_if-5.result ∷ c.hmac_if-6.result ∷ c.hmac_if-7.result ∷ c.hmac_if-8.result ∷ [] in
     subst (λ (read : List Keyed). EachLane (λ j. slice_index_or c.args.wanted.now j false ≡ true
     → slice_index_or made j [] ≡ slice_index_or (map mac_of read) j []))
-    (lanes_read c.args.messages.now
-    c.index-messages-0.result c.index-messages-1.result c.index-messages-2.result c.index-messages-3.result
-    c.index-messages-4.result c.index-messages-5.result c.index-messages-6.result c.index-messages-7.result c.type_inv.messages)
+    (lanes_read c.args.messages.now _ _ _ _ _ _ _ _ c.type_inv.messages)
     (below_eight _ c.hmac_if.ensures c.hmac_if-2.ensures c.hmac_if-3.ensures c.hmac_if-4.ensures
     c.hmac_if-5.ensures c.hmac_if-6.ensures c.hmac_if-7.ensures c.hmac_if-8.ensures)

@@ -7,6 +7,4 @@ use Rattle.rad_hmac.proofs.hmac.pads8.Goals as goal
 pub returns : goal.returns
 returns c =
     rw (c.xor.ensures, c.xor-2.ensures, c.xor-3.ensures, c.xor-4.ensures, c.xor-5.ensures, c.xor-6.ensures, c.xor-7.ensures, c.xor-8.ensures)
-    (ap (map (λ (keyed : Keyed). xor keyed.0.now (replicate 64 c.args.pad))) (lanes_read c.args.messages.now
-    c.index-messages-0.result c.index-messages-1.result c.index-messages-2.result c.index-messages-3.result
-    c.index-messages-4.result c.index-messages-5.result c.index-messages-6.result c.index-messages-7.result c.type_inv.messages))
+    (ap (map (λ (keyed : Keyed). xor keyed.0.now (replicate 64 c.args.pad))) (lanes_read c.args.messages.now _ _ _ _ _ _ _ _ c.type_inv.messages))
