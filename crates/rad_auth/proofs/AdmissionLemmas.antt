@@ -1,17 +1,22 @@
 -- What admission says of the requests that it gives.
-use Rattle.std.proofs.Common.{◌≡◌, ℕ, ◌≤◌, ◌==◌, ◌&&◌, Bool, true, false, not, List, Option, Some, None, Result, Ok, Err, refl, ap, subst}
+use Rattle.std.proofs.Common.{◌≡◌, ℕ, ◌≤◌, ◌==◌, ◌&&◌, Bool, true, false, not, List, Option, Some, None, Result, Ok, Err, refl, ap}
+use Rattle.std.proofs.Common.{subst}
 use Rattle.std.specs.Prelude.{IsTrue, ok_or, nat_lt}
 use Rattle.std.proofs.lemmas.Bool.{eq-eqb, ltb-false}
 use Rattle.std.proofs.lemmas.List.Quantifiers.{position-Some}
 use Rattle.rad_packet.specs.Attributes.{has_len}
 use Rattle.rad_packet.specs.Ladders.{◌>>=◌, refuse_if}
 use Rattle.rad_packet.specs.Packets.{Packet, packet_of}
-use Rattle.rad_auth.specs.Admission.{IsAdmitted, IsAnswerable, IsInOwnDatagram, admission, content_checks, has_bad_authenticator, has_bad_message_authenticator, is_code_accepted, lacks_message_authenticator, lacks_status_type, own_datagram, packet_or_discard, proxy_states_max, proxy_states_size, request_in, request_of}
+use Rattle.rad_auth.specs.Admission.{IsAdmitted, IsAnswerable, IsInOwnDatagram, admission, content_checks, has_bad_authenticator}
+use Rattle.rad_auth.specs.Admission.{has_bad_message_authenticator, is_code_accepted, lacks_message_authenticator}
+use Rattle.rad_auth.specs.Admission.{lacks_status_type, own_datagram, packet_or_discard, proxy_states_max, proxy_states_size}
+use Rattle.rad_auth.specs.Admission.{request_in, request_of}
 use Rattle.rad_auth.specs.Clients.{Client, client_place, client_at}
 use Rattle.rad_auth.specs.Datagrams.{Datagram}
 use Rattle.rad_auth.specs.declared.arrival.Request.{Request}
 use Rattle.rad_auth.specs.declared.discard.Discard.{Discard}
-use Rattle.rad_auth.specs.declared.discard.Discard.TheVariants.{UnknownClient, WrongCode, BadAuthenticator, BadMessageAuthenticator, NoMessageAuthenticator, NoStatusType, ProxyStateTooLong}
+use Rattle.rad_auth.specs.declared.discard.Discard.TheVariants.{UnknownClient, WrongCode, BadAuthenticator, BadMessageAuthenticator}
+use Rattle.rad_auth.specs.declared.discard.Discard.TheVariants.{NoMessageAuthenticator, NoStatusType, ProxyStateTooLong}
 
 refused_not : {E : Type 0} (b : Bool) (refusal : E) (u : Unit {0}) → refuse_if b refusal ≡ Ok u → b ≡ false
 refused_not true refusal u e = absurd (cc)
@@ -50,7 +55,8 @@ found (Some place) (Ok p) datagram request e = at (is_code_accepted datagram.doo
 held : (clients : List Client) (datagram : Datagram) (request : Request) → request_in clients datagram ≡ Ok request
     → Found (client_place clients datagram.source) request
 unfolding request_in
-held clients datagram request e = found (client_place clients datagram.source) (packet_or_discard (packet_of datagram.octets)) datagram request e
+held clients datagram request e =
+    found (client_place clients datagram.source) (packet_or_discard (packet_of datagram.octets)) datagram request e
 
 last_rungs : (a b c d e : Bool) (checked : Unit {0})
     → (refuse_if a BadAuthenticator >>= λ _. (refuse_if b BadMessageAuthenticator >>= λ _.
@@ -69,8 +75,10 @@ unfolding content_checks
 content_fits client p checked e =
     let last : (lacks_status_type p ≡ false) × (nat_lt proxy_states_max (proxy_states_size p) ≡ false)
     = last_rungs (has_bad_authenticator client p) (has_bad_message_authenticator client p) (lacks_message_authenticator client p)
-    (lacks_status_type p) (nat_lt proxy_states_max (proxy_states_size p)) checked e in
-    (λ is. said (p.code == 4) (has_len 40 4 p.attributes) (eq-eqb p.code 4 is) last.0, ltb-false proxy_states_max (proxy_states_size p) last.1)
+    (lacks_status_type p) (nat_lt proxy_states_max (proxy_states_size p)) checked e in (
+      λ is. said (p.code == 4) (has_len 40 4 p.attributes) (eq-eqb p.code 4 is) last.0,
+      ltb-false proxy_states_max (proxy_states_size p) last.1,
+    )
   where
     said : (accounting has_status : Bool) → accounting ≡ true → (accounting && not has_status) ≡ false → IsTrue has_status
     said true true is lacks = refl
@@ -81,9 +89,11 @@ both : (clients : List Client) (read : Result Request Discard) (request : Reques
     → (read >>= λ r. (content_checks (client_at clients r.client) r.packet >>= λ checked. Ok r)) ≡ Ok request
     → (read ≡ Ok request) × (content_checks (client_at clients request.client) request.packet ≡ Ok tt)
 both clients (Err discard) request e = absurd (cc)
-both clients (Ok r) request e = let parts = at (content_checks (client_at clients r.client) r.packet) refl e in (ap Ok parts.0, parts.1)
+both clients (Ok r) request e = let parts = at (content_checks (client_at clients r.client) r.packet) refl e in
+    (ap Ok parts.0, parts.1)
   where
-    at : (content : Result (Unit {0}) Discard) → content_checks (client_at clients r.client) r.packet ≡ content → (content >>= λ checked. Ok r) ≡ Ok request
+    at : (content : Result (Unit {0}) Discard) → content_checks (client_at clients r.client) r.packet ≡ content
+        → (content >>= λ checked. Ok r) ≡ Ok request
         → (r ≡ request) × (content_checks (client_at clients request.client) request.packet ≡ Ok tt)
     at (Err discard) is e = absurd (cc)
     at (Ok checked) is e =

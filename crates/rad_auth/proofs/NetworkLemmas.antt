@@ -1,5 +1,6 @@
 -- Networks: what their keys tell apart, and their prefixes in order.
-use Rattle.std.proofs.Common.{◌≡◌, ℕ, ◌+◌, ◌*◌, ◌%◌, ◌-◌, ◌^◌, ◌<◌, ◌≤◌, ◌==◌, ◌&&◌, nat_eq, Bool, true, false, List, length, get_or, refl, ap, sym, ◌∙◌, arith}
+use Rattle.std.proofs.Common.{◌≡◌, ℕ, ◌+◌, ◌*◌, ◌%◌, ◌-◌, ◌^◌, ◌<◌, ◌≤◌, ◌==◌, ◌&&◌, nat_eq, Bool, true, false, List, length}
+use Rattle.std.proofs.Common.{get_or, refl, ap, sym, ◌∙◌, arith}
 use Rattle.std.specs.Prelude.{IsTrue, insert, nat_lt, nat_le}
 use Rattle.std.specs.List.Sorted.{IsPartitionedBy, IsPartitionPoint}
 use Rattle.std.proofs.lemmas.Bool.{and_from, and_parts, eq-eqb, eqb-true, lt-ltb, ltb-false, ltb-true}
@@ -20,8 +21,10 @@ partitioned prefixes prefix first = λ i j d le within above.
     lt-ltb prefix (get_or prefixes i d) (omega (arith, ordered, low, lower))
 
 -- a prefix after those above it
-pub greatest_first-insert : (prefixes : List ℕ) (place prefix : ℕ) → IsGreatestFirst prefixes → prefix ≤ address_bits → place ≤ length prefixes
-    → IsPartitionPoint (λ other. nat_lt prefix other ≡ true) (λ other. nat_lt prefix other ≡ false) prefixes place → IsGreatestFirst (insert prefixes place prefix)
+pub greatest_first-insert : (prefixes : List ℕ) (place prefix : ℕ) → IsGreatestFirst prefixes → prefix ≤ address_bits
+    → place ≤ length prefixes
+    → IsPartitionPoint (λ other. nat_lt prefix other ≡ true) (λ other. nat_lt prefix other ≡ false) prefixes place
+    → IsGreatestFirst (insert prefixes place prefix)
 greatest_first-insert prefixes place prefix first low within point = record {
   in_order = IsNonDecreasingBy-insert (λ other. address_bits - other) prefixes place prefix first.in_order within
       (λ k d before. let above = ltb-true prefix (get_or prefixes k d) (point.0 k d (omega arith) before) in omega (arith, above))
@@ -36,24 +39,32 @@ leading_bits-below : (address prefix : ℕ) → address < 2 ^ 32 → leading_bit
 leading_bits-below address prefix below = omega (arith, shr_le address (32 - prefix), below)
 
 -- one key says one prefix and the same leading bits
-same_key : (address other prefix longer : ℕ) → address < 2 ^ 32 → other < 2 ^ 32 → network_key address prefix ≡ network_key other longer
+same_key : (address other prefix longer : ℕ) → address < 2 ^ 32 → other < 2 ^ 32
+    → network_key address prefix ≡ network_key other longer
     → (prefix ≡ longer) × (leading_bits address prefix ≡ leading_bits other longer)
 same_key address other prefix longer below other_below same =
     same_from_place prefix (leading_bits address prefix) longer (leading_bits other longer) (2 ^ 32)
     (leading_bits-below address prefix below) (leading_bits-below other longer other_below) same
 
 -- a client with the key of a source at a prefix has that prefix, and its network holds the source
-pub key-holds : (client : Client) (source prefix : ℕ) → HasNetwork client → source < 2 ^ 32 → nat_eq (network_key source prefix) (client_key client) ≡ true
+pub key-holds : (client : Client) (source prefix : ℕ) → HasNetwork client → source < 2 ^ 32
+    → nat_eq (network_key source prefix) (client_key client) ≡ true
     → (client.prefix ≡ prefix) × (holds client source ≡ true)
 key-holds client source prefix network below found =
-    let same = same_key source client.address prefix client.prefix below network.below (eqb-true _ _ found) in
-    (sym same.0, eq-eqb (leading_bits source client.prefix) (leading_bits client.address client.prefix) (ap (leading_bits source) (sym same.0) ∙ same.1))
+    let same = same_key source client.address prefix client.prefix below network.below (eqb-true _ _ found) in (
+      sym same.0,
+      eq-eqb (leading_bits source client.prefix) (leading_bits client.address client.prefix)
+          (ap (leading_bits source) (sym same.0) ∙ same.1),
+    )
 
 -- and the other way round
-pub holds-key : (client : Client) (source prefix : ℕ) → client.prefix ≡ prefix → holds client source ≡ true → nat_eq (network_key source prefix) (client_key client) ≡ true
+pub holds-key : (client : Client) (source prefix : ℕ) → client.prefix ≡ prefix → holds client source ≡ true
+    → nat_eq (network_key source prefix) (client_key client) ≡ true
 holds-key client source prefix same held =
     eq-eqb (network_key source prefix) (client_key client)
-    (ap (network_key source) (sym same) ∙ ap (λ bits. client.prefix * 2 ^ 32 + bits) (eqb-true (leading_bits source client.prefix) (leading_bits client.address client.prefix) held))
+    (ap (network_key source) (sym same)
+    ∙ ap (λ bits. client.prefix * 2 ^ 32 + bits)
+    (eqb-true (leading_bits source client.prefix) (leading_bits client.address client.prefix) held))
 
 -- ---- networks that are the same
 
@@ -63,9 +74,11 @@ same_bools false true to from = from refl
 same_bools false false to from = refl
 
 -- an address that fits is its leading bits
-from_leading : (address prefix : ℕ) → IsTrue (network_fits address prefix) → leading_bits address prefix * 2 ^ (32 - prefix) ≡ address
+from_leading : (address prefix : ℕ) → IsTrue (network_fits address prefix)
+    → leading_bits address prefix * 2 ^ (32 - prefix) ≡ address
 from_leading address prefix fits =
-    let rest : address % 2 ^ (32 - prefix) ≡ 0 = eqb-true _ _ (and_parts (nat_le prefix 32) (address % 2 ^ (32 - prefix) == 0) fits).1 in
+    let rest : address % 2 ^ (32 - prefix) ≡ 0 =
+    eqb-true _ _ (and_parts (nat_le prefix 32) (address % 2 ^ (32 - prefix) == 0) fits).1 in
     omega (arith, shr_split address (32 - prefix), rest)
 
 -- the key of a network is that of a client just where both have the address and the prefix
@@ -81,4 +94,5 @@ key-is client address prefix network below fits = same_bools _ _
     (λ is.
     let parts = and_parts (client.address == address) (client.prefix == prefix) is in
     eq-eqb (network_key address prefix) (client_key client)
-    (ap (λ a. network_key a prefix) (sym (eqb-true client.address address parts.0)) ∙ ap (network_key client.address) (sym (eqb-true client.prefix prefix parts.1))))
+    (ap (λ a. network_key a prefix) (sym (eqb-true client.address address parts.0))
+    ∙ ap (network_key client.address) (sym (eqb-true client.prefix prefix parts.1))))

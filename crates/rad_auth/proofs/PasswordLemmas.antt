@@ -1,5 +1,6 @@
 -- Hidden texts, and that they are opened again.
-use Rattle.std.proofs.Common.{◌≡◌, ℕ, zero, suc, ◌+◌, ◌-◌, ◌*◌, ◌/◌, ◌<◌, ◌≤◌, ◌==◌, List, [], ◌∷◌, ◌++◌, length, get_or, take, drop, replicate, refl, sym, ap, subst, ◌∙◌, arith}
+use Rattle.std.proofs.Common.{◌≡◌, ℕ, zero, suc, ◌+◌, ◌-◌, ◌*◌, ◌/◌, ◌<◌, ◌≤◌, ◌==◌, List, [], ◌∷◌, ◌++◌, length, get_or, take}
+use Rattle.std.proofs.Common.{drop, replicate, refl, sym, ap, subst, ◌∙◌, arith}
 use Rattle.std.specs.Prelude.{IsTrue}
 use Rattle.std.specs.List.{concat}
 use Rattle.std.specs.Int.Bits.{bit_xor, xor_assoc, xor_self, xor_zero_r}
@@ -7,7 +8,8 @@ use lib.Pointwise.{pointwise}
 use Rattle.std.proofs.lemmas.Bool.Decides.{nat_tests, same_from_decides, Decides-like}
 use Rattle.std.proofs.lemmas.Simd.{length-zip2}
 use Rattle.std.proofs.lemmas.Slice.Eq.{bytes_eq-Decides}
-use Rattle.std.proofs.lemmas.List.{append_assoc, drop-drop, drop_at, length-append, length-drop, length-replicate, length-take-le, take-append-drop, take-replicate, take_at}
+use Rattle.std.proofs.lemmas.List.{append_assoc, drop-drop, drop_at, length-append, length-drop, length-replicate, length-take-le}
+use Rattle.std.proofs.lemmas.List.{take-append-drop, take-replicate, take_at}
 use Rattle.std.proofs.Math.Seq.{drop-append-add, take-append-add}
 use Rattle.std.proofs.lemmas.Slice.{take-put_mid, drop-put_mid}
 use borrow.Rule.Slice.PartMut.{put_mid}
@@ -45,7 +47,8 @@ block_twice : (text m : List ℕ) → 16 ≤ length text → xor (xor (take 16 t
 block_twice text m h = xor_twice (take 16 text) (md5 m) (omega (arith, length-take-le 16 text h, length-md5 m))
 
 -- as many octets are opened as a value has
-length-opened : (secret before : List ℕ) (n : ℕ) (value : List ℕ) → n * 16 ≤ length value → length (opened secret before n value) ≡ n * 16
+length-opened : (secret before : List ℕ) (n : ℕ) (value : List ℕ) → n * 16 ≤ length value
+    → length (opened secret before n value) ≡ n * 16
 unfolding opened
 length-opened secret before zero value h = refl
 length-opened secret before (suc n) value h =
@@ -55,7 +58,8 @@ length-opened secret before (suc n) value h =
     omega (arith, total, rest, block_length value (secret ++ before) (omega arith))
 
 -- what is opened is hidden as the value
-hides-opened : (secret before : List ℕ) (n : ℕ) (value : List ℕ) → length value ≡ n * 16 → hidden secret before n (opened secret before n value) ≡ value
+hides-opened : (secret before : List ℕ) (n : ℕ) (value : List ℕ) → length value ≡ n * 16
+    → hidden secret before n (opened secret before n value) ≡ value
 unfolding hidden opened
 hides-opened secret before zero [] e = refl
 hides-opened secret before zero (x ∷ xs) e = absurd (omega (arith, e))
@@ -68,11 +72,13 @@ hides-opened secret before (suc n) value e =
     ap (λ (b : List ℕ). xor b pad ++ hidden secret (xor b pad) n (drop 16 (block ++ others))) (take_at block others 16 long)
     ∙ ap (λ (t : List ℕ). xor block pad ++ hidden secret (xor block pad) n t) (drop_at block others 16 long)
     ∙ ap (λ (b : List ℕ). b ++ hidden secret b n others) twice
-    ∙ ap (λ (t : List ℕ). take 16 value ++ t) (hides-opened secret (take 16 value) n (drop 16 value) (omega (arith, e, length-drop 16 value)))
+    ∙ ap (λ (t : List ℕ). take 16 value ++ t)
+    (hides-opened secret (take 16 value) n (drop 16 value) (omega (arith, e, length-drop 16 value)))
     ∙ take-append-drop 16 value
 
 -- a text is what its value is opened as
-opened-hidden : (secret before : List ℕ) (n : ℕ) (text : List ℕ) → length text ≡ n * 16 → opened secret before n (hidden secret before n text) ≡ text
+opened-hidden : (secret before : List ℕ) (n : ℕ) (text : List ℕ) → length text ≡ n * 16
+    → opened secret before n (hidden secret before n text) ≡ text
 unfolding hidden opened
 opened-hidden secret before zero [] e = refl
 opened-hidden secret before zero (x ∷ xs) e = absurd (omega (arith, e))
@@ -89,12 +95,14 @@ opened-hidden secret before (suc n) text e =
     ∙ take-append-drop 16 text
 
 -- what is opened of a whole value
-pub reveals : (secret before : List ℕ) (n : ℕ) (value : List ℕ) → length value ≡ n * 16 → IsRevealed secret before value (opened secret before n value)
+pub reveals : (secret before : List ℕ) (n : ℕ) (value : List ℕ) → length value ≡ n * 16
+    → IsRevealed secret before value (opened secret before n value)
 unfolding hidden opened
 reveals secret before n value e = record {
   same_length = long;
   hides = subst (λ k. hidden secret before k text ≡ value) (sym (blocks text long)) (hides-opened secret before n value e);
-  only = λ other same hides. sym (opened-hidden secret before n other (same ∙ e)) ∙ ap (opened secret before n) (subst (λ k. hidden secret before k other ≡ value) (blocks other same) hides);
+  only = λ other same hides. sym (opened-hidden secret before n other (same ∙ e))
+      ∙ ap (opened secret before n) (subst (λ k. hidden secret before k other ≡ value) (blocks other same) hides);
 }
   where
     text : List ℕ
@@ -110,7 +118,8 @@ reveals secret before n value e = record {
 pub hidden_more : (secret before : List ℕ) (n i k : ℕ) (text pad ys whole : List ℕ) → k ≡ 16 → i < n → n * 16 ≤ length text
     → ys ≡ xor (take k (drop (i * 16) text)) pad → pad ≡ md5 (secret ++ before)
     → take (i * 16) text ++ hidden secret before (n - i) (drop (i * 16) text) ≡ whole
-    → take ((i + 1) * 16) (put_mid (i * 16) k text ys) ++ hidden secret ys (n - (i + 1)) (drop ((i + 1) * 16) (put_mid (i * 16) k text ys)) ≡ whole
+    → take ((i + 1) * 16) (put_mid (i * 16) k text ys)
+    ++ hidden secret ys (n - (i + 1)) (drop ((i + 1) * 16) (put_mid (i * 16) k text ys)) ≡ whole
 unfolding hidden
 hidden_more secret before n i k text pad ys whole size lt room made padded so_far =
     let rest : List ℕ = drop (i * 16) text in
@@ -123,49 +132,60 @@ hidden_more secret before n i k text pad ys whole size lt room made padded so_fa
     ap (λ m. hidden secret before m rest) left
     ∙ ap (λ (r : List ℕ). h ++ hidden secret h (n - (i + 1)) r) next
     ∙ ap (λ (b : List ℕ). b ++ hidden secret b (n - (i + 1)) (drop ((i + 1) * 16) text)) (sym ys_is) in
-    ap (λ (t : List ℕ). t ++ hidden secret ys (n - (i + 1)) (drop ((i + 1) * 16) (put_mid (i * 16) k text ys))) (take-put_mid (i * 16) k text ys ((i + 1) * 16) (omega (arith, long)) (omega arith))
-    ∙ ap (λ (t : List ℕ). (take (i * 16) text ++ ys) ++ hidden secret ys (n - (i + 1)) t) (drop-put_mid (i * 16) k text ys ((i + 1) * 16) (omega (arith, size)) (omega arith) (long ∙ sym size))
+    ap (λ (t : List ℕ). t ++ hidden secret ys (n - (i + 1)) (drop ((i + 1) * 16) (put_mid (i * 16) k text ys)))
+    (take-put_mid (i * 16) k text ys ((i + 1) * 16) (omega (arith, long)) (omega arith))
+    ∙ ap (λ (t : List ℕ). (take (i * 16) text ++ ys) ++ hidden secret ys (n - (i + 1)) t)
+    (drop-put_mid (i * 16) k text ys ((i + 1) * 16) (omega (arith, size)) (omega arith) (long ∙ sym size))
     ∙ append_assoc (take (i * 16) text) ys (hidden secret ys (n - (i + 1)) (drop ((i + 1) * 16) text))
     ∙ ap (λ (t : List ℕ). take (i * 16) text ++ t) (sym turn)
     ∙ so_far
 
 -- one block more is opened
-pub opened_more : (secret before : List ℕ) (n i k : ℕ) (value text pad ys whole : List ℕ) → k ≡ 16 → i < n → n * 16 ≤ length value → n * 16 ≤ length text
+pub opened_more : (secret before : List ℕ) (n i k : ℕ) (value text pad ys whole : List ℕ) → k ≡ 16 → i < n → n * 16 ≤ length value
+    → n * 16 ≤ length text
     → ys ≡ xor (take k (drop (i * 16) value)) pad → pad ≡ md5 (secret ++ before)
     → take (i * 16) text ++ opened secret before (n - i) (drop (i * 16) value) ≡ whole
-    → take ((i + 1) * 16) (put_mid (i * 16) k text ys) ++ opened secret (take 16 (drop (i * 16) value)) (n - (i + 1)) (drop ((i + 1) * 16) value) ≡ whole
+    → take ((i + 1) * 16) (put_mid (i * 16) k text ys)
+    ++ opened secret (take 16 (drop (i * 16) value)) (n - (i + 1)) (drop ((i + 1) * 16) value) ≡ whole
 unfolding opened
 opened_more secret before n i k value text pad ys whole size lt within room made padded so_far =
     let rest : List ℕ = drop (i * 16) value in
     let t : List ℕ = xor (take 16 rest) (md5 (secret ++ before)) in
     let ys_is : ys ≡ t = made ∙ ap (λ m. xor (take m rest) pad) size ∙ ap (xor (take 16 rest)) padded in
-    let long : length ys ≡ 16 = ap length ys_is ∙ block_length rest (secret ++ before) (omega (arith, length-drop (i * 16) value)) in
+    let long : length ys ≡ 16 =
+    ap length ys_is ∙ block_length rest (secret ++ before) (omega (arith, length-drop (i * 16) value)) in
     let left : n - i ≡ suc (n - (i + 1)) = omega arith in
     let next : drop 16 rest ≡ drop ((i + 1) * 16) value = drop-drop 16 (i * 16) value ∙ ap (λ m. drop m value) (omega arith) in
     let turn : opened secret before (n - i) rest ≡ ys ++ opened secret (take 16 rest) (n - (i + 1)) (drop ((i + 1) * 16) value) =
     ap (λ m. opened secret before m rest) left
     ∙ ap (λ (r : List ℕ). t ++ opened secret (take 16 rest) (n - (i + 1)) r) next
     ∙ ap (λ (b : List ℕ). b ++ opened secret (take 16 rest) (n - (i + 1)) (drop ((i + 1) * 16) value)) (sym ys_is) in
-    ap (λ (o : List ℕ). o ++ opened secret (take 16 rest) (n - (i + 1)) (drop ((i + 1) * 16) value)) (take-put_mid (i * 16) k text ys ((i + 1) * 16) (omega (arith, long)) (omega arith))
+    ap (λ (o : List ℕ). o ++ opened secret (take 16 rest) (n - (i + 1)) (drop ((i + 1) * 16) value))
+    (take-put_mid (i * 16) k text ys ((i + 1) * 16) (omega (arith, long)) (omega arith))
     ∙ append_assoc (take (i * 16) text) ys (opened secret (take 16 rest) (n - (i + 1)) (drop ((i + 1) * 16) value))
     ∙ ap (λ (o : List ℕ). take (i * 16) text ++ o) (sym turn)
     ∙ so_far
 
 -- what precedes a value's first block, and the next one
-pub before_first : (request_authenticator value : List ℕ) → length request_authenticator ≡ 16 → block_before request_authenticator value 0 ≡ request_authenticator
+pub before_first : (request_authenticator value : List ℕ) → length request_authenticator ≡ 16
+    → block_before request_authenticator value 0 ≡ request_authenticator
 before_first request_authenticator value e = take_at request_authenticator value 16 e
 
-pub before_next : (request_authenticator value : List ℕ) (j : ℕ) → length request_authenticator ≡ 16 → block_before request_authenticator value (j + 1) ≡ take 16 (drop (j * 16) value)
+pub before_next : (request_authenticator value : List ℕ) (j : ℕ) → length request_authenticator ≡ 16
+    → block_before request_authenticator value (j + 1) ≡ take 16 (drop (j * 16) value)
 before_next request_authenticator value j e =
     let place : (j + 1) * 16 ≡ length request_authenticator + j * 16 = omega (arith, e) in
-    ap (λ k. take 16 (drop k (request_authenticator ++ value))) place ∙ ap (take 16) (drop-append-add request_authenticator value (j * 16))
+    ap (λ k. take 16 (drop k (request_authenticator ++ value))) place
+    ∙ ap (take 16) (drop-append-add request_authenticator value (j * 16))
 
 -- a password with zeros after it
 pub length-padded : (len : ℕ) (password : List ℕ) → length password ≤ len → length (padded_password len password) ≡ len
 length-padded len password le =
-    length-append password (replicate (len - length password) 0) ∙ omega (arith, le, length-replicate {A = ℕ} (len - length password) 0)
+    length-append password (replicate (len - length password) 0)
+    ∙ omega (arith, le, length-replicate {A = ℕ} (len - length password) 0)
 
-pub take-padded : (len most : ℕ) (password : List ℕ) → length password ≤ len → len ≤ most → take len (padded_password most password) ≡ padded_password len password
+pub take-padded : (len most : ℕ) (password : List ℕ) → length password ≤ len → len ≤ most
+    → take len (padded_password most password) ≡ padded_password len password
 take-padded len most password le within =
     let zeros : List ℕ = replicate (most - length password) 0 in
     let n : ℕ = len - length password in
@@ -174,11 +194,13 @@ take-padded len most password le within =
     ∙ ap (λ (z : List ℕ). password ++ z) (take-replicate n (most - length password) 0 (omega (arith, le, within)))
 
 -- a text is the one that is hidden as a value exactly where it is hidden as the value
-pub hides_same : (secret request_authenticator value text other : List ℕ) → IsRevealed secret request_authenticator value text → length other ≡ length value
+pub hides_same : (secret request_authenticator value text other : List ℕ) → IsRevealed secret request_authenticator value text
+    → length other ≡ length value
     → pointwise ◌==◌ other text ≡ pointwise ◌==◌ (hidden_text secret request_authenticator other) value
 hides_same secret request_authenticator value text other revealed long =
     same_from_decides (pointwise ◌==◌ other text) (pointwise ◌==◌ hidden_other value)
-    (Decides-like (pointwise ◌==◌ other text) (λ e. ap (hidden_text secret request_authenticator) e ∙ revealed.hides) (revealed.only other long) (bytes_eq-Decides other text))
+    (Decides-like (pointwise ◌==◌ other text) (λ e. ap (hidden_text secret request_authenticator) e ∙ revealed.hides)
+    (revealed.only other long) (bytes_eq-Decides other text))
     (bytes_eq-Decides hidden_other value)
   where
     hidden_other : List ℕ
@@ -193,7 +215,8 @@ fits_room value h = grind (arith, nat_tests, h)
 
 -- the digest that hides a block past the first
 pub pad_next : (secret request_authenticator value text digest : List ℕ) (j : ℕ) → length request_authenticator ≡ 16
-    → digest ≡ md5 text → text ≡ secret ++ take 16 (drop (j * 16) value) → digest ≡ md5 (secret ++ block_before request_authenticator value (j + 1))
+    → digest ≡ md5 text → text ≡ secret ++ take 16 (drop (j * 16) value)
+    → digest ≡ md5 (secret ++ block_before request_authenticator value (j + 1))
 pad_next secret request_authenticator value text digest j long made is =
     made ∙ ap md5 is ∙ ap (λ (b : List ℕ). md5 (secret ++ b)) (sym (before_next request_authenticator value j long))
 

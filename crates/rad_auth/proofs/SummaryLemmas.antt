@@ -1,5 +1,6 @@
 -- What is found in one more attribute.
-use Rattle.std.proofs.Common.{◌≡◌, ℕ, Bool, true, false, cond, eqb, nat_eq, nat_lt, ◌+◌, ◌==◌, ◌&&◌, ◌||◌, List, [], ◌∷◌, length, Option, Some, None, refl, ap, sym, subst, ◌∙◌, arith}
+use Rattle.std.proofs.Common.{◌≡◌, ℕ, Bool, true, false, cond, eqb, nat_eq, nat_lt, ◌+◌, ◌==◌, ◌&&◌, ◌||◌, List, [], ◌∷◌, length}
+use Rattle.std.proofs.Common.{Option, Some, None, refl, ap, sym, subst, ◌∙◌, arith}
 use Rattle.std.specs.Prelude.{IfSome, option_map, find}
 use Rattle.std.proofs.lemmas.Bool.{eqb-true, eq-eqb, lt-ltb}
 use Rattle.std.specs.Cmp.Lexicographic.{same_text}
@@ -11,7 +12,8 @@ use Rattle.rad_auth.proofs.AttributeLemmas.{count-cons}
 use Rattle.rad_auth.specs.Summaries.{octets_after_hmac, first_after}
 use Rattle.rad_auth.specs.Authenticators.{can_hold_hmac}
 
-pub any-step : {A : Type 0} (p : A → Bool) (so_far : Bool) (x : A) (xs : List A) → ((so_far || p x) || list_any p xs) ≡ (so_far || list_any p (x ∷ xs))
+pub any-step : {A : Type 0} (p : A → Bool) (so_far : Bool) (x : A) (xs : List A)
+    → ((so_far || p x) || list_any p xs) ≡ (so_far || list_any p (x ∷ xs))
 any-step p true x xs = refl
 any-step p false x xs = refl
 
@@ -19,12 +21,14 @@ pub octets_after_hmac-step : (so_far : Option ℕ) (a : Attribute) (list : List 
     → option_or (first_after a (size list) so_far) (octets_after_hmac list) ≡ option_or so_far (octets_after_hmac (a ∷ list))
 octets_after_hmac-step (Some n) a list = refl
 octets_after_hmac-step None a list =
-    elim (can_hold_hmac a) as (λ b. option_or (cond b (Some (size list)) None) (octets_after_hmac list) ≡ cond b (Some (size list)) (octets_after_hmac list)) [ true ↦ refl | false ↦ refl ]
+    elim (can_hold_hmac a) as (λ b. option_or (cond b (Some (size list)) None) (octets_after_hmac list)
+    ≡ cond b (Some (size list)) (octets_after_hmac list)) [ true ↦ refl | false ↦ refl ]
 
 -- ---- the HMAC that occurs once
 
 -- the first Message-Authenticator, where it has 16 octets, holds the HMAC
-first_holds : (list : List Attribute) (value : List ℕ) → first_value 80 list ≡ Some value → length value ≡ 16 → (n : ℕ) × (octets_after_hmac list ≡ Some n)
+first_holds : (list : List Attribute) (value : List ℕ) → first_value 80 list ≡ Some value → length value ≡ 16
+    → (n : ℕ) × (octets_after_hmac list ≡ Some n)
 first_holds [] value e len = cc
 first_holds (a ∷ list) value e len = at (eqb a.kind 80) e (first_holds list value)
   where
@@ -49,7 +53,8 @@ other_length xs ys n other long = at (pointwise nat_eq xs ys) refl
     at true e = sym (ap (λ (v : List ℕ). length v == n) (same_text xs ys (sym e)) ∙ (ap (λ m. m == n) long ∙ same_number n)) ∙ other
 
 -- a Value that is compared with the HMAC, which is the right one if the Value holds it
-pub right_hmac : (list : List Attribute) (value mac right : List ℕ) → first_value 80 list ≡ Some value → IfSome (octets_after_hmac list) (λ n. mac ≡ right) → length mac ≡ 16
+pub right_hmac : (list : List Attribute) (value mac right : List ℕ) → first_value 80 list ≡ Some value
+    → IfSome (octets_after_hmac list) (λ n. mac ≡ right) → length mac ≡ 16
     → pointwise nat_eq value mac ≡ ((length value == 16) && pointwise nat_eq value right)
 right_hmac list value mac right first same long = at (length value == 16) refl
   where

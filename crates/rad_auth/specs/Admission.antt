@@ -1,6 +1,7 @@
 -- Which datagrams are admitted (RFC 2865, section 3; RFC 2866, section 3; RFC 3579, section 3; RFC 5997, section 3): the
 -- checks in the order of the discards' numbers, each made only where none before it failed.
-use Rattle.std.specs.Prelude.{◌≡◌, ℕ, ◌==◌, ◌&&◌, ◌||◌, nat_lt, Bool, false, not, IsTrue, List, Option, Some, None, Result, Ok, Err, ok_or, option_map, ◌<◌, ◌≤◌, length, IfOk, IfSome}
+use Rattle.std.specs.Prelude.{◌≡◌, ℕ, ◌==◌, ◌&&◌, ◌||◌, nat_lt, Bool, false, not, IsTrue, List, Option, Some, None, Result, Ok, Err}
+use Rattle.std.specs.Prelude.{ok_or, option_map, ◌<◌, ◌≤◌, length, IfOk, IfSome}
 use lib.Pointwise.{pointwise}
 use Rattle.rad_packet.specs.declared.packet.ReadFault.{ReadFault}
 use Rattle.rad_packet.specs.Attributes.{count, first_value, has, has_len, integer_size, of_kind, size}
@@ -13,7 +14,8 @@ use Rattle.rad_auth.specs.declared.arrival.Door.{Door}
 use Rattle.rad_auth.specs.declared.arrival.Door.TheVariants.{Auth, Acct}
 use Rattle.rad_auth.specs.declared.arrival.Request.{Request}
 use Rattle.rad_auth.specs.declared.discard.Discard.{Discard}
-use Rattle.rad_auth.specs.declared.discard.Discard.TheVariants.{UnknownClient, WrongCode, BadAuthenticator, BadMessageAuthenticator, NoMessageAuthenticator, NoStatusType, ProxyStateTooLong}
+use Rattle.rad_auth.specs.declared.discard.Discard.TheVariants.{UnknownClient, WrongCode, BadAuthenticator, BadMessageAuthenticator}
+use Rattle.rad_auth.specs.declared.discard.Discard.TheVariants.{NoMessageAuthenticator, NoStatusType, ProxyStateTooLong}
 use Rattle.rad_auth.specs.Clients.{Client, client_place, client_at}
 use Rattle.rad_auth.specs.Datagrams.{Datagram, datagram_of}
 use Rattle.rad_auth.specs.Discards.{discard_of_fault}
@@ -96,7 +98,8 @@ request_of datagram place p = record {
   proxy_states = proxy_states_size p;
 }
 
--- the request that a datagram holds, whose content is still to be checked: from a client, and of a Code that the server's port accepts
+-- the request that a datagram holds, whose content is still to be checked: from a client, and of a Code that the server's port
+-- accepts
 unfoldable pub request_in : List Client → Datagram → Result Request Discard
 request_in clients datagram = do
   place ← ok_or (client_place clients datagram.source) UnknownClient
@@ -152,8 +155,8 @@ abbrev pub KnowsProxyStates : Request → Type 0
 KnowsProxyStates request =
     (request.proxy_states ≡ proxy_states_size request.packet) × (proxy_states_size request.packet ≤ proxy_states_max)
 
--- what those who answer a request use of it: its client is one of the list, that of its source, the server's port accepts its Code, an
--- Accounting-Request says its status, and it knows its Proxy-State attributes
+-- what those who answer a request use of it: its client is one of the list, that of its source, the server's port accepts its Code,
+-- an Accounting-Request says its status, and it knows its Proxy-State attributes
 pub record IsAnswerable (clients : List Client) (request : Request) : Type 0 where
   pub client : request.client < length clients
   pub place : client_place clients request.source ≡ Some request.client

@@ -30,12 +30,14 @@ with_message_authenticator value (a ∷ list) =
 -- The Message-Authenticator of a packet (RFC 3579, section 3.2): under the secret, over the packet with zeros in its
 -- Message-Authenticator. A reply has the Request Authenticator in its Authenticator field then (`signed_body`).
 abbrev pub message_authenticator : Packet → List ℕ → List ℕ
-message_authenticator p secret = hmac secret (packet_octets (record p { attributes = with_message_authenticator sixteen_zeros p.attributes }))
+message_authenticator p secret =
+    hmac secret (packet_octets (record p { attributes = with_message_authenticator sixteen_zeros p.attributes }))
 
 -- the body with its Message-Authenticator, if an attribute can hold one, over the packet with this Identifier and Authenticator
 abbrev pub signed_body : Body → ℕ → List ℕ → List ℕ → Body
 signed_body body identifier authenticator secret = record body {
-  attributes = with_message_authenticator (message_authenticator (packet_of_body body identifier authenticator) secret) body.attributes;
+  attributes = with_message_authenticator (message_authenticator (packet_of_body body identifier authenticator) secret)
+      body.attributes;
 }
 
 -- The Response Authenticator (RFC 2865, section 3): over the reply with the Request Authenticator as its Authenticator,

@@ -1,7 +1,8 @@
 -- The clients: the network access servers and proxies that share a secret with the server (RFC 2865, sections 2 and 3).
 -- An address is a number below 2 ^ 32, most significant octet first. A prefix says how many leading bits of it a network's
 -- addresses have in common (RFC 4632, section 3.1). A secret is a list of octets, which are numbers below 256.
-use Rattle.std.specs.Prelude.{ℕ, ◌-◌, ◌/◌, ◌%◌, ◌^◌, ◌≤◌, ◌==◌, ◌&&◌, ◌||◌, nat_le, not, Bool, false, List, [], ◌∷◌, ◌++◌, length, position, slice_index_or, Option}
+use Rattle.std.specs.Prelude.{ℕ, ◌-◌, ◌/◌, ◌%◌, ◌^◌, ◌≤◌, ◌==◌, ◌&&◌, ◌||◌, nat_le, not, Bool, false, List, [], ◌∷◌, ◌++◌, length}
+use Rattle.std.specs.Prelude.{position, slice_index_or, Option}
 use Rattle.std.specs.List.{list_all, list_any}
 use Rattle.rad_auth.specs.declared.network.Network.{Network}
 

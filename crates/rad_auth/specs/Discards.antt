@@ -3,7 +3,9 @@ use Rattle.std.specs.Prelude.{◌≡◌, ℕ, ◌+◌, ◌↔◌, List, codes, s
 use Rattle.rad_packet.specs.declared.packet.ReadFault.{ReadFault}
 use Rattle.rad_packet.specs.declared.packet.ReadFault.TheVariants as fault
 use Rattle.rad_auth.specs.declared.discard.Discard.{Discard}
-use Rattle.rad_auth.specs.declared.discard.Discard.TheVariants.{UnknownClient, Short, BadLength, Truncated, BadAttributes, WrongCode, BadAuthenticator, BadMessageAuthenticator, NoMessageAuthenticator, NoStatusType, ProxyStateTooLong}
+use Rattle.rad_auth.specs.declared.discard.Discard.TheVariants.{UnknownClient, Short, BadLength, Truncated, BadAttributes}
+use Rattle.rad_auth.specs.declared.discard.Discard.TheVariants.{WrongCode, BadAuthenticator, BadMessageAuthenticator}
+use Rattle.rad_auth.specs.declared.discard.Discard.TheVariants.{NoMessageAuthenticator, NoStatusType, ProxyStateTooLong}
 
 abbrev pub discard_number : Discard → ℕ
 discard_number UnknownClient = 1
@@ -33,7 +35,8 @@ discard_name ProxyStateTooLong = codes "ProxyStateTooLong"
 
 -- every discard stands in the list, at the place before its number, and nothing else does
 abbrev pub AreAllDiscards : List Discard → Type 0
-AreAllDiscards discards = (discard : Discard) (place : ℕ) → (slice_get discards place ≡ Some discard) ↔ (place + 1 ≡ discard_number discard)
+AreAllDiscards discards =
+    (discard : Discard) (place : ℕ) → (slice_get discards place ≡ Some discard) ↔ (place + 1 ≡ discard_number discard)
 
 -- a datagram that holds no packet
 abbrev pub discard_of_fault : ReadFault → Discard

@@ -25,7 +25,8 @@ Reveals digests value text = (secret request_authenticator : List ℕ) → lengt
 -- wherever they do, this is whether a password is right
 abbrev pub Judges : List (List ℕ) → List ℕ → List ℕ → Bool → Type 0
 Judges digests value password is_right = (secret request_authenticator : List ℕ) → length request_authenticator ≡ 16
-    → AreBlockDigests secret request_authenticator value digests → is_right ≡ password_right secret request_authenticator value password
+    → AreBlockDigests secret request_authenticator value digests
+    → is_right ≡ password_right secret request_authenticator value password
 
 -- the same of a value of one block, and the digest that hides it
 abbrev pub JudgesBlock : List ℕ → List ℕ → List ℕ → Bool → Type 0

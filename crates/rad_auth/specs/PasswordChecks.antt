@@ -1,5 +1,6 @@
 -- Passwords that are compared with what was sent, one in each lane. A lane without one is wrong.
-use Rattle.std.specs.Prelude.{◌≡◌, ℕ, ◌==◌, ◌&&◌, nat_le, Bool, false, List, [], ◌++◌, length, slice_index_or, take, Option, Some, None, option_copied, unwrap_or, IfSome, IsTrue}
+use Rattle.std.specs.Prelude.{◌≡◌, ℕ, ◌==◌, ◌&&◌, nat_le, Bool, false, List, [], ◌++◌, length, slice_index_or, take, Option, Some}
+use Rattle.std.specs.Prelude.{None, option_copied, unwrap_or, IfSome, IsTrue}
 use Rattle.md5.specs.Md5.{md5}
 use Rattle.rad_md5.specs.Lanes.{EachLane}
 use Rattle.rad_packet.specs.Attributes.{value_max}

@@ -1,6 +1,7 @@
 -- Hidden passwords (RFC 2865, section 5.2). Octets are numbers below 256, and passwords, secrets and Authenticators are
 -- lists of them. A value is the String of a User-Password: the hidden password. It is made in blocks of 16 octets.
-use Rattle.std.specs.Prelude.{◌≡◌, ℕ, zero, suc, ◌+◌, ◌-◌, ◌*◌, ◌/◌, ◌%◌, ◌==◌, ◌&&◌, nat_le, max, Bool, List, [], ◌∷◌, ◌++◌, length, take, drop, replicate}
+use Rattle.std.specs.Prelude.{◌≡◌, ℕ, zero, suc, ◌+◌, ◌-◌, ◌*◌, ◌/◌, ◌%◌, ◌==◌, ◌&&◌, nat_le, max, Bool, List, [], ◌∷◌, ◌++◌}
+use Rattle.std.specs.Prelude.{length, take, drop, replicate}
 use Rattle.std.specs.List.{concat}
 use lib.Pointwise.{pointwise}
 use Rattle.md5.specs.Md5.{md5}

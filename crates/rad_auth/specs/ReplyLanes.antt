@@ -1,5 +1,6 @@
 -- Eight lanes of replies on their way to their frames: the header, the HMAC and the digest of each.
-use Rattle.std.specs.Prelude.{◌≡◌, ℕ, ◌+◌, ◌==◌, not, Bool, false, List, [], ◌∷◌, ◌++◌, replicate, slice_index_or, Option, Some, None, IfSome, IsTrue}
+use Rattle.std.specs.Prelude.{◌≡◌, ℕ, ◌+◌, ◌==◌, not, Bool, false, List, [], ◌∷◌, ◌++◌, replicate, slice_index_or, Option, Some}
+use Rattle.std.specs.Prelude.{None, IfSome, IsTrue}
 use Rattle.std.specs.Int.{w16, to_be_bytes}
 use Rattle.md5.specs.Md5.{md5}
 use Rattle.rad_md5.specs.Lanes.{EachLane}
@@ -13,7 +14,8 @@ use Rattle.rad_auth.specs.Authenticators.{message_authenticator, response_authen
 
 -- the header of a reply, with the Request Authenticator in the Authenticator's place
 abbrev pub header_octets : Job → List ℕ
-header_octets job = job.body.now.code ∷ job.id ∷ to_be_bytes w16 (header_size + size job.body.now.attributes) ++ job.request_authenticator
+header_octets job =
+    job.body.now.code ∷ job.id ∷ to_be_bytes w16 (header_size + size job.body.now.attributes) ++ job.request_authenticator
 
 abbrev pub lane_header : Option Job → List ℕ
 lane_header None = replicate header_size 0
@@ -35,7 +37,8 @@ HasReplyHmac mac job = IsTrue (has_hmac (Some job)) → mac ≡ message_authenti
 -- the Response Authenticator of a reply
 abbrev pub HasReplyDigest : List ℕ → Job → Type 0
 HasReplyDigest digest job =
-    digest ≡ response_authenticator (signed_body job.body.now job.id job.request_authenticator job.secret.now) job.id job.request_authenticator job.secret.now
+    digest ≡ response_authenticator (signed_body job.body.now job.id job.request_authenticator job.secret.now) job.id
+    job.request_authenticator job.secret.now
 
 -- the same of a lane
 abbrev pub IsReplyHmac : Option Job → List ℕ → Type 0
@@ -57,9 +60,11 @@ IsKeyOf key job = (text : List ℕ) → mac_under key text ≡ hmac job.secret.n
 
 -- a text whose HMAC is the reply's Message-Authenticator, if it has one
 abbrev pub HasReplyHmacText : List ℕ → Job → Type 0
-HasReplyHmacText text job = IsTrue (has_hmac (Some job)) → hmac job.secret.now text ≡ message_authenticator (unsealed job) job.secret.now
+HasReplyHmacText text job =
+    IsTrue (has_hmac (Some job)) → hmac job.secret.now text ≡ message_authenticator (unsealed job) job.secret.now
 
 -- a text whose digest is the reply's Response Authenticator
 abbrev pub HasDigestedText : List ℕ → Job → Type 0
 HasDigestedText text job =
-    md5 text ≡ response_authenticator (signed_body job.body.now job.id job.request_authenticator job.secret.now) job.id job.request_authenticator job.secret.now
+    md5 text ≡ response_authenticator (signed_body job.body.now job.id job.request_authenticator job.secret.now) job.id
+    job.request_authenticator job.secret.now

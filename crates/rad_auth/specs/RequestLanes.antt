@@ -1,6 +1,7 @@
 -- Eight lanes of arrivals on their way through the checks: what was read of each, and the digest and the HMAC that were
 -- made for it.
-use Rattle.std.specs.Prelude.{◌≡◌, ℕ, ◌<◌, ◌==◌, ◌&&◌, Bool, false, is_some, List, [], ◌++◌, length, take, drop, slice_index_or, Option, Some, None, Result, Ok, Err, option_map, IfOk, IfSome, IsTrue}
+use Rattle.std.specs.Prelude.{◌≡◌, ℕ, ◌<◌, ◌==◌, ◌&&◌, Bool, false, is_some, List, [], ◌++◌, length, take, drop, slice_index_or}
+use Rattle.std.specs.Prelude.{Option, Some, None, Result, Ok, Err, option_map, IfOk, IfSome, IsTrue}
 use Rattle.md5.specs.Md5.{md5}
 use Rattle.rad_md5.specs.Lanes.{EachLane}
 use Rattle.rad_hmac.specs.Hmac.{hmac, mac_under}
@@ -52,7 +53,8 @@ IsHmacUnder secret mac candidate =
 -- the same under the client's secret, where the Message-Authenticator is looked at
 abbrev pub IsMessageAuthenticator : List Client → List ℕ → Candidate → Type 0
 IsMessageAuthenticator clients mac candidate =
-    IsTrue (is_message_authenticator_checked candidate.request.packet.code) → IsHmacUnder (secret_at clients candidate.request.client) mac candidate
+    IsTrue (is_message_authenticator_checked candidate.request.packet.code)
+    → IsHmacUnder (secret_at clients candidate.request.client) mac candidate
 
 -- the same of eight lanes
 abbrev pub AreAccountingAuthenticators : List Client → List (Option (Result Candidate Discard)) → List (List ℕ) → Type 0
@@ -73,7 +75,8 @@ is_accounting (Some (Ok candidate)) = candidate.request.packet.code == code_acco
 abbrev pub has_hmac_to_check : Option (Result Candidate Discard) → Bool
 has_hmac_to_check None = false
 has_hmac_to_check (Some (Err discard)) = false
-has_hmac_to_check (Some (Ok candidate)) = is_message_authenticator_checked candidate.request.packet.code && is_some candidate.summary.octets_after_hmac
+has_hmac_to_check (Some (Ok candidate)) =
+    is_message_authenticator_checked candidate.request.packet.code && is_some candidate.summary.octets_after_hmac
 
 -- a packet's octets with zeros in its Authenticator
 abbrev pub with_zero_authenticator : List ℕ → List ℕ

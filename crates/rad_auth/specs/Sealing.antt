@@ -3,7 +3,8 @@ use Rattle.std.specs.Prelude.{◌≡◌, ◌≢◌, ◌⊎◌, ℕ, ◌==◌, if
 use Rattle.std.specs.Simd.Lanes.{zip2}
 use Rattle.rad_packet.specs.Attributes.{Attribute, count}
 use Rattle.rad_packet.specs.Bodies.{Body, FitsPacket, packet_of_body}
-use Rattle.rad_packet.specs.Codes.{code_access_accept, code_access_challenge, code_access_reject, code_access_request, code_accounting_request, code_accounting_response, code_status_server}
+use Rattle.rad_packet.specs.Codes.{code_access_accept, code_access_challenge, code_access_reject, code_access_request}
+use Rattle.rad_packet.specs.Codes.{code_accounting_request, code_accounting_response, code_status_server}
 use Rattle.rad_packet.specs.Packets.{packet_octets}
 use Rattle.rad_packet.specs.Types.{type_message_authenticator}
 use Rattle.rad_auth.specs.declared.job.Job.{Job}
@@ -55,7 +56,8 @@ IsRequestCode code = (code ≡ code_access_request) ⊎ ((code ≡ code_accounti
 abbrev pub request_octets : Body → ℕ → List ℕ → List ℕ → List ℕ
 request_octets body identifier authenticator secret =
     if body.code == code_accounting_request
-    then packet_octets (packet_of_body body identifier (accounting_authenticator (packet_of_body body identifier authenticator) secret))
+    then packet_octets (packet_of_body body identifier
+    (accounting_authenticator (packet_of_body body identifier authenticator) secret))
     else packet_octets (packet_of_body (signed_body body identifier authenticator secret) identifier authenticator)
 
 -- each job can be done

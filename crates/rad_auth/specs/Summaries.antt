@@ -34,7 +34,8 @@ first_after a after None = if can_hold_hmac a then Some after else None
 
 -- the new summary says what the old one does and one more attribute, which so many octets follow
 pub record IsNextSummary (a : Attribute) (after : ℕ) (old new : Summary) : Type 0 where
-  pub message_authenticators : new.message_authenticators ≡ old.message_authenticators + (if is_of type_message_authenticator a then 1 else 0)
+  pub message_authenticators : new.message_authenticators
+      ≡ old.message_authenticators + (if is_of type_message_authenticator a then 1 else 0)
   pub octets_after_hmac : new.octets_after_hmac ≡ first_after a after old.octets_after_hmac
   pub has_eap_message : new.has_eap_message ≡ (old.has_eap_message || is_of type_eap_message a)
   pub has_status_type : new.has_status_type ≡ (old.has_status_type || is_of_len type_acct_status_type integer_size a)

@@ -2,10 +2,14 @@
 ghost use Rattle.std.specs.Prelude.{◌≡◌, ◌<◌, length, map, All, IfOk, Ok};
 ghost use Rattle.rad_packet.specs.Attributes.{has};
 ghost use Rattle.rad_packet.specs.Types.{type_message_authenticator};
-ghost use Rattle.rad_auth.specs.Admission.{AdmittedAreAnswerable, HoldsAdmitted, IsAdmitted, IsAnswerable, admission, content_checks, has_bad_authenticator, has_bad_message_authenticator, has_right_message_authenticator, is_code_accepted, lane_admission, lacks_message_authenticator, lacks_status_type};
+ghost use Rattle.rad_auth.specs.Admission.{AdmittedAreAnswerable, HoldsAdmitted, IsAdmitted, IsAnswerable, admission};
+ghost use Rattle.rad_auth.specs.Admission.{content_checks, has_bad_authenticator, has_bad_message_authenticator};
+ghost use Rattle.rad_auth.specs.Admission.{has_right_message_authenticator, is_code_accepted, lane_admission};
+ghost use Rattle.rad_auth.specs.Admission.{lacks_message_authenticator, lacks_status_type};
 ghost use Rattle.rad_auth.specs.Clients.{Client};
 ghost use Rattle.rad_auth.specs.Datagrams.{datagram_of};
-ghost use Rattle.rad_auth.specs.RequestLanes.{IsAccountingAuthenticator, IsCandidate, IsMessageAuthenticator, IsHmacUnder, OfCandidate, asked_of, verdict_on, verdict_on_lane};
+ghost use Rattle.rad_auth.specs.RequestLanes.{IsAccountingAuthenticator, IsCandidate, IsMessageAuthenticator, IsHmacUnder};
+ghost use Rattle.rad_auth.specs.RequestLanes.{OfCandidate, asked_of, verdict_on, verdict_on_lane};
 
 use crate::arrival::{Arrival, Door, Request};
 use crate::candidate::{Candidate, Lane, is_message_authenticator_checked};

@@ -47,7 +47,8 @@ impl Model for Clients {
 
 impl Clients {
     ghost use Rattle.std.specs.Prelude.{◌≡◌, ◌<◌, ◌≤◌, ◌==◌, ◌↔◌, [], length, OnOk, OnErr, IsErrOf, IsTrue, IfSome};
-    ghost use Rattle.rad_auth.specs.Clients.{Client, IsSecret, clients_max, client_place, client_at, has_network, network_fits, network_of, secret_at, with_client};
+    ghost use Rattle.rad_auth.specs.Clients.{Client, IsSecret, clients_max, client_place, client_at, has_network, network_fits};
+    ghost use Rattle.rad_auth.specs.Clients.{network_of, secret_at, with_client};
     ghost use Rattle.rad_auth.specs.declared.client.ClientFault.TheVariants.{Doubled};
 
     /// An empty list of clients.

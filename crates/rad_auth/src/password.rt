@@ -5,7 +5,8 @@ ghost use Rattle.rad_hmac.specs.Hmac.{xor};
 ghost use Rattle.rad_md5.specs.Pieces.{message};
 ghost use Rattle.rad_auth.specs.Clients.{secret_max};
 ghost use Rattle.rad_auth.specs.PasswordBlocks.{AreBlockDigests, Judges, JudgesBlock, Reveals};
-ghost use Rattle.rad_auth.specs.Passwords.{IsRevealed, hidden_password, hidden_text, padded_password, password_max, password_right, value_fits, value_length};
+ghost use Rattle.rad_auth.specs.Passwords.{IsRevealed, hidden_password, hidden_text, padded_password, password_max, password_right};
+ghost use Rattle.rad_auth.specs.Passwords.{value_fits, value_length};
 
 use crate::authenticators::nothing;
 use crate::same_octets::same_octets;

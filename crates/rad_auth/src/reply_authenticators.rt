@@ -2,7 +2,8 @@
 ghost use Rattle.std.specs.Prelude.{◌≡◌, ◌<◌, ◌-◌, length, map, IfSome};
 ghost use Rattle.rad_hmac.specs.Hmac.{text_limit};
 ghost use Rattle.rad_md5.specs.Pieces.{HasFreePiece, message};
-ghost use Rattle.rad_auth.specs.ReplyLanes.{AreReplyDigests, AreReplyHmacs, IsKeyOf, HasDigestedText, HasReplyHmac, HasReplyHmacText, IsReplyHmac, has_hmac, header_octets, lane_header};
+ghost use Rattle.rad_auth.specs.ReplyLanes.{AreReplyDigests, AreReplyHmacs, IsKeyOf, HasDigestedText, HasReplyHmac};
+ghost use Rattle.rad_auth.specs.ReplyLanes.{HasReplyHmacText, IsReplyHmac, has_hmac, header_octets, lane_header};
 ghost use Rattle.rad_packet.specs.Bodies.{FitsPacket};
 ghost use Rattle.rad_auth.specs.Sealing.{AreJobs, IsJob};
 

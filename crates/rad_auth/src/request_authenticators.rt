@@ -3,7 +3,8 @@ ghost use Rattle.std.specs.Prelude.{◌≡◌, ◌<◌, ◌-◌, length, All};
 ghost use Rattle.rad_hmac.specs.Hmac.{text_limit};
 ghost use Rattle.rad_md5.specs.Pieces.{HasFreePiece, message};
 ghost use Rattle.rad_auth.specs.Admission.{is_message_authenticator_checked};
-ghost use Rattle.rad_auth.specs.RequestLanes.{AreAccountingAuthenticators, AreMessageAuthenticators, HasAccountingText, HasHmacText, HasKeyOf, IsCandidate, OfCandidate, is_accounting, has_hmac_to_check};
+ghost use Rattle.rad_auth.specs.RequestLanes.{AreAccountingAuthenticators, AreMessageAuthenticators, HasAccountingText};
+ghost use Rattle.rad_auth.specs.RequestLanes.{HasHmacText, HasKeyOf, IsCandidate, OfCandidate, is_accounting, has_hmac_to_check};
 
 use crate::authenticators::{accounting_pieces, hmac_pieces, nothing};
 use crate::candidate::{Candidate, Lane, is_message_authenticator_checked};

@@ -6,7 +6,8 @@ ghost use Rattle.rad_packet.specs.Bodies.{FitsPacket};
 ghost use Rattle.rad_auth.specs.Summaries.{hmac_before, with_hmac};
 ghost use Rattle.rad_auth.specs.ReplyLanes.{HasReplyDigest, HasReplyHmac, IsReplyDigest, IsReplyHmac};
 ghost use Rattle.rad_auth.specs.Authenticators.{response_authenticator};
-ghost use Rattle.rad_auth.specs.Sealing.{AreJobs, BeginsOtherwise, IsJob, IsRequestCode, job_octets, lane_octets, request_octets, sealed};
+ghost use Rattle.rad_auth.specs.Sealing.{AreJobs, BeginsOtherwise, IsJob, IsRequestCode, job_octets, lane_octets, request_octets};
+ghost use Rattle.rad_auth.specs.Sealing.{sealed};
 
 use crate::authenticators::{SIXTEEN_ZEROS, body_digest, hmac_pieces};
 use crate::job::Job;

@@ -15,7 +15,8 @@ lanes_read xs d0 d1 d2 d3 d4 d5 d6 d7 =
     eight_lanes (λ ys. lanes ys d0 d1 d2 d3 d4 d5 d6 d7 ≡ ys) (λ a b c d e f g h. refl) xs
 
 -- what is made of two lists lane by lane
-pub zipped_lanes : {A B C : Type 0} (f : A → B → C) (xs : List A) (ys : List B) (d0 d1 d2 d3 d4 d5 d6 d7 : A) (e0 e1 e2 e3 e4 e5 e6 e7 : B)
+pub zipped_lanes : {A B C : Type 0} (f : A → B → C) (xs : List A) (ys : List B) (d0 d1 d2 d3 d4 d5 d6 d7 : A)
+    (e0 e1 e2 e3 e4 e5 e6 e7 : B)
     → length xs ≡ 8 → length ys ≡ 8
     → zip2 f (lanes xs d0 d1 d2 d3 d4 d5 d6 d7) (lanes ys e0 e1 e2 e3 e4 e5 e6 e7) ≡ zip2 f xs ys
 zipped_lanes f xs ys d0 d1 d2 d3 d4 d5 d6 d7 e0 e1 e2 e3 e4 e5 e6 e7 long equal =

@@ -1,7 +1,10 @@
 -- The octets of a block, from slices in their order.
-use Rattle.std.proofs.Common.{◌≡◌, ℕ, suc, ◌+◌, ◌-◌, ◌*◌, ◌/◌, ◌%◌, ◌^◌, ◌≤◌, ◌<◌, List, [], ◌∷◌, ◌++◌, replicate, length, take, drop, min, refl, sym, ap, ◌∙◌, add-one, arith, inl, inr}
+use Rattle.std.proofs.Common.{◌≡◌, ℕ, suc, ◌+◌, ◌-◌, ◌*◌, ◌/◌, ◌%◌, ◌^◌, ◌≤◌, ◌<◌, List, [], ◌∷◌, ◌++◌, replicate, length, take}
+use Rattle.std.proofs.Common.{drop, min, refl, sym, ap, ◌∙◌, add-one, arith, inl, inr}
 use Rattle.std.proofs.lemmas.Bool.{cases_lt}
-use Rattle.std.proofs.lemmas.List.{append_assoc, append-nil, length-append, length-drop, length-replicate, length-take, length-take-le, drop_all, take_all, drop-append-le, drop-replicate, take-append-drop, take-append-le, take-replicate, take-take}
+use Rattle.std.proofs.lemmas.List.{append_assoc, append-nil, length-append, length-drop, length-replicate, length-take}
+use Rattle.std.proofs.lemmas.List.{length-take-le, drop_all, take_all, drop-append-le, drop-replicate, take-append-drop}
+use Rattle.std.proofs.lemmas.List.{take-append-le, take-replicate, take-take}
 use Rattle.std.proofs.lemmas.Slice.{take-put_mid}
 use borrow.Rule.Slice.PartMut.{put_mid}
 use Rattle.std.specs.Int.{w64, to_le_bytes}
@@ -11,7 +14,8 @@ use Rattle.rad_md5.specs.Blocks.{block_at, block_count, filled, hash_after_turns
 use Rattle.std.proofs.Math.Seq.{drop-append-add, take-append-add}
 
 -- a slice that is skipped whole
-pub skip_slice : (s rest : List ℕ) (k room : ℕ) → length s ≤ k → take room (drop k (s ++ rest)) ≡ take room (drop (k - length s) rest)
+pub skip_slice : (s rest : List ℕ) (k room : ℕ) → length s ≤ k
+    → take room (drop k (s ++ rest)) ≡ take room (drop (k - length s) rest)
 skip_slice s rest k room past =
     let whole : length s + (k - length s) ≡ k = omega arith in
     ap (take room) (rw whole at (drop-append-add s rest (k - length s)))
@@ -38,7 +42,8 @@ put_slice old new s rest at skip len room inside short long written =
 -- the length of a message with its padding
 pub padded_length : (m : List ℕ) → length (padded_message m) ≡ length m + (9 + (119 - length m % 64) % 64)
 padded_length m =
-    length-append m _ ∙ ap (λ n. length m + suc n) (length-append (replicate ((119 - length m % 64) % 64) 0) (to_le_bytes w64 (length m * 8 % 2 ^ 64)))
+    length-append m _ ∙ ap (λ n. length m + suc n)
+    (length-append (replicate ((119 - length m % 64) % 64) 0) (to_le_bytes w64 (length m * 8 % 2 ^ 64)))
     ∙ rw length-replicate (omega arith)
 
 -- a message of which the slices put all that they had into a block
@@ -46,11 +51,13 @@ pub put_all : (m block : List ℕ) (from at skip : ℕ) → length block ≡ 64 
     → take 64 (drop from m) ≡ filled block at skip [] → take 64 (drop from m) ≡ take at block
 put_all m block from at skip size room same =
     let nothing : List ℕ = [] in
-    let none : take (64 - at) (drop skip nothing) ≡ [] = rw (drop_all skip nothing (omega arith)) (take_all (64 - at) nothing (omega arith)) in
+    let none : take (64 - at) (drop skip nothing) ≡ [] =
+    rw (drop_all skip nothing (omega arith)) (take_all (64 - at) nothing (omega arith)) in
     rw (none, append-nil) at same
 
 -- how many octets they put
-pub put_count : (m block : List ℕ) (from at : ℕ) → length block ≡ 64 → at ≤ 64 → take 64 (drop from m) ≡ take at block → at ≡ min 64 (length m - from)
+pub put_count : (m block : List ℕ) (from at : ℕ) → length block ≡ 64 → at ≤ 64 → take 64 (drop from m) ≡ take at block
+    → at ≡ min 64 (length m - from)
 put_count m block from at size room same =
     omega (arith, ap length same, length-take 64 (drop from m), length-drop from m, length-take at block, size)
 
@@ -68,7 +75,8 @@ drop_both from m end =
     ]
 
 -- a block of the message alone
-pub message_block : (m block : List ℕ) (n at : ℕ) → length block ≡ 64 → at ≡ 64 → take 64 (drop (n * 64) m) ≡ take at block → block ≡ block_at m n
+pub message_block : (m block : List ℕ) (n at : ℕ) → length block ≡ 64 → at ≡ 64 → take 64 (drop (n * 64) m) ≡ take at block
+    → block ≡ block_at m n
 message_block m block n at size end same =
     let whole : take at block ≡ block = take_all at block (omega arith) in
     let enough : 64 ≤ length (drop (n * 64) m) =
@@ -111,11 +119,13 @@ length_here bits at size early =
     rw begun (sym (take_all (64 - at) (0x80 ∷ (replicate (55 - at) 0 ++ bits)) (omega (arith, total))))
 
 -- the padding whose length goes into the next block
-length_later : (bits : List ℕ) (at : ℕ) → 56 ≤ at → at < 64 → take (64 - at) begin ≡ take (64 - at) (0x80 ∷ (replicate (119 - at) 0 ++ bits))
+length_later : (bits : List ℕ) (at : ℕ) → 56 ≤ at → at < 64
+    → take (64 - at) begin ≡ take (64 - at) (0x80 ∷ (replicate (119 - at) 0 ++ bits))
 length_later bits at late room =
     let one : 64 - at ≡ 63 - at + 1 = omega arith in
     let zeros : take (63 - at) (replicate (119 - at) 0 ++ bits) ≡ replicate (63 - at) 0 =
-    take-append-le (63 - at) (replicate (119 - at) 0) bits (rw length-replicate (omega arith)) ∙ take-replicate (63 - at) (119 - at) 0 (omega arith) in
+    take-append-le (63 - at) (replicate (119 - at) 0) bits (rw length-replicate (omega arith))
+    ∙ take-replicate (63 - at) (119 - at) 0 (omega arith) in
     rw one (begin_front (63 - at) (omega arith) ∙ sym (rw (add-one, zeros) refl))
 
 drop_next : (n x : ℕ) (xs : List ℕ) → drop (n + 1) (x ∷ xs) ≡ drop n xs
@@ -136,7 +146,8 @@ length_after bits q size over =
 
 length_padding : (len : ℕ) → length (padding len) ≡ 9 + (119 - len % 64) % 64
 length_padding len =
-    ap suc (length-append (replicate ((119 - len % 64) % 64) 0) (to_le_bytes w64 (len * 8 % 2 ^ 64))) ∙ rw length-replicate (omega arith)
+    ap suc (length-append (replicate ((119 - len % 64) % 64) 0) (to_le_bytes w64 (len * 8 % 2 ^ 64)))
+    ∙ rw length-replicate (omega arith)
 
 -- the padding's octets in a message's last block, from `at` on
 pub last_padding : (len n at : ℕ) → at < 56 → (n * 64 ≤ len → n * 64 + at ≡ len) → (len < n * 64 → at ≡ 0)
@@ -175,12 +186,14 @@ first_padding len n at late room begun over =
     ]
 
 -- a block whose rest was written
-pub rest_written : (old block octets : List ℕ) (at start s : ℕ) → length block ≡ 64 → at < 64 → length octets ≡ 65 → start ≤ 1 → s ≡ start
+pub rest_written : (old block octets : List ℕ) (at start s : ℕ) → length block ≡ 64 → at < 64 → length octets ≡ 65 → start ≤ 1
+    → s ≡ start
     → take (at + length (take (s + 64 - at - s) (drop s octets))) block ≡ take at old ++ take (s + 64 - at - s) (drop s octets)
     → block ≡ take at old ++ take (64 - at) (drop start octets)
 rest_written old block octets at start s size room count few same is =
     let n : s + 64 - at - s ≡ 64 - at = omega arith in
-    let long : length (take (64 - at) (drop s octets)) ≡ 64 - at = length-take-le (64 - at) (drop s octets) (omega (arith, length-drop s octets, count)) in
+    let long : length (take (64 - at) (drop s octets)) ≡ 64 - at =
+    length-take-le (64 - at) (drop s octets) (omega (arith, length-drop s octets, count)) in
     let all : at + (64 - at) ≡ 64 = omega arith in
     let written : take 64 block ≡ take at old ++ take (64 - at) (drop s octets) = rw (n, long, all) at is in
     sym (take_all 64 block (omega arith)) ∙ written ∙ ap (λ from. take at old ++ take (64 - at) (drop from octets)) same
@@ -234,7 +247,8 @@ ends_written xs part ys zs at k i j room long short front back =
     let front_size : length ys ≡ k = ap length front ∙ length-take-le k part long in
     let back_size : length zs ≡ k = ap length back ∙ length-drop rest part ∙ omega arith in
     let size : length (take at xs) ≡ at = length-take-le at xs (omega arith) in
-    let first : take (at + k) (put_mid at i xs ys) ≡ take at xs ++ ys = take-put_mid at i xs ys (at + k) (omega (arith, front_size)) (omega arith) in
+    let first : take (at + k) (put_mid at i xs ys) ≡ take at xs ++ ys =
+    take-put_mid at i xs ys (at + k) (omega (arith, front_size)) (omega arith) in
     let enough : at + k ≤ length (put_mid at i xs ys) =
     omega (arith, ap length first, length-take (at + k) (put_mid at i xs ys), length-append (take at xs) ys, size, front_size) in
     let place : end ≡ length (take at xs) + rest = omega (arith, size) in

@@ -1,5 +1,6 @@
 -- What holds lane by lane.
-use Rattle.std.proofs.Common.{◌≡◌, ℕ, zero, suc, ◌<◌, ◌+◌, ◌-◌, ◌*◌, ◌/◌, ◌%◌, ◌^◌, List, [], ◌∷◌, length, slice_index, replicate, bit_or, arith, refl, subst}
+use Rattle.std.proofs.Common.{◌≡◌, ℕ, zero, suc, ◌<◌, ◌+◌, ◌-◌, ◌*◌, ◌/◌, ◌%◌, ◌^◌, List, [], ◌∷◌, length, slice_index, replicate}
+use Rattle.std.proofs.Common.{bit_or, arith, refl, subst}
 use Rattle.std.specs.Simd.Lanes.{zip2}
 use Rattle.std.specs.Int.{w32, rotate_left}
 use Rattle.rad_md5.specs.Lanes.{EachLane, lane_at, words_of}

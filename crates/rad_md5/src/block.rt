@@ -1,5 +1,6 @@
 //! The blocks of eight messages, side by side (RFC 1321, sections 3.1, 3.2 and 3.4).
-ghost use Rattle.std.specs.Prelude.{◌≡◌, ℕ, ◌+◌, ◌-◌, ◌*◌, ◌/◌, ◌^◌, ◌<◌, ◌≤◌, List, [], ◌++◌, length, take, slice_index, slice_index_or};
+ghost use Rattle.std.specs.Prelude.{◌≡◌, ℕ, ◌+◌, ◌-◌, ◌*◌, ◌/◌, ◌^◌, ◌<◌, ◌≤◌, List, [], ◌++◌, length, take, slice_index};
+ghost use Rattle.std.specs.Prelude.{slice_index_or};
 ghost use Rattle.md5.specs.Md5.{block_words, padding, word_at};
 ghost use Rattle.rad_md5.specs.Blocks.{block_at, block_count, filled};
 ghost use Rattle.rad_md5.specs.Lanes.{ArePlaces, EachLane, HaveBlocks, HaveEnded, words_of};

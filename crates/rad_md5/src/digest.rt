@@ -1,5 +1,6 @@
 //! Digests of messages, eight at a time.
-ghost use Rattle.std.specs.Prelude.{◌≡◌, ℕ, ◌+◌, ◌<◌, ◌≤◌, List, [], false, length, map, slice_index, slice_index_or, true, EachIndex};
+ghost use Rattle.std.specs.Prelude.{◌≡◌, ℕ, ◌+◌, ◌<◌, ◌≤◌, List, [], false, length, map, slice_index, slice_index_or, true};
+ghost use Rattle.std.specs.Prelude.{EachIndex};
 ghost use Rattle.md5.specs.Md5.{digest_bytes, initial_hash};
 ghost use Rattle.rad_md5.specs.Lanes.{ArePlaces, AreWanted, EachLane, HasDigests, HaveAtMost, IsHashedAfter, IsWanted, lane};
 ghost use Rattle.rad_md5.specs.Pieces.{IsDigested, digest};

@@ -11,7 +11,9 @@ pub returns-in-Some : goal.returns-in-Some
 returns-in-Some c = λ client same.
     let p : Packet = c.args.candidate.now.request.packet in
     let summary = c.args.candidate.now.is_summary in
-    let once : (count 80 p.attributes == 1) ≡ true = eq-eqb (count 80 p.attributes) 1 (sym summary.message_authenticators ∙ c.if-not-occurs_once.false) in
+    let once : (count 80 p.attributes == 1) ≡ true =
+    eq-eqb (count 80 p.attributes) 1 (sym summary.message_authenticators ∙ c.if-not-occurs_once.false) in
     let first : first_value 80 p.attributes ≡ Some c.in-Some.value.now = sym c.in-Some.ensures.value in
     let held = subst (λ o. IfSome o (λ n. c.args.mac.now ≡ message_authenticator p client.secret)) summary.octets_after_hmac same in
-    rw (once, first) (c.same_octets.ensures ∙ right_hmac p.attributes c.in-Some.value.now c.args.mac.now (message_authenticator p client.secret) first held c.told-mac)
+    rw (once, first) (c.same_octets.ensures
+    ∙ right_hmac p.attributes c.in-Some.value.now c.args.mac.now (message_authenticator p client.secret) first held c.told-mac)

@@ -13,7 +13,8 @@ returns-clause-message c =
     let back : List ℕ = drop end octets in
     let place : length octets - n - 16 ≡ length octets - (n + 16) = omega arith in
     let given : c.of.result ≡ front ∷ sixteen_zeros ∷ take (length octets - end) back ∷ [] ∷ [] ∷ [] = c.of.ensures in
-    let all : take (length octets - end) back ≡ back = take_all (length octets - end) back (omega (arith, length-drop end octets)) in
+    let all : take (length octets - end) back ≡ back =
+    take_all (length octets - end) back (omega (arith, length-drop end octets)) in
     ap message (given ∙ ap (λ (o : List ℕ). front ∷ sixteen_zeros ∷ o ∷ [] ∷ [] ∷ []) all)
     ∙ ap (λ (o : List ℕ). front ++ (sixteen_zeros ++ o)) (append-nil back) ∙ sym (append_assoc front sixteen_zeros back)
     ∙ ap (λ n. take n octets ++ sixteen_zeros ++ back) place

@@ -4,5 +4,6 @@ use Rattle.rad_auth.proofs.client.same_rows.Goals as goal
 
 pub returns-then-rows-others : goal.returns-then-rows-others
 returns-then-rows-others c =
-    same_from_all c.all.new.self _ _ _ _ c.all.ensures.ran (YieldsList-from_zip (YieldsList-from_slice c.args.rows.now cc) (YieldsList-from_slice c.args.others.now cc)) (search rules)
+    same_from_all c.all.new.self _ _ _ _ c.all.ensures.ran
+    (YieldsList-from_zip (YieldsList-from_slice c.args.rows.now cc) (YieldsList-from_slice c.args.others.now cc)) (search rules)
     (λ x q k. search (rules, tests)) (λ x q k. search (rules, tests))

@@ -12,4 +12,5 @@ returns-then-ne-clause-greatest_first c =
     let point = IsPartitionPoint-from_clause (nat_lt c.args.prefix) prefixes place c.partition_point-place.ensures.partitioned
     (partitioned prefixes c.args.prefix first) (λ a r f k. search (rules, of_calls)) in
     let inserted : c.insert.new.self.items ≡ insert c.args.prefixes.now.items place c.args.prefix = search rules in
-    rw (inserted, ← c.deref.ensures.value) (greatest_first-insert prefixes place c.args.prefix first c.requires.within c.partition_point-place.ensures.bound point)
+    rw (inserted, ← c.deref.ensures.value)
+    (greatest_first-insert prefixes place c.args.prefix first c.requires.within c.partition_point-place.ensures.bound point)

@@ -12,7 +12,8 @@ returns-then-value-eq-BLOCK_LEN c =
     let ra : List ℕ = c.args.request_authenticator.now in
     let secret : List ℕ = c.args.secret.now in
     let value : List ℕ = c.args.value.now in
-    let first = c.block_digest.ensures ∙ ap (λ (b : List ℕ). md5 (secret ++ b)) (sym (before_first ra value c.told-request_authenticator)) in
+    let first = c.block_digest.ensures
+    ∙ ap (λ (b : List ℕ). md5 (secret ++ b)) (sym (before_first ra value c.told-request_authenticator)) in
     λ j lt. only_block c.alone.result (block_digest secret ra value) value c.if-value-eq-BLOCK_LEN.true (c.alone.ensures ∙ first) j
 
 pub returns : goal.returns
@@ -23,7 +24,8 @@ returns c =
     let long = c.told-request_authenticator in
     let made = λ (j : ℕ). ap (λ (ds : List (List ℕ)). get_or ds j []) c.digest8.ensures in
     below_eight _
-    (λ within. made 0 ∙ ap (λ (p : List (List ℕ)). md5 (message p)) c.of.ensures ∙ ap (λ (b : List ℕ). md5 (secret ++ b)) (append-nil ra ∙ sym (before_first ra value long)))
+    (λ within. made 0 ∙ ap (λ (p : List (List ℕ)). md5 (message p)) c.of.ensures
+    ∙ ap (λ (b : List ℕ). md5 (secret ++ b)) (append-nil ra ∙ sym (before_first ra value long)))
     (λ within. pad_next secret ra value _ _ 0 long (made 1) (c.digested_text.ensures within))
     (λ within. pad_next secret ra value _ _ 1 long (made 2) (c.digested_text-2.ensures within))
     (λ within. pad_next secret ra value _ _ 2 long (made 3) (c.digested_text-3.ensures within))

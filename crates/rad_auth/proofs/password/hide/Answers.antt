@@ -15,10 +15,12 @@ returns-clause-hidden c =
     let copied : c.copy_from_slice.new.self ≡ padded_password len password =
     c.copy_from_slice.ensures.after ∙ ap (take len) c.padded.ensures ∙ take-padded len password_max password le most in
     let text : take len (c.copy_from_slice.new.self ++ after) ≡ padded_password len password =
-    ap (λ (t : List ℕ). take len (t ++ after)) copied ∙ take_at (padded_password len password) after len (length-padded len password le) in
+    ap (λ (t : List ℕ). take len (t ++ after)) copied
+    ∙ take_at (padded_password len password) after len (length-padded len password le) in
     let long : length c.hide_text.new.text ≡ len = c.hide_text.auto.text ∙ ap length text ∙ length-padded len password le in
     take_at c.hide_text.new.text _ len long
     ∙ c.hide_text.ensures
     ∙ ap (λ (t : List ℕ). hidden_text c.octets.result.now c.args.request_authenticator.now t) text
     ∙ ap (λ (s : List ℕ). hidden_text s c.args.request_authenticator.now (padded_password len password)) c.octets.ensures.value
-    ∙ ap (λ n. hidden_text c.args.secret.now c.args.request_authenticator.now (padded_password n password)) c.value_length-len.ensures
+    ∙ ap (λ n. hidden_text c.args.secret.now c.args.request_authenticator.now (padded_password n password))
+    c.value_length-len.ensures

@@ -15,7 +15,8 @@ pub blocks-2-preserved : goal.blocks-2-preserved
 blocks-2-preserved c = record {
   long = same_len_mid _ _ c.blocks-2.text _ c.copy_from_slice.ensures.len ∙ c.blocks-2.invariant.long;
   text = rw c.copy_from_slice.ensures.after
-      (hidden_more _ _ _ _ _ _ _ _ _ (omega arith) c.blocks-2-test.true (omega (arith, c.blocks-2.invariant.long)) c.xor-hidden.ensures c.block_digest.ensures c.blocks-2.invariant.text);
+      (hidden_more _ _ _ _ _ _ _ _ _ (omega arith) c.blocks-2-test.true (omega (arith, c.blocks-2.invariant.long))
+      c.xor-hidden.ensures c.block_digest.ensures c.blocks-2.invariant.text);
 }
 
 pub returns : goal.returns
@@ -24,7 +25,9 @@ returns c =
     let n : ℕ = length c.args.text.now / 16 in
     let done : n - c.blocks-2.block ≡ 0 = omega (arith, c.blocks-2-test.false) in
     let whole : take (c.blocks-2.block * 16) c.blocks-2.text ≡ c.blocks-2.text =
-    take_all (c.blocks-2.block * 16) c.blocks-2.text (omega (arith, c.blocks-2-test.false, c.requires, c.blocks-2.invariant.long)) in
+    take_all (c.blocks-2.block * 16) c.blocks-2.text
+    (omega (arith, c.blocks-2-test.false, c.requires, c.blocks-2.invariant.long)) in
     sym whole ∙ sym (append-nil (take (c.blocks-2.block * 16) c.blocks-2.text))
-    ∙ ap (λ k. take (c.blocks-2.block * 16) c.blocks-2.text ++ hidden c.args.secret.now c.blocks-2.before k (drop (c.blocks-2.block * 16) c.blocks-2.text)) (sym done)
+    ∙ ap (λ k. take (c.blocks-2.block * 16) c.blocks-2.text
+    ++ hidden c.args.secret.now c.blocks-2.before k (drop (c.blocks-2.block * 16) c.blocks-2.text)) (sym done)
     ∙ c.blocks-2.invariant.text

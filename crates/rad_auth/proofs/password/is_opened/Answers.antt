@@ -16,5 +16,7 @@ returns c = λ secret ra sixteen digests.
     ∙ take-padded (length value) password_max password le (fits_room value c.requires) in
     c.same_octets.ensures
     ∙ ap (λ (w : List ℕ). pointwise ◌==◌ w text) wanted
-    ∙ hides_same secret ra value text (padded_password (length value) password) (c.open_blocks.ensures.revealed secret ra sixteen digests) (length-padded (length value) password le)
-    ∙ ap (λ b. b && pointwise ◌==◌ (hidden_text secret ra (padded_password (length value) password)) value) (sym (le-leb (length password) (length value) le))
+    ∙ hides_same secret ra value text (padded_password (length value) password)
+    (c.open_blocks.ensures.revealed secret ra sixteen digests) (length-padded (length value) password le)
+    ∙ ap (λ b. b && pointwise ◌==◌ (hidden_text secret ra (padded_password (length value) password)) value)
+    (sym (le-leb (length password) (length value) le))

@@ -1,4 +1,5 @@
-use Rattle.std.proofs.Common.{◌≡◌, ◌≤◌, ◌+◌, ◌-◌, ◌*◌, ◌/◌, ◌++◌, List, ℕ, [], length, get_or, take, drop, ap, sym, ◌∙◌, refl, subst, arith}
+use Rattle.std.proofs.Common.{◌≡◌, ◌≤◌, ◌+◌, ◌-◌, ◌*◌, ◌/◌, ◌++◌, List, ℕ, [], length, get_or, take, drop, ap, sym, ◌∙◌, refl}
+use Rattle.std.proofs.Common.{subst, arith}
 use Rattle.std.proofs.lemmas.List.{append-nil}
 use Rattle.std.proofs.lemmas.Slice.{drop-put_mid}
 use borrow.Rule.Slice.PartMut.{mid_len, same_len_mid}
@@ -13,7 +14,8 @@ blocks-2-init c = record {
   long = c.told-text;
   text = λ secret ra sixteen digests.
       ap (λ n. opened secret (block_before ra c.args.value.now 0) n c.args.value.now) (omega arith)
-      ∙ ap (λ (b : List ℕ). opened secret b (length c.args.value.now / 16) c.args.value.now) (before_first ra c.args.value.now sixteen);
+      ∙ ap (λ (b : List ℕ). opened secret b (length c.args.value.now / 16) c.args.value.now)
+      (before_first ra c.args.value.now sixteen);
   rest = refl;
 }
 
@@ -30,10 +32,12 @@ blocks-2-preserved c =
           let padded : get_or c.args.digests.now c.blocks-2.block [] ≡ md5 (secret ++ block_before ra value c.blocks-2.block) =
           digests c.blocks-2.block (omega (arith, c.blocks-2-test.true, fits)) (omega (arith, c.blocks-2-test.true)) in
           rw (c.copy_from_slice.ensures.after, before_next ra value c.blocks-2.block sixteen)
-          (opened_more _ _ _ _ _ _ _ _ _ _ (omega arith) c.blocks-2-test.true (omega arith) (omega (arith, c.blocks-2.invariant.long, fits)) c.xor-opened.ensures padded
+          (opened_more _ _ _ _ _ _ _ _ _ _ (omega arith) c.blocks-2-test.true (omega arith)
+          (omega (arith, c.blocks-2.invariant.long, fits)) c.xor-opened.ensures padded
           (c.blocks-2.invariant.text secret ra sixteen digests));
       rest =
-          drop-put_mid at (at + 16 - at) c.blocks-2.text _ (length value) (omega (arith, c.blocks-2-test.true)) (omega (arith, room)) (c.copy_from_slice.ensures.len ∙ mid)
+          drop-put_mid at (at + 16 - at) c.blocks-2.text _ (length value) (omega (arith, c.blocks-2-test.true))
+          (omega (arith, room)) (c.copy_from_slice.ensures.len ∙ mid)
           ∙ c.blocks-2.invariant.rest;
     }
 
@@ -49,6 +53,7 @@ returns-clause-revealed c = λ secret ra sixteen digests.
     let opened_is : take (length value) c.blocks-2.text ≡ opened secret ra n value =
     ap (λ k. take k c.blocks-2.text) (sym end)
     ∙ sym (append-nil (take (c.blocks-2.block * 16) c.blocks-2.text))
-    ∙ ap (λ k. take (c.blocks-2.block * 16) c.blocks-2.text ++ opened secret before k (drop (c.blocks-2.block * 16) value)) (sym done)
+    ∙ ap (λ k. take (c.blocks-2.block * 16) c.blocks-2.text ++ opened secret before k (drop (c.blocks-2.block * 16) value))
+    (sym done)
     ∙ c.blocks-2.invariant.text secret ra sixteen digests in
     subst (IsRevealed secret ra value) (sym opened_is) (reveals secret ra n value whole)

@@ -7,8 +7,10 @@ use Rattle.rad_auth.proofs.password.open_blocks.Given as goal
 abbrev pub invariant-blocks-2 : goal.invariant-blocks-2
 invariant-blocks-2 l = record {
   long : length l.text ≡ 128;
-  text : (secret request_authenticator : List ℕ) → length request_authenticator ≡ 16 → AreBlockDigests secret request_authenticator l.value l.digests
-      → take (l.block * 16) l.text ++ opened secret (block_before request_authenticator l.value l.block) (length l.value / 16 - l.block) (drop (l.block * 16) l.value)
+  text : (secret request_authenticator : List ℕ) → length request_authenticator ≡ 16
+      → AreBlockDigests secret request_authenticator l.value l.digests
+      → take (l.block * 16) l.text ++ opened secret (block_before request_authenticator l.value l.block)
+      (length l.value / 16 - l.block) (drop (l.block * 16) l.value)
       ≡ opened secret request_authenticator (length l.value / 16) l.value;
   rest : drop (length l.value) l.text ≡ drop (length l.value) l.fn.text;
 }

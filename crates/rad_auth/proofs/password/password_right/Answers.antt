@@ -7,4 +7,5 @@ returns c =
     let value : List ℕ = c.args.value.now in
     let ra : List ℕ = c.args.request_authenticator.now in
     c.is_opened.ensures c.args.secret.now ra c.told-request_authenticator
-    (subst (λ secret. AreBlockDigests secret ra value c.block_digests-digests.result) c.octets.ensures.value c.block_digests-digests.ensures)
+    (subst (λ secret. AreBlockDigests secret ra value c.block_digests-digests.result) c.octets.ensures.value
+    c.block_digests-digests.ensures)

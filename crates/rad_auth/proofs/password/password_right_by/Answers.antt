@@ -8,4 +8,5 @@ pub returns : goal.returns
 returns c = λ secret ra sixteen made.
     let value : List ℕ = c.args.value.now in
     let first = made ∙ ap (λ (b : List ℕ). md5 (secret ++ b)) (sym (before_first ra value sixteen)) in
-    c.is_opened.ensures secret ra sixteen (λ j lt. only_block c.alone.result (block_digest secret ra value) value c.requires (c.alone.ensures ∙ first) j)
+    c.is_opened.ensures secret ra sixteen
+    (λ j lt. only_block c.alone.result (block_digest secret ra value) value c.requires (c.alone.ensures ∙ first) j)

@@ -18,12 +18,14 @@ returns-then-code-eq-ACCOUNTING_RESPONSE c =
     let octets : List ℕ = attributes_octets job.body.now.attributes in
     let none = has_no_hmac job.body.now c.requires.job.reply (sym c.code.ensures ∙ c.if-code-eq-ACCOUNTING_RESPONSE.true) in
     ap (λ pieces. md5 (message pieces)) c.of.ensures
-    ∙ ap (λ (s : List ℕ). md5 (c.args.header.now ++ (c.attributes_octets-attributes.result.now ++ (s ++ [])))) c.octets-secret.ensures.value
+    ∙ ap (λ (s : List ℕ). md5 (c.args.header.now ++ (c.attributes_octets-attributes.result.now ++ (s ++ []))))
+    c.octets-secret.ensures.value
     ∙ ap (λ (o : List ℕ). md5 (c.args.header.now ++ (o ++ (secret ++ [])))) c.attributes_octets-attributes.ensures.value
     ∙ ap (λ (o : List ℕ). md5 (o ++ (octets ++ (secret ++ [])))) c.requires.header
     ∙ ap (λ (o : List ℕ). md5 (header ++ (octets ++ o))) (append-nil secret)
     ∙ ap md5 (sym (append_assoc header octets secret))
-    ∙ ap (λ (body : Body). md5 (packet_octets (packet_of_body body job.id job.request_authenticator) ++ secret)) (sym (hmac_same job.body.now job.id job.request_authenticator secret none))
+    ∙ ap (λ (body : Body). md5 (packet_octets (packet_of_body body job.id job.request_authenticator) ++ secret))
+    (sym (hmac_same job.body.now job.id job.request_authenticator secret none))
 
 pub returns : goal.returns
 returns c =
@@ -43,6 +45,7 @@ returns c =
     ∙ ap (λ (s : List ℕ). md5 (c.args.header.now ++ (front ++ (mac ++ (kept ++ (s ++ [])))))) c.octets-secret.ensures.value
     ∙ ap (λ (o : List ℕ). md5 (c.args.header.now ++ (front ++ (mac ++ (o ++ (secret ++ [])))))) others
     ∙ ap (λ (o : List ℕ). md5 (o ++ (front ++ (mac ++ (drop 18 (attributes_octets list) ++ (secret ++ [])))))) c.requires.header
-    ∙ ap (λ (o : List ℕ). md5 (header_octets job ++ (front ++ (mac ++ (drop 18 (attributes_octets list) ++ o))))) (append-nil secret)
+    ∙ ap (λ (o : List ℕ). md5 (header_octets job ++ (front ++ (mac ++ (drop 18 (attributes_octets list) ++ o)))))
+    (append-nil secret)
     ∙ ap md5 parts
     ∙ ap (λ (w : List ℕ). md5 (packet_made (unsealed job) w ++ secret)) is

@@ -8,7 +8,8 @@ pub returns : goal.returns
 returns c =
     let clients : List Client = c.args.clients.now in
     let made = c.digest_some.ensures in
-    each_lane c.args.lanes.now (λ j lane. OfCandidate (IsAccountingAuthenticator clients (get_or c.digest_some.result j [])) lane) None
+    each_lane c.args.lanes.now (λ j lane. OfCandidate (IsAccountingAuthenticator clients (get_or c.digest_some.result j []))
+    lane) None
     _ _ _ _ _ _ _ _ c.type_inv.lanes
     (lane_accounting clients _ _ _ _ c.accounting_text.ensures c.is_accounting.ensures (made 0 (omega arith)))
     (lane_accounting clients _ _ _ _ c.accounting_text-2.ensures c.is_accounting-2.ensures (made 1 (omega arith)))

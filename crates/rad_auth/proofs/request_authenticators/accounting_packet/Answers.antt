@@ -10,4 +10,5 @@ returns c =
     let p : Packet = c.args.candidate.now.request.packet in
     let joined = unsigned_parts c.octets.result.now p c.octets.ensures.whole c.octets.ensures.packet.authenticator in
     ap md5 (c.accounting_pieces.ensures ∙ ap (λ (o : List ℕ). o ++ c.octets-2.result.now) joined
-    ∙ ap (λ (s : List ℕ). packet_octets (record p { authenticator = sixteen_zeros }) ++ s) (c.octets-2.ensures.value ∙ c.secret.ensures))
+    ∙ ap (λ (s : List ℕ). packet_octets (record p { authenticator = sixteen_zeros }) ++ s)
+    (c.octets-2.ensures.value ∙ c.secret.ensures))

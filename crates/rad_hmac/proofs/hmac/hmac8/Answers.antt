@@ -9,4 +9,5 @@ unfolding mac_under
 returns c =
     rw (c.outer8.ensures, c.pads8-2.ensures, c.inner8-inner.ensures, c.pads8.ensures)
     (two_passes (λ (pad digest : List ℕ). md5 (pad ++ digest)) (λ (keyed : Keyed). xor keyed.0.now opad)
-    (λ (pad : List ℕ) (keyed : Keyed). md5 (pad ++ keyed_message keyed)) (λ (keyed : Keyed). xor keyed.0.now ipad) c.args.messages.now)
+    (λ (pad : List ℕ) (keyed : Keyed). md5 (pad ++ keyed_message keyed)) (λ (keyed : Keyed). xor keyed.0.now ipad)
+    c.args.messages.now)

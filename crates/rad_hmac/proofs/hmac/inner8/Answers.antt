@@ -17,7 +17,8 @@ returns c =
       c.after-7.ensures.message,
       c.after-8.ensures.message,
     )
-    (zipped_lanes (λ (pad : List ℕ) (keyed : Keyed). md5 (pad ++ keyed_message keyed)) c.args.pads.now c.args.messages.now [] [] [] [] [] [] [] []
+    (zipped_lanes (λ (pad : List ℕ) (keyed : Keyed). md5 (pad ++ keyed_message keyed)) c.args.pads.now c.args.messages.now [] [] []
+    [] [] [] [] []
     c.index-messages-0.result c.index-messages-1.result c.index-messages-2.result c.index-messages-3.result
     c.index-messages-4.result c.index-messages-5.result c.index-messages-6.result c.index-messages-7.result
     c.told-pads c.type_inv.messages)

@@ -16,4 +16,5 @@ returns c =
       c.after_pad-7.ensures,
       c.after_pad-8.ensures,
     )
-    (zipped_lanes (λ (pad digest : List ℕ). md5 (pad ++ digest)) c.args.pads.now c.args.inner.now [] [] [] [] [] [] [] [] [] [] [] [] [] [] [] [] c.told-pads c.told-inner)
+    (zipped_lanes (λ (pad digest : List ℕ). md5 (pad ++ digest)) c.args.pads.now c.args.inner.now [] [] [] [] [] [] [] [] [] [] []
+    [] [] [] [] [] c.told-pads c.told-inner)

@@ -6,5 +6,15 @@ use Rattle.rad_hmac.proofs.hmac.pads8.Goals as goal
 
 pub returns : goal.returns
 returns c =
-    rw (c.xor.ensures, c.xor-2.ensures, c.xor-3.ensures, c.xor-4.ensures, c.xor-5.ensures, c.xor-6.ensures, c.xor-7.ensures, c.xor-8.ensures)
-    (ap (map (λ (keyed : Keyed). xor keyed.0.now (replicate 64 c.args.pad))) (lanes_read c.args.messages.now _ _ _ _ _ _ _ _ c.type_inv.messages))
+    rw (
+      c.xor.ensures,
+      c.xor-2.ensures,
+      c.xor-3.ensures,
+      c.xor-4.ensures,
+      c.xor-5.ensures,
+      c.xor-6.ensures,
+      c.xor-7.ensures,
+      c.xor-8.ensures,
+    )
+    (ap (map (λ (keyed : Keyed). xor keyed.0.now (replicate 64 c.args.pad)))
+    (lanes_read c.args.messages.now _ _ _ _ _ _ _ _ c.type_inv.messages))

@@ -25,15 +25,28 @@ count_put c =
     c.put-at-5.array_long c.put-at-5.ensures.place (five_slices c)
 
 pub overflow_mul-n : goal.overflow_mul-n
-overflow_mul-n c = omega (arith, c.requires, padded_length (message c.args.pieces.now), c.len-len.ensures.value, c.len-len.ensures.bound)
+overflow_mul-n c =
+    omega (arith, c.requires, padded_length (message c.args.pieces.now), c.len-len.ensures.value, c.len-len.ensures.bound)
 
 pub pad-requires-clause-begun : goal.pad-requires-clause-begun
 pad-requires-clause-begun c = λ inside.
-    omega (arith, inside, count_put (goal.at.pad-requires-clause-begun c).After-put-at-5, c.if-at-lt-BLOCK_LEN.true, c.len-len.ensures.value)
+    omega (
+      arith,
+      inside,
+      count_put (goal.at.pad-requires-clause-begun c).After-put-at-5,
+      c.if-at-lt-BLOCK_LEN.true,
+      c.len-len.ensures.value,
+    )
 
 pub pad-requires-clause-over : goal.pad-requires-clause-over
 pad-requires-clause-over c = λ past.
-    omega (arith, past, count_put (goal.at.pad-requires-clause-over c).After-put-at-5, c.if-at-lt-BLOCK_LEN.true, c.len-len.ensures.value)
+    omega (
+      arith,
+      past,
+      count_put (goal.at.pad-requires-clause-over c).After-put-at-5,
+      c.if-at-lt-BLOCK_LEN.true,
+      c.len-len.ensures.value,
+    )
 
 pub returns-then-at-lt-BLOCK_LEN : goal.returns-then-at-lt-BLOCK_LEN
 returns-then-at-lt-BLOCK_LEN c =

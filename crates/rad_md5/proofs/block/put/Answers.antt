@@ -5,7 +5,8 @@ use Rattle.rad_md5.proofs.block.put.Goals as goal
 
 pub returns-then-slice-skip-clause-octets : goal.returns-then-slice-skip-clause-octets
 returns-then-slice-skip-clause-octets c = λ rest.
-    ap (λ others. take c.args.at c.args.block.now ++ others) (skip_slice c.args.slice.now rest c.args.skip (64 - c.args.at) c.if-slice-skip.true)
+    ap (λ others. take c.args.at c.args.block.now ++ others)
+    (skip_slice c.args.slice.now rest c.args.skip (64 - c.args.at) c.if-slice-skip.true)
 
 pub returns-clause-octets : goal.returns-clause-octets
 returns-clause-octets c = λ rest.

@@ -8,7 +8,8 @@ use Rattle.rad_md5.proofs.digest.digest_one.Goals as goal
 pub returns : goal.returns
 returns c =
     let at = piece c.slices.result.now in
-    c.finalize.ensures _ (c.update-5.ensures _ (c.update-4.ensures _ (c.update-3.ensures _ (c.update-2.ensures _ (c.update.ensures _ c.new-hasher.ensures)))))
+    c.finalize.ensures _ (c.update-5.ensures _
+    (c.update-4.ensures _ (c.update-3.ensures _ (c.update-2.ensures _ (c.update.ensures _ c.new-hasher.ensures)))))
     ∙ ap md5 (append_assoc (at 0 ++ at 1 ++ at 2) (at 3) (at 4)
     ∙ append_assoc (at 0 ++ at 1) (at 2) (at 3 ++ at 4)
     ∙ append_assoc (at 0) (at 1) (at 2 ++ (at 3 ++ at 4))

@@ -11,4 +11,5 @@ turns-init c = λ j few.
 pub returns : goal.returns
 returns c = λ j few.
     ap (λ h. digest_bytes h 4) (c.turns.invariant j few)
-    ∙ all_turns (lane_message c.args.messages.now c.args.places.now j) c.turns.n (omega (arith, c.most_blocks-n-end.ensures.enough j few, c.turns-test.false))
+    ∙ all_turns (lane_message c.args.messages.now c.args.places.now j) c.turns.n
+    (omega (arith, c.most_blocks-n-end.ensures.enough j few, c.turns-test.false))

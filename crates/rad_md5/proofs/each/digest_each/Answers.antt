@@ -10,4 +10,5 @@ windows-preserved c =
     let begun : min all from ≡ from = omega (arith, c.windows-test.true, c.div_ceil-windows.ensures) in
     let to : min all (64 * (c.windows.i + 1)) ≡ from + n = omega (arith, c.min-end.ensures, begun) in
     rw to (digests_grow c.args.messages.now c.windows.digests c.digest_window.new.digests from n
-    (omega (arith, c.windows.auto.digests, c.requires)) (omega (arith, c.min-end.ensures, begun)) (rw begun at c.windows.invariant) c.digest_window.ensures)
+    (omega (arith, c.windows.auto.digests, c.requires)) (omega (arith, c.min-end.ensures, begun)) (rw begun at c.windows.invariant)
+    c.digest_window.ensures)

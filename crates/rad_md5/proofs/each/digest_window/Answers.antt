@@ -17,7 +17,15 @@ groups-preserved c = λ k below.
           let few : k - start < n = omega (arith, c.min-end.ensures) in
           let place : start + (k - start) ≡ k = omega arith in
           let size : k - start < length (take n (drop start places)) =
-          omega (arith, few, length-take n (drop start places), length-drop start places, c.shortest_first-places.ensures.all, c.requires.few, below) in
+          omega (
+            arith,
+            few,
+            length-take n (drop start places),
+            length-drop start places,
+            c.shortest_first-places.ensures.all,
+            c.requires.few,
+            below,
+          ) in
           rw (mid_place places start n (k - start) few, place) at (c.digest_group.ensures.placed (k - start) size)
     ]
 

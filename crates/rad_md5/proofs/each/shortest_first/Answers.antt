@@ -15,7 +15,8 @@ numbers c = (
 count_sorted : (c : After-sort_unstable_by_key) → length c.sort_unstable_by_key.new.self ≡ length c.args.messages.now
 count_sorted c =
     c.sort_unstable_by_key.ensures.len
-    ∙ length-take-le (length c.args.messages.now) c.in_order-places.result (omega (arith, c.requires, c.in_order-places.ensures.all))
+    ∙ length-take-le (length c.args.messages.now) c.in_order-places.result
+    (omega (arith, c.requires, c.in_order-places.ensures.all))
 
 pub returns-clause-every : goal.returns-clause-every
 returns-clause-every c =

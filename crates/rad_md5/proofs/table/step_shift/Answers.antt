@@ -8,6 +8,8 @@ use Rattle.rad_md5.proofs.table.step_shift.Goals as goal
 
 pub returns-clause-bound : goal.returns-clause-bound
 returns-clause-bound c = (
-  ltb-true 0 _ (All-get_or (λ s. IsTrue (nat_lt 0 s)) step_shifts c.args.t 0 c.requires (AllPass-from_list_all (λ s. nat_lt 0 s) step_shifts refl)),
-  ltb-true _ 32 (All-get_or (λ s. IsTrue (nat_lt s 32)) step_shifts c.args.t 0 c.requires (AllPass-from_list_all (λ s. nat_lt s 32) step_shifts refl)),
+  ltb-true 0 _ (All-get_or (λ s. IsTrue (nat_lt 0 s)) step_shifts c.args.t 0 c.requires
+      (AllPass-from_list_all (λ s. nat_lt 0 s) step_shifts refl)),
+  ltb-true _ 32 (All-get_or (λ s. IsTrue (nat_lt s 32)) step_shifts c.args.t 0 c.requires
+      (AllPass-from_list_all (λ s. nat_lt s 32) step_shifts refl)),
 )

@@ -8,4 +8,5 @@ pub returns : goal.returns
 returns c =
     let rows = c.self.inside.rows.items in
     let others = c.other.inside.rows.items in
-    rw (← c.self.view_is, ← c.other.view_is) (Decides-like c.same_rows.result (ap row_clients) (row_clients-injective rows others) (search rules))
+    rw (← c.self.view_is, ← c.other.view_is)
+    (Decides-like c.same_rows.result (ap row_clients) (row_clients-injective rows others) (search rules))

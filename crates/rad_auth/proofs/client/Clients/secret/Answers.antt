@@ -7,5 +7,7 @@ use Rattle.rad_auth.proofs.client.Clients.secret.Goals as goal
 
 pub returns : goal.returns
 returns c =
-    let within : c.args.place < length c.self.inside.rows.items = omega (arith, rw (← c.self.view_is, length-map c.self.inside.rows.items row_client) at c.requires) in
-    rw (← c.self.view_is) (ap (λ (client : Client). client.secret) (client-at_row c.self.inside.rows.items c.args.place c.index.result.now within c.index.ensures))
+    let within : c.args.place < length c.self.inside.rows.items =
+    omega (arith, rw (← c.self.view_is, length-map c.self.inside.rows.items row_client) at c.requires) in
+    rw (← c.self.view_is) (ap (λ (client : Client). client.secret)
+    (client-at_row c.self.inside.rows.items c.args.place c.index.result.now within c.index.ensures))

@@ -9,4 +9,5 @@ returns-in-UserPassword c =
     let one : IsTrue (fits_lane c.args.self.now) = grind (arith, common_steps) in
     let digest = rw c.in-UserPassword.is at (c.requires one) in
     rw c.in-UserPassword.is
-    (c.password_right_by.ensures c.in-UserPassword.hidden.secret.now c.in-UserPassword.hidden.request_authenticator c.in-UserPassword.hidden.long digest)
+    (c.password_right_by.ensures c.in-UserPassword.hidden.secret.now c.in-UserPassword.hidden.request_authenticator
+    c.in-UserPassword.hidden.long digest)

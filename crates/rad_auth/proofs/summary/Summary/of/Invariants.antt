@@ -9,10 +9,12 @@ use Rattle.rad_auth.proofs.summary.Summary.of.Given as goal
 -- what is found in the attributes so far, with what those that are left say, is what all say
 abbrev pub invariant-loop-attribute : goal.invariant-loop-attribute
 invariant-loop-attribute l = record {
-  message_authenticators : l.summary.message_authenticators + count type_message_authenticator l.rest ≡ count type_message_authenticator l.fn.attributes;
+  message_authenticators : l.summary.message_authenticators + count type_message_authenticator l.rest
+      ≡ count type_message_authenticator l.fn.attributes;
   octets_after_hmac : option_or l.summary.octets_after_hmac (octets_after_hmac l.rest) ≡ octets_after_hmac l.fn.attributes;
   has_eap_message : (l.summary.has_eap_message || has type_eap_message l.rest) ≡ has type_eap_message l.fn.attributes;
-  has_status_type : (l.summary.has_status_type || has_len type_acct_status_type integer_size l.rest) ≡ has_len type_acct_status_type integer_size l.fn.attributes;
+  has_status_type : (l.summary.has_status_type || has_len type_acct_status_type integer_size l.rest)
+      ≡ has_len type_acct_status_type integer_size l.fn.attributes;
   proxy_states : l.summary.proxy_states + size (of_kind type_proxy_state l.rest) ≡ size (of_kind type_proxy_state l.fn.attributes);
   each : AllByRecursion IsAttribute l.rest;
 }
