@@ -1,5 +1,6 @@
 -- What a whole turn receives from each socket.
-use Rattle.std.proofs.Common.{◌≡◌, ℕ, zero, suc, ◌+◌, ◌-◌, ◌≤◌, min, Bool, true, false, if◌then◌else◌, List, [], ◌∷◌, refl, arith, nat_lt, find}
+use Rattle.std.proofs.Common.{◌≡◌, ℕ, zero, suc, ◌+◌, ◌-◌, ◌≤◌, min, Bool, true, false, if◌then◌else◌, List, [], ◌∷◌, refl, arith}
+use Rattle.std.proofs.Common.{nat_lt, find}
 use Rattle.std.proofs.lemmas.Bool.Decides.{nat_tests}
 use Rattle.rad_auth.specs.declared.arrival.Door.{Door}
 use Rattle.rad_auth.specs.declared.arrival.Door.TheVariants.{Auth, Acct}
@@ -32,10 +33,13 @@ leaves-tested : (count : ℕ) (turn after : Receiving) (is_left auth acct : Bool
     → Leaves (suc count) turn after
 leaves-tested count turn after true true _ l a c h = record { auth = grind (arith, nat_tests); acct = grind (arith, nat_tests) }
 leaves-tested count turn after true false true l a c h = record { auth = grind (arith, nat_tests); acct = grind (arith, nat_tests) }
-leaves-tested count turn after true false false l a c h = record { auth = grind (arith, nat_tests); acct = grind (arith, nat_tests) }
+leaves-tested count turn after true false false l a c h =
+    record { auth = grind (arith, nat_tests); acct = grind (arith, nat_tests) }
 leaves-tested count turn after false _ true l a c h = record { auth = grind (arith, nat_tests); acct = grind (arith, nat_tests) }
-leaves-tested count turn after false true false l a c h = record { auth = grind (arith, nat_tests); acct = grind (arith, nat_tests) }
-leaves-tested count turn after false false false l a c h = record { auth = grind (arith, nat_tests); acct = grind (arith, nat_tests) }
+leaves-tested count turn after false true false l a c h =
+    record { auth = grind (arith, nat_tests); acct = grind (arith, nat_tests) }
+leaves-tested count turn after false false false l a c h =
+    record { auth = grind (arith, nat_tests); acct = grind (arith, nat_tests) }
 
 leaves : (count : ℕ) (turn : Receiving) → Leaves count turn (after_receives count turn)
 unfolding after_receives

@@ -1,7 +1,9 @@
 -- A life, from the server that was restored to what a crash leaves of it, goes on with the one run.
-use Rattle.std.proofs.Common.{◌≡◌, ◌≤◌, ◌⊎◌, ℕ, Bool, false, List, [], ◌∷◌, ◌++◌, map, All, Contains, Option, Some, None, IfSome, OnOk, Result, Ok, Err, IsTrue, is_err, inl, inr, refl, sym, ap, subst, ◌∙◌, ⊎_elim}
+use Rattle.std.proofs.Common.{◌≡◌, ◌≤◌, ◌⊎◌, ℕ, Bool, false, List, [], ◌∷◌, ◌++◌, map, All, Contains, Option, Some, None, IfSome}
+use Rattle.std.proofs.Common.{OnOk, Result, Ok, Err, IsTrue, is_err, inl, inr, refl, sym, ap, subst, ◌∙◌, ⊎_elim}
 use Rattle.std.proofs.lemmas.List.{append-nil, append_assoc}
-use Rattle.std.proofs.lemmas.List.Elements.{All-append, All-contains_itself, All-nil, All-weaker, Contains-append_left, Contains-append_right}
+use Rattle.std.proofs.lemmas.List.Elements.{All-append, All-contains_itself, All-nil, All-weaker, Contains-append_left}
+use Rattle.std.proofs.lemmas.List.Elements.{Contains-append_right}
 use Rattle.rad_config.specs.Configurations.{Configuration}
 use Rattle.rad_config.specs.Ranges.{IsConfiguration}
 use Rattle.rad_config.specs.Spans.{moment_max}
@@ -16,16 +18,20 @@ use Rattle.rad_journal.specs.Restores.{AreKept, IsRestored, RepliedAreKept}
 use Rattle.rad_journal.specs.declared.kept.Kept.{Kept}
 use Rattle.rad_journal.proofs.RefusalLemmas.{one_next}
 use Rattle.rad_shell.specs.Passages.{Came, Fault, HavePassed, In, Passage, Went, clock_told}
-use Rattle.rad_shell.specs.Serving.{AreTurns, IsAnswered, IsBetween, IsMade, IsTurn, Situation, Tally, between, came_of, ended, no_turn, nothing_done, one_more, passages, replies, with_turn}
+use Rattle.rad_shell.specs.Serving.{AreTurns, IsAnswered, IsBetween, IsMade, IsTurn, Situation, Tally, between, came_of, ended}
+use Rattle.rad_shell.specs.Serving.{no_turn, nothing_done, one_more, passages, replies, with_turn}
 use Rattle.rad_shell.specs.declared.serve_fault.ServeFault.{ServeFault}
 use Rattle.rad_shell.specs.declared.serve_fault.ServeFault.TheVariants as faults
 use Rattle.rad_shell.proofs.KeepingLemmas.{all_added}
 use Rattle.rad_shell.proofs.PassageLemmas.{both_passed, none_passed}
 use Rattle.rad_serve.specs.Calls.{AreCalls, MadeCalls, cannot_begin, next_call, no_call}
 use Rattle.rad_state.specs.Generations.{Generation, fresh_server, just_begun}
-use Rattle.rad_serve.specs.Lives.{IsLeft, IsOneRun, IsReached, IsReplyIn, IsRunFrom, LivesAreOneRun, by_carrying, by_run, fresh, marked_of, went_among, went_since}
-use Rattle.rad_serve.proofs.RepliedLemmas.{all_first, all_since, among_both, among_in, among_told, among_turn, replies_in, since_both}
-use Rattle.rad_serve.proofs.ServesLemmas.{all_counted, kept_append, marked_counted, marked_run, reply_in_counted, reply_in_first, reply_in_later, serves_append, serves_counted}
+use Rattle.rad_serve.specs.Lives.{IsLeft, IsOneRun, IsReached, IsReplyIn, IsRunFrom, LivesAreOneRun, by_carrying, by_run, fresh}
+use Rattle.rad_serve.specs.Lives.{marked_of, went_among, went_since}
+use Rattle.rad_serve.proofs.RepliedLemmas.{all_first, all_since, among_both, among_in, among_told, among_turn, replies_in}
+use Rattle.rad_serve.proofs.RepliedLemmas.{since_both}
+use Rattle.rad_serve.proofs.ServesLemmas.{all_counted, kept_append, marked_counted, marked_run, reply_in_counted, reply_in_first}
+use Rattle.rad_serve.proofs.ServesLemmas.{reply_in_later, serves_append, serves_counted}
 
 -- the laws that this rests on
 pub record AreLaws : Type 0 where
@@ -38,7 +44,8 @@ pub record AreLaws : Type 0 where
 -- ---- what is kept leads to one state
 
 one_state : (configuration : Configuration) (before : State) (kept : List Kept) (first second : List Entry) (one two : State)
-    → Run configuration before first one → AreKept first kept → Run configuration before second two → AreKept second kept → one ≡ two
+    → Run configuration before first one → AreKept first kept → Run configuration before second two → AreKept second kept
+    → one ≡ two
 one_state configuration before kept [] [] one two here a_are there b_are = sym here ∙ there
 one_state configuration before [] [] (entry ∷ second) one two here a_are there b_are = absurd b_are
 one_state configuration before (this ∷ kept) [] (entry ∷ second) one two here a_are there b_are = absurd a_are
@@ -46,7 +53,8 @@ one_state configuration before [] (entry ∷ first) second one two here a_are th
 one_state configuration before (this ∷ kept) (entry ∷ first) [] one two here a_are there b_are = absurd b_are
 one_state configuration before (this ∷ kept) (a ∷ first) (b ∷ second) one two here a_are there b_are =
     let same : there.0 ≡ here.0 = one_next configuration before this b a there.0 here.0 there.1 b_are.0 here.1 a_are.0 in
-    one_state configuration here.0 kept first second one two here.2 a_are.1 (subst (λ s. Run configuration s second two) same there.2) b_are.1
+    one_state configuration here.0 kept first second one two here.2 a_are.1
+    (subst (λ s. Run configuration s second two) same there.2) b_are.1
 
 -- ---- where a life stands
 
@@ -70,7 +78,8 @@ stands_as base kept kept_now sent sent_now server same as_well stands =
     subst (λ s. StandsAt base kept_now s server) as_well (subst (λ k. StandsAt base k sent server) same stands)
 
 -- a server that was restored has the state of the run
-restored_like : (base server : Server) (kept : List Kept) (sent : List Went) → IsRestored base kept server → (run : IsRunFrom base kept sent)
+restored_like : (base server : Server) (kept : List Kept) (sent : List Went) → IsRestored base kept server
+    → (run : IsRunFrom base kept sent)
     → IsLikeFromNow server.state run.state
 restored_like base server kept sent restored run =
     let marked = marked_run base.configuration base.state run.history run.marks run.state run.serves in
@@ -81,7 +90,8 @@ restored_like base server kept sent restored run =
 
 -- a server that was restored
 restored_stands : (base server : Server) (kept : List Kept) (sent : List Went) → server.configuration ≡ base.configuration
-    → IsLawful server.configuration server.state → IsRestored base kept server → IsRunFrom base kept sent → StandsAt base kept sent server
+    → IsLawful server.configuration server.state → IsRestored base kept server → IsRunFrom base kept sent
+    → StandsAt base kept sent server
 restored_stands base server kept sent configured lawful restored run =
     record {
       run = run;
@@ -102,10 +112,12 @@ run_stands : AreLaws → (base : Server) (kept : List Kept) (sent : List Went) (
 run_stands laws base kept sent before history marks wall went after valid stands marked configured replied =
     let so_far = stands.run in
     let clock : ℕ = before.state.clock in
-    let more = serves_counted laws.fresh laws.runs base.configuration before.state after.state so_far.state history marks valid stands.lawful marked
+    let more = serves_counted laws.fresh laws.runs base.configuration before.state after.state so_far.state history marks valid
+    stands.lawful marked
     stands.like in
     let fresh : List Entry = fresh_of clock history marks in
-    let alike = laws.fresh base.configuration before.state after.state before.state history marks valid stands.lawful marked (λ moment le. refl) in
+    let alike = laws.fresh base.configuration before.state after.state before.state history marks valid stands.lawful marked
+    (λ moment le. refl) in
     let are_fresh : AreKept fresh (kept_of wall fresh) = laws.replied wall fresh alike.replied in
     let are_marked : AreKept (marked_of (all_counted clock history) marks) (kept_of wall fresh) =
     subst (λ list. AreKept list (kept_of wall fresh)) (sym (marked_counted clock history marks)) are_fresh in
@@ -117,11 +129,13 @@ run_stands laws base kept sent before history marks wall went after valid stands
         state = more.state;
         serves = serves_append base.configuration base.state so_far.state more.state so_far.history so_far.marks
             (all_counted clock history) marks so_far.serves more.serves;
-        kept = kept_append base.configuration base.state so_far.state so_far.history so_far.marks kept (all_counted clock history) marks
+        kept = kept_append base.configuration base.state so_far.state so_far.history so_far.marks kept
+            (all_counted clock history) marks
             (kept_of wall fresh) so_far.serves so_far.kept are_marked;
         replied = All-append (IsReplyIn base.configuration.clients whole) sent went
             (All-weaker (IsReplyIn base.configuration.clients so_far.history) (IsReplyIn base.configuration.clients whole)
-            (λ one is. reply_in_first base.configuration.clients so_far.history (all_counted clock history) one is) sent so_far.replied)
+            (λ one is. reply_in_first base.configuration.clients so_far.history (all_counted clock history) one is) sent
+            so_far.replied)
             (All-weaker (IsReplyIn base.configuration.clients history) (IsReplyIn base.configuration.clients whole)
             (λ one is. reply_in_later base.configuration.clients so_far.history (all_counted clock history) one
             (reply_in_counted base.configuration.clients clock history one is))
@@ -153,7 +167,8 @@ run_stands laws base kept sent before history marks wall went after valid stands
 -- a round from where a life stands, of which the first replies went
 round_stands : AreLaws → (keeps : Bool) (base : Server) (kept : List Kept) (sent : List Went) (before after : Situation)
     (came : List Came)
-    (outcomes : List Outcome) (history : List Entry) (more : List Kept) (went left : List Went) → IsTrue keeps → IsConfiguration base.configuration
+    (outcomes : List Outcome) (history : List Entry) (more : List Kept) (went left : List Went) → IsTrue keeps
+    → IsConfiguration base.configuration
     → StandsAt base kept sent before.server → IsAnswered keeps before came outcomes history more after
     → went ++ left ≡ replies came outcomes
     → StandsAt base (kept ++ more) (sent ++ went) after.server
@@ -162,14 +177,17 @@ round_stands laws keeps base kept sent before after came outcomes history more w
     replies_in before.server.configuration.clients history answered.arrivals outcomes answered.round.answered in
     let some : All (IsReplyIn before.server.configuration.clients history) went =
     all_first (IsReplyIn before.server.configuration.clients history) went left
-    (subst (All (IsReplyIn before.server.configuration.clients history)) (ap (λ list. replies list outcomes) answered.arrived ∙ sym replied) all) in
+    (subst (All (IsReplyIn before.server.configuration.clients history))
+    (ap (λ list. replies list outcomes) answered.arrived ∙ sym replied) all) in
     let same : kept_of answered.wall (fresh_of before.server.state.clock history answered.marks) ≡ more =
     sym (answered.fresh ∙ all_added keeps _ is) in
-    stands_as base (kept ++ kept_of answered.wall (fresh_of before.server.state.clock history answered.marks)) (kept ++ more) (sent ++ went)
+    stands_as base (kept ++ kept_of answered.wall (fresh_of before.server.state.clock history answered.marks)) (kept ++ more)
+    (sent ++ went)
     (sent ++ went) after.server (ap (λ list. kept ++ list) same) refl
     (run_stands laws base kept sent before.server history answered.marks answered.wall went after.server valid stands
     (subst (λ c. MarkedRun c before.server.state history answered.marks after.server.state) stands.configured answered.marked.run)
-    (answered.marked.configuration ∙ stands.configured) (subst (λ c. All (IsReplyIn c.clients history) went) stands.configured some))
+    (answered.marked.configuration ∙ stands.configured)
+    (subst (λ c. All (IsReplyIn c.clients history) went) stands.configured some))
 
 -- ---- turns
 
@@ -199,7 +217,8 @@ leaves_settled base kept sent passed tally after on = record {
   without = on.stands.run;
   with_last = run_as base (kept ++ tally.kept) (kept ++ (tally.kept ++ tally.unkept)) (sent ++ went_among on.gone)
       (sent ++ went_among on.gone)
-      (ap (λ list. kept ++ list) (sym (append-nil tally.kept) ∙ ap (λ list. tally.kept ++ list) (sym on.settled))) refl on.stands.run;
+      (ap (λ list. kept ++ list) (sym (append-nil tally.kept) ∙ ap (λ list. tally.kept ++ list) (sym on.settled))) refl
+      on.stands.run;
 }
 
 -- how turns end, by their result
@@ -224,13 +243,15 @@ idle_goes_on base kept sent before gone tally after stands passed none same kept
   have_passed = passed;
   stands = subst (StandsAt base (kept ++ tally.kept) (sent ++ went_among gone)) (sym same)
       (stands_as base kept (kept ++ tally.kept) sent (sent ++ went_among gone) before.server
-      (sym (append-nil kept) ∙ ap (λ list. kept ++ list) (sym kept_none)) (sym (append-nil sent) ∙ ap (λ list. sent ++ list) (sym none)) stands);
+      (sym (append-nil kept) ∙ ap (λ list. kept ++ list) (sym kept_none))
+      (sym (append-nil sent) ∙ ap (λ list. sent ++ list) (sym none)) stands);
   settled = unkept_none;
 }
 
 -- a round is made and kept, and some replies of it went
 made_goes_on : AreLaws → (keeps : Bool) (base : Server) (kept : List Kept) (sent : List Went) (before : Situation) (tally : Tally)
-    (left : List Went) (after : Situation) → IsTrue keeps → IsConfiguration base.configuration → StandsAt base kept sent before.server
+    (left : List Went) (after : Situation) → IsTrue keeps → IsConfiguration base.configuration
+    → StandsAt base kept sent before.server
     → IsMade keeps before tally.history tally.kept left after → tally.unkept ≡ [] → GoesOn base kept sent before.passed tally after
 made_goes_on laws keeps base kept sent before tally left after is valid stands made none = record {
   gone = passages made.came made.went left;
@@ -269,7 +290,8 @@ turn_ends laws keeps base kept sent before tally (Err faults.Mismatch) after is 
 turn_ends laws keeps base kept sent before tally (Err (faults.Journal fault)) after is valid stands turn =
     let unkept = turn.0 in
     let none : went_among (passages unkept.came [] []) ≡ [] = among_turn unkept.came [] [] in
-    let same : sent ≡ sent ++ went_among (passages unkept.came [] []) = sym (append-nil sent) ∙ ap (λ list. sent ++ list) (sym none) in
+    let same : sent ≡ sent ++ went_among (passages unkept.came [] []) =
+    sym (append-nil sent) ∙ ap (λ list. sent ++ list) (sym none) in
     let lasts = round_stands laws keeps base kept sent before after unkept.came unkept.outcomes tally.history tally.unkept []
     (replies unkept.came unkept.outcomes) is valid stands unkept.answered refl in
     record {
@@ -287,7 +309,8 @@ turn_ends laws keeps base kept sent before tally (Err (faults.Journal fault)) af
 -- turns that went well, and what follows them
 then_ends : (base : Server) (kept : List Kept) (sent : List Went) (passed : Option (List Passage)) (leads : Option ℕ)
     (tally more : Tally)
-    (middle : Situation) (result : Result (Unit {0}) ServeFault) (after : Situation) → (first : GoesOn base kept sent passed tally middle)
+    (middle : Situation) (result : Result (Unit {0}) ServeFault) (after : Situation)
+    → (first : GoesOn base kept sent passed tally middle)
     → Ends base (kept ++ tally.kept) (sent ++ went_among first.gone) middle.passed more result after
     → Ends base kept sent passed (with_turn leads tally more) result after
 then_ends base kept sent passed leads tally more middle (Ok done) after first next = record {
@@ -302,13 +325,15 @@ then_ends base kept sent passed leads tally more middle (Ok done) after first ne
 }
 then_ends base kept sent passed leads tally more middle (Err fault) after first next =
     let went : (sent ++ went_among first.gone) ++ went_among next.gone ≡ sent ++ went_among (first.gone ++ next.gone) =
-    append_assoc sent (went_among first.gone) (went_among next.gone) ∙ ap (λ list. sent ++ list) (sym (among_both first.gone next.gone)) in
+    append_assoc sent (went_among first.gone) (went_among next.gone)
+    ∙ ap (λ list. sent ++ list) (sym (among_both first.gone next.gone)) in
     record {
       gone = first.gone ++ next.gone;
       have_passed = both_passed first.gone next.gone passed middle.passed after.passed first.have_passed next.have_passed;
       without = run_as base ((kept ++ tally.kept) ++ more.kept) (kept ++ (tally.kept ++ more.kept)) _ _
           (append_assoc kept tally.kept more.kept) went next.without;
-      with_last = run_as base ((kept ++ tally.kept) ++ (more.kept ++ more.unkept)) (kept ++ ((tally.kept ++ more.kept) ++ more.unkept)) _ _
+      with_last = run_as base ((kept ++ tally.kept) ++ (more.kept ++ more.unkept))
+          (kept ++ ((tally.kept ++ more.kept) ++ more.unkept)) _ _
           (append_assoc kept tally.kept (more.kept ++ more.unkept) ∙ ap (λ list. kept ++ list) (sym
           (append_assoc tally.kept more.kept more.unkept))) went next.with_last;
     }
@@ -316,16 +341,19 @@ then_ends base kept sent passed leads tally more middle (Err fault) after first 
 -- time passes
 stands_in_time : AreLaws → (base : Server) (kept : List Kept) (sent : List Went) (before : Server)
     (passed passed_after : Option (List Passage))
-    (after : Server) → IsConfiguration base.configuration → StandsAt base kept sent before → IsBetween before passed after passed_after
+    (after : Server) → IsConfiguration base.configuration → StandsAt base kept sent before
+    → IsBetween before passed after passed_after
     → StandsAt base kept sent after
 stands_in_time laws base kept sent before passed passed_after after valid stands is = record {
   run = stands.run;
-  like = subst (λ s. IsLikeFromNow s stands.run.state) (sym is.state) (laws.time before.state stands.run.state is.moment stands.like);
+  like = subst (λ s. IsLikeFromNow s stands.run.state) (sym is.state)
+      (laws.time before.state stands.run.state is.moment stands.like);
   configured = is.configuration ∙ stands.configured;
   lawful = subst (IsLawful base.configuration) (sym is.state) (by_moment is.moment is.within);
 }
   where
-    by_moment : (moment : Option ℕ) → IfSome moment (λ m. m ≤ moment_max) → IsLawful base.configuration (when_passed moment before.state)
+    by_moment : (moment : Option ℕ) → IfSome moment (λ m. m ≤ moment_max)
+        → IsLawful base.configuration (when_passed moment before.state)
     by_moment None within = stands.lawful
     by_moment (Some moment) within = laws.passing base.configuration before.state moment valid within stands.lawful
 
@@ -337,15 +365,18 @@ nothing_goes_on base kept sent now stands =
 
 turns_end : AreLaws → (keeps : Bool) (before : Situation) (base : Server) (kept : List Kept) (sent : List Went) → IsTrue keeps
     → IsConfiguration base.configuration → StandsAt base kept sent before.server
-    → {turns : ℕ} {tally : Tally} {result : Result (Unit {0}) ServeFault} {after : Situation} → AreTurns keeps before turns tally result after
+    → {turns : ℕ} {tally : Tally} {result : Result (Unit {0}) ServeFault} {after : Situation}
+    → AreTurns keeps before turns tally result after
     → Ends base kept sent before.passed tally result after
 turns_end laws keeps before base kept sent is valid stands no_turn = nothing_goes_on base kept sent before stands
 turns_end laws keeps before base kept sent is valid stands
     (one_more {tally = tally} {middle = middle} more {result = result} {after = after} leads turned turn) =
     let first = turns_end laws keeps before base kept sent is valid stands turned in
     then_ends base kept sent before.passed leads.passed tally more middle result after first
-    (turn_ends laws keeps base (kept ++ tally.kept) (sent ++ went_among first.gone) middle more result after is valid first.stands turn)
-turns_end laws keeps before base kept sent is valid stands (between {tally = tally} {middle = middle} server passed turned is_between) =
+    (turn_ends laws keeps base (kept ++ tally.kept) (sent ++ went_among first.gone) middle more result after is valid
+    first.stands turn)
+turns_end laws keeps before base kept sent is valid stands
+    (between {tally = tally} {middle = middle} server passed turned is_between) =
     let first = turns_end laws keeps before base kept sent is valid stands turned in
     let told : List Passage = clock_told is_between.moment in
     let went : sent ++ went_among first.gone ≡ sent ++ went_among (first.gone ++ told) =
@@ -374,10 +405,11 @@ begun base = record {
   replied = All-nil (IsReplyIn base.configuration.clients []);
 }
 
--- Where calls stand: a base was reached, what was kept since is a run from there, and all that was kept and sent, before the calls and in
--- them, is of these. Where no generation begins, no more have ended than at first. `Holds` is what is known of the base and of what was kept
--- since.
-pub record IsHere (first all_kept : List Kept) (alone : Type 0) (sent : List Went) (passed : Option (List Passage)) (now : Situation)
+-- Where calls stand: a base was reached, what was kept since is a run from there, and all that was kept and sent, before the calls
+-- and in them, is of these. Where no generation begins, no more have ended than at first. `Holds` is what is known of the base and
+-- of what was kept since.
+pub record IsHere (first all_kept : List Kept) (alone : Type 0) (sent : List Went) (passed : Option (List Passage))
+    (now : Situation)
     (Holds : Server → List Kept → Type 0) : Type 0 where
   pub base : Server
   pub kept : List Kept
@@ -397,7 +429,8 @@ pub record IsHere (first all_kept : List Kept) (alone : Type 0) (sent : List Wen
 -- before the first call
 pub here_first : (first : List Kept) (alone : Type 0) (base : Server) (kept : List Kept) (sent : List Went) (now : Situation)
     (Holds : Server → List Kept → Type 0)
-    → IsConfiguration now.server.configuration → IsLawful now.server.configuration now.server.state → now.server.configuration ≡ base.configuration
+    → IsConfiguration now.server.configuration → IsLawful now.server.configuration now.server.state
+    → now.server.configuration ≡ base.configuration
     → IsRestored base kept now.server → IsOneRun first (record { base = base; entries = kept }) sent → Holds base kept
     → IsHere first ((first ++ kept) ++ []) alone sent now.passed now Holds
 here_first first alone base kept sent now Holds valid lawful configured restored one holds = record {
@@ -425,11 +458,13 @@ among_more earlier later sent more gone gone_now is among =
     let whole : List Went = earlier ++ (later ++ more) in
     let first : All (Contains whole) (sent ++ went_among gone) =
     All-weaker (Contains (earlier ++ later)) (Contains whole)
-    (λ one has. subst (λ list. Contains list one) (append_assoc earlier later more) (Contains-append_left (earlier ++ later) more one has))
+    (λ one has. subst (λ list. Contains list one) (append_assoc earlier later more)
+    (Contains-append_left (earlier ++ later) more one has))
     (sent ++ went_among gone) among in
     let last : All (Contains whole) more =
     All-weaker (Contains more) (Contains whole)
-    (λ one has. Contains-append_right earlier (later ++ more) one (Contains-append_right later more one has)) more (All-contains_itself more) in
+    (λ one has. Contains-append_right earlier (later ++ more) one (Contains-append_right later more one has)) more
+    (All-contains_itself more) in
     subst (All (Contains whole))
     (append_assoc sent (went_among gone) more
     ∙ ap (λ list. sent ++ list) (ap (λ list. went_among gone ++ list) (sym is) ∙ sym (among_both gone gone_now)))
@@ -438,7 +473,8 @@ among_more earlier later sent more gone gone_now is among =
 -- a generation begins at the server as it stands
 pub here_anew : (first all_kept : List Kept) (alone : Type 0) (sent : List Went) (passed : Option (List Passage)) (now : Situation)
     (Holds HoldsNow : Server → List Kept → Type 0) → (alone → ⊥)
-    → IsHere first all_kept alone sent passed now Holds → HoldsNow now.server [] → IsHere first all_kept alone sent passed now HoldsNow
+    → IsHere first all_kept alone sent passed now Holds → HoldsNow now.server []
+    → IsHere first all_kept alone sent passed now HoldsNow
 unfolding begun
 here_anew first all_kept alone sent passed now Holds HoldsNow other here holds = record {
   base = now.server;
@@ -451,7 +487,8 @@ here_anew first all_kept alone sent passed now Holds HoldsNow other here holds =
   all = append-nil (here.ended ++ here.kept) ∙ here.all;
   same = λ is. absurd (other is);
   reached = subst
-      (λ c. IsReached (record { configuration = c; state = now.server.state }) (here.ended ++ here.kept) (here.earlier ++ here.later))
+      (λ c. IsReached (record { configuration = c; state = now.server.state }) (here.ended ++ here.kept)
+      (here.earlier ++ here.later))
       (sym here.stands.configured)
       (by_run here.kept here.later now.server.state here.reached here.stands.run here.stands.like here.stands.lawful);
   stands = record {
@@ -460,13 +497,15 @@ here_anew first all_kept alone sent passed now Holds HoldsNow other here holds =
     configured = refl;
     lawful = subst (λ c. IsLawful c now.server.state) (sym here.stands.configured) here.stands.lawful;
   };
-  among = subst (λ list. All (Contains list) (sent ++ went_among here.gone)) (sym (append-nil (here.earlier ++ here.later))) here.among;
+  among = subst (λ list. All (Contains list) (sent ++ went_among here.gone)) (sym (append-nil (here.earlier ++ here.later)))
+      here.among;
   valid = subst IsConfiguration (sym here.stands.configured) here.valid;
   holds = holds;
 }
 
 -- where calls went after one more
-pub call_goes_on : AreLaws → (keeps : Bool) (first kept : List Kept) (alone : Type 0) (so_far : Tally) (leads : Option ℕ) (sent : List Went)
+pub call_goes_on : AreLaws → (keeps : Bool) (first kept : List Kept) (alone : Type 0) (so_far : Tally) (leads : Option ℕ)
+    (sent : List Went)
     (passed : Option (List Passage)) (middle : Situation) (Holds HoldsNow : Server → List Kept → Type 0) → IsTrue keeps
     → (here : IsHere first (kept ++ so_far.kept) alone sent passed middle Holds)
     → (turns : ℕ) (tally : Tally) (after : Situation) → AreTurns keeps middle turns tally (Ok tt) after
@@ -497,20 +536,25 @@ call_goes_on laws keeps first kept alone so_far leads sent passed middle Holds H
 pub same_generation : (left : Generation) (base : Server) (kept : List Kept) → left.base ≡ base → left.entries ≡ kept
     → record { base = base; entries = kept } ≡ left
 same_generation left base kept is are =
-    sym (ap (λ (b : Server). record { base = b; entries = left.entries }) is ∙ ap (λ (k : List Kept). record { base = base; entries = k }) are)
+    sym (ap (λ (b : Server). record { base = b; entries = left.entries }) is
+    ∙ ap (λ (k : List Kept). record { base = base; entries = k }) are)
 
 -- what one more call leaves, however it ends
-pub call_leaves : AreLaws → (keeps : Bool) (first kept : List Kept) (alone : Type 0) (so_far : Tally) (leads : Option ℕ) (sent : List Went)
+pub call_leaves : AreLaws → (keeps : Bool) (first kept : List Kept) (alone : Type 0) (so_far : Tally) (leads : Option ℕ)
+    (sent : List Went)
     (passed : Option (List Passage)) (middle : Situation) (Holds : Server → List Kept → Type 0) → IsTrue keeps
     → (here : IsHere first (kept ++ so_far.kept) alone sent passed middle Holds)
-    → (turns : ℕ) (tally : Tally) (result : Result (Unit {0}) ServeFault) (after : Situation) → AreTurns keeps middle turns tally result after
+    → (turns : ℕ) (tally : Tally) (result : Result (Unit {0}) ServeFault) (after : Situation)
+    → AreTurns keeps middle turns tally result after
     → (left : Generation) → left.base ≡ here.base
     → (left.entries ≡ here.kept ++ tally.kept) ⊎ (left.entries ≡ here.kept ++ (tally.kept ++ tally.unkept))
     → IsLeft first kept (with_turn leads so_far tally) alone left (sent ++ went_since passed after.passed)
-call_leaves laws keeps first kept alone so_far leads sent passed middle Holds is here turns tally result after turned left of_base entries =
+call_leaves laws keeps first kept alone so_far leads sent passed middle Holds is here turns tally result after turned left of_base
+    entries =
     let ends = ends_one_run here.base here.kept here.later middle.passed tally result after
     (turns_end laws keeps middle here.base here.kept here.later is here.valid here.stands turned) in
-    let one : (more : List Kept) → left.entries ≡ here.kept ++ more → IsRunFrom here.base (here.kept ++ more) (here.later ++ went_among ends.gone)
+    let one : (more : List Kept) → left.entries ≡ here.kept ++ more
+    → IsRunFrom here.base (here.kept ++ more) (here.later ++ went_among ends.gone)
     → IsOneRun here.ended left (sent ++ went_since passed after.passed) =
     λ more are run. subst (λ g. IsOneRun here.ended g (sent ++ went_since passed after.passed))
     (same_generation left here.base (here.kept ++ more) of_base are)
@@ -519,7 +563,8 @@ call_leaves laws keeps first kept alone so_far leads sent passed middle Holds is
       later = here.later ++ went_among ends.gone;
       reached = here.reached;
       run = run;
-      among = all_since (Contains (here.earlier ++ (here.later ++ went_among ends.gone))) sent (here.gone ++ ends.gone) passed after.passed
+      among = all_since (Contains (here.earlier ++ (here.later ++ went_among ends.gone))) sent (here.gone ++ ends.gone) passed
+          after.passed
           (both_passed here.gone ends.gone passed middle.passed after.passed here.have_passed ends.have_passed)
           (among_more here.earlier here.later sent (went_among ends.gone) here.gone ends.gone refl here.among);
     }) in
@@ -527,7 +572,12 @@ call_leaves laws keeps first kept alone so_far leads sent passed middle Holds is
     λ more are. ap (λ (list : List Kept). here.ended ++ list) are ∙ sym (append_assoc here.ended here.kept more)
     ∙ ap (λ (list : List Kept). list ++ more) here.all ∙ append_assoc kept so_far.kept more in
     ⊎_elim
-    (λ are. record { ended_now = here.ended; one = one tally.kept are ends.without; all = inl (whole tally.kept are); same = here.same })
+    (λ are. record {
+      ended_now = here.ended;
+      one = one tally.kept are ends.without;
+      all = inl (whole tally.kept are);
+      same = here.same;
+    })
     (λ are. record {
       ended_now = here.ended;
       one = one (tally.kept ++ tally.unkept) are ends.with_last;
@@ -538,7 +588,8 @@ call_leaves laws keeps first kept alone so_far leads sent passed middle Holds is
     entries
 
 -- what is left where calls stand
-pub here_leaves : (first kept : List Kept) (alone : Type 0) (tally : Tally) (sent : List Went) (passed : Option (List Passage)) (now : Situation)
+pub here_leaves : (first kept : List Kept) (alone : Type 0) (tally : Tally) (sent : List Went) (passed : Option (List Passage))
+    (now : Situation)
     (Holds : Server → List Kept → Type 0) → (here : IsHere first (kept ++ tally.kept) alone sent passed now Holds)
     → (left : Generation) → left.base ≡ here.base → left.entries ≡ here.kept
     → IsLeft first kept tally alone left (sent ++ went_since passed now.passed)
@@ -557,7 +608,8 @@ here_leaves first kept alone tally sent passed now Holds here left is are = reco
 }
 
 -- and what is left where a generation may have begun
-pub anew_leaves : (first kept : List Kept) (alone : Type 0) (tally : Tally) (sent : List Went) (passed : Option (List Passage)) (now : Situation)
+pub anew_leaves : (first kept : List Kept) (alone : Type 0) (tally : Tally) (sent : List Went) (passed : Option (List Passage))
+    (now : Situation)
     (Holds : Server → List Kept → Type 0) → (here : IsHere first (kept ++ tally.kept) alone sent passed now Holds)
     → (left : Generation) → (alone → ⊥) → left ≡ just_begun now.server
     → IsLeft first kept tally alone left (sent ++ went_since passed now.passed)
@@ -587,11 +639,13 @@ turn_passed keeps before tally (Err faults.Send) after turn = (passages turn.2.c
 turn_passed keeps before tally (Err faults.Mismatch) after turn = absurd turn
 turn_passed keeps before tally (Err (faults.Journal fault)) after turn = (passages turn.0.came [] [], turn.0.passed)
 
-turns_passed : (keeps : Bool) (before : Situation) {turns : ℕ} {tally : Tally} {result : Result (Unit {0}) ServeFault} {after : Situation}
+turns_passed : (keeps : Bool) (before : Situation) {turns : ℕ} {tally : Tally} {result : Result (Unit {0}) ServeFault}
+    {after : Situation}
     → AreTurns keeps before turns tally result after → HaveMore before.passed after.passed
 turns_passed keeps before no_turn = ([], none_passed before.passed before.passed refl)
 turns_passed keeps before (one_more {tally = tally} {middle = middle} more {result = result} {after = after} leads turned turn) =
-    then_more before.passed middle.passed after.passed (turns_passed keeps before turned) (turn_passed keeps middle more result after turn)
+    then_more before.passed middle.passed after.passed (turns_passed keeps before turned)
+    (turn_passed keeps middle more result after turn)
 turns_passed keeps before (between {middle = middle} server passed turned is_between) =
     then_more before.passed middle.passed passed (turns_passed keeps before turned) (clock_told is_between.moment, is_between.told)
 
@@ -605,8 +659,10 @@ calls_passed keeps before (cannot_begin fault fails called) = calls_passed keeps
 -- ---- a life after a crash
 
 -- all that went since the beginning is what went up to a life, and since
-pub since_beginning : (keeps : Bool) (before after : Situation) (ending : Result (Unit {0}) ServeFault) (ended : List Kept) (left : Generation)
-    → MadeCalls keeps before ending after → IsOneRun ended left (went_since (Some []) before.passed ++ went_since before.passed after.passed)
+pub since_beginning : (keeps : Bool) (before after : Situation) (ending : Result (Unit {0}) ServeFault) (ended : List Kept)
+    (left : Generation)
+    → MadeCalls keeps before ending after
+    → IsOneRun ended left (went_since (Some []) before.passed ++ went_since before.passed after.passed)
     → IsOneRun ended left (went_since (Some []) after.passed)
 since_beginning keeps before after ending ended left made one =
     let more = calls_passed keeps before made.called in
@@ -624,14 +680,16 @@ pub left_alone : (ended kept : List Kept) (tally : Tally) (alone : Type 0) (left
 left_alone ended kept tally alone left sent is left_now = subst (λ list. IsOneRun list left sent) (left_now.same is) left_now.one
 
 -- a server that was just opened
-pub is_fresh : (configuration : Configuration) (first : Server) → first.configuration ≡ configuration → first.state ≡ opening configuration
+pub is_fresh : (configuration : Configuration) (first : Server) → first.configuration ≡ configuration
+    → first.state ≡ opening configuration
     → first ≡ fresh_server configuration
 is_fresh configuration first configured opens =
     ap (λ (c : Configuration). record { configuration = c; state = first.state }) configured
     ∙ ap (λ (s : State). record { configuration = configuration; state = s }) opens
 
 -- a server was restored from a fresh one
-pub restored_fresh : (configuration : Configuration) (first restored server : Server) (kept kept_now : List Kept) → first.configuration ≡ configuration
+pub restored_fresh : (configuration : Configuration) (first restored server : Server) (kept kept_now : List Kept)
+    → first.configuration ≡ configuration
     → first.state ≡ opening configuration → IsRestored first kept restored → kept_now ≡ kept → server ≡ restored
     → IsRestored (fresh_server configuration) kept_now server
 restored_fresh configuration first restored server kept kept_now configured opens found same_kept same =
@@ -647,7 +705,8 @@ on_ok (Err error) P ok p = absurd cc
 -- ---- before the first life
 
 -- nothing is one run from a fresh server
-pub nothing_yet : (configuration : Configuration) → IsConfiguration configuration → IsOneRun [] (just_begun (fresh_server configuration)) []
+pub nothing_yet : (configuration : Configuration) → IsConfiguration configuration
+    → IsOneRun [] (just_begun (fresh_server configuration)) []
 nothing_yet configuration valid = record {
   earlier = [];
   later = [];
@@ -665,16 +724,19 @@ lives_are_one_run time ended left sent configuration server one valid on =
     let led = on.led in
     let then_server : Server = record { configuration = before.configuration; state = led.state } in
     let like : IsLikeFromNow before.state one.run.state = subst (λ s. IsLikeFromNow s one.run.state) (sym led.passed)
-    (time led.state one.run.state (Some led.moment) (restored_like left.base then_server left.entries one.later led.restored one.run)) in
+    (time led.state one.run.state (Some led.moment)
+    (restored_like left.base then_server left.entries one.later led.restored one.run)) in
     let sent_before : List Went = one.earlier ++ one.later in
     let reached : IsReached before (ended ++ left.entries) sent_before = subst
     (λ c. IsReached (record { configuration = c; state = before.state }) (ended ++ left.entries) sent_before)
     (sym led.configured)
-    (by_run left.entries one.later before.state one.reached one.run like (subst (λ c. IsLawful c before.state) led.configured led.lawful)) in
+    (by_run left.entries one.later before.state one.reached one.run like
+    (subst (λ c. IsLawful c before.state) led.configured led.lawful)) in
     record {
       earlier = sent_before;
       later = [];
-      reached = subst (λ s. IsReached s (ended ++ left.entries) sent_before) (sym on.carried) (by_carrying configuration valid reached);
+      reached = subst (λ s. IsReached s (ended ++ left.entries) sent_before) (sym on.carried)
+          (by_carrying configuration valid reached);
       run = begun server;
       among = subst (λ list. All (Contains list) sent) (sym (append-nil sent_before)) one.among;
     }

@@ -1,5 +1,6 @@
 -- What went in turns is replies to the entries of their rounds.
-use Rattle.std.proofs.Common.{◌≡◌, ℕ, suc, Bool, true, false, if◌then◌else◌, nat_lt, List, [], ◌∷◌, ◌++◌, map, drop, length, All, Option, Some, None, slice_get, refl, sym, ap, subst, ◌∙◌}
+use Rattle.std.proofs.Common.{◌≡◌, ℕ, suc, Bool, true, false, if◌then◌else◌, nat_lt, List, [], ◌∷◌, ◌++◌, map, drop, length, All}
+use Rattle.std.proofs.Common.{Option, Some, None, slice_get, refl, sym, ap, subst, ◌∙◌}
 use Rattle.std.proofs.lemmas.List.{append-nil}
 use Rattle.std.proofs.lemmas.List.Elements.{All-append, All-cons, All-head, All-nil, All-tail}
 use Rattle.rad_auth.specs.Clients.{Client}
@@ -27,7 +28,8 @@ reply_in clients history number timed Busy is = All-nil (IsReplyIn clients histo
 reply_in clients history number timed NoMemory is = All-nil (IsReplyIn clients history)
 reply_in clients history number timed (Reply frame) (entry, has, of) =
     let origin = admitted_of clients (datagram_of timed.arrival) of.request of.admitted in
-    let went : Went = record { door = timed.arrival.door; address = timed.arrival.source; port = timed.arrival.port; octets = frame } in
+    let went : Went =
+    record { door = timed.arrival.door; address = timed.arrival.source; port = timed.arrival.port; octets = frame } in
     let is : IsReplyOf clients entry went = record {
       request = of.request;
       own = sym of.asked.has_request;
@@ -45,7 +47,8 @@ same_outcome a b is = cc is
 -- each arrival, which counts from a number, has an outcome
 abbrev HaveOutcomes : List Client → List Entry → List Timed → List Outcome → Type 0
 HaveOutcomes clients history arrivals outcomes = (place : ℕ) (timed : Timed) → slice_get arrivals place ≡ Some timed
-    → (outcome : Outcome) × (slice_get outcomes place ≡ Some outcome) × ((number : ℕ) × IsOutcome clients (HasEntry history) number timed outcome)
+    → (outcome : Outcome) × (slice_get outcomes place ≡ Some outcome)
+    × ((number : ℕ) × IsOutcome clients (HasEntry history) number timed outcome)
 
 replies_in_all : (clients : List Client) (history : List Entry) (arrivals : List Timed) (outcomes : List Outcome)
     → HaveOutcomes clients history arrivals outcomes → AreRepliesIn clients history (replies (map came_of arrivals) outcomes)
@@ -61,7 +64,8 @@ replies_in_all clients history (timed ∷ arrivals) (outcome ∷ outcomes) have 
 pub replies_in : (clients : List Client) (history : List Entry) (arrivals : List Timed) (outcomes : List Outcome)
     → AreOutcomes clients arrivals outcomes history → AreRepliesIn clients history (replies (map came_of arrivals) outcomes)
 replies_in clients history arrivals outcomes answered =
-    replies_in_all clients history arrivals outcomes (λ place timed at. let found = answered place timed at in (found.0, found.1, (place, found.2)))
+    replies_in_all clients history arrivals outcomes
+    (λ place timed at. let found = answered place timed at in (found.0, found.1, (place, found.2)))
 
 -- the first ones of a list
 pub all_first : {X : Type 0} (P : X → Type 0) (first rest : List X) → All P (first ++ rest) → All P first
@@ -114,10 +118,13 @@ drop_first [] rest = refl
 drop_first (one ∷ first) rest = drop_first first rest
 
 -- what passed is all that went since, if the ports can tell
-pub all_since : (P : Went → Type 0) (earlier : List Went) (gone : List Passage) (before after : Option (List Passage)) → HavePassed gone before after
+pub all_since : (P : Went → Type 0) (earlier : List Went) (gone : List Passage) (before after : Option (List Passage))
+    → HavePassed gone before after
     → All P (earlier ++ went_among gone) → All P (earlier ++ went_since before after)
-all_since P earlier gone None after passed all = subst (All P) (sym (append-nil earlier)) (all_first P earlier (went_among gone) all)
-all_since P earlier gone (Some before) None passed all = subst (All P) (sym (append-nil earlier)) (all_first P earlier (went_among gone) all)
+all_since P earlier gone None after passed all =
+    subst (All P) (sym (append-nil earlier)) (all_first P earlier (went_among gone) all)
+all_since P earlier gone (Some before) None passed all =
+    subst (All P) (sym (append-nil earlier)) (all_first P earlier (went_among gone) all)
 all_since P earlier gone (Some before) (Some after) passed all =
     subst (λ list. All P (earlier ++ went_among list)) (sym (ap (drop (length before)) passed ∙ drop_first before gone)) all
 
@@ -127,6 +134,7 @@ pub since_both : (gone : List Passage) (before after : Option (List Passage)) �
 since_both gone before None passed P all = All-nil P
 since_both gone None (Some after) passed P all = absurd passed
 since_both gone (Some before) (Some after) passed P all =
-    let rest : went_since (Some before) (Some after) ≡ went_among gone = ap went_among (ap (drop (length before)) passed ∙ drop_first before gone) in
+    let rest : went_since (Some before) (Some after) ≡ went_among gone =
+    ap went_among (ap (drop (length before)) passed ∙ drop_first before gone) in
     let whole : went_among after ≡ went_among before ++ went_among gone = ap went_among passed ∙ among_both before gone in
     subst (All P) (ap (λ list. went_among before ++ list) rest ∙ sym whole) all

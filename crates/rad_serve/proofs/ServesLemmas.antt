@@ -1,5 +1,6 @@
 -- A run with marks is one in which the marked entries lead on, and the others change nothing.
-use Rattle.std.proofs.Common.{◌≡◌, ℕ, zero, suc, Bool, true, false, ◌==◌, if◌then◌else◌, max, List, [], ◌∷◌, ◌++◌, Option, Some, None, arith, refl, sym, ap, subst, ◌∙◌}
+use Rattle.std.proofs.Common.{◌≡◌, ℕ, zero, suc, Bool, true, false, ◌==◌, if◌then◌else◌, max, List, [], ◌∷◌, ◌++◌, Option, Some}
+use Rattle.std.proofs.Common.{None, arith, refl, sym, ap, subst, ◌∙◌}
 use Rattle.std.proofs.lemmas.Bool.{cond_both}
 use Rattle.std.proofs.lemmas.Option.{none-some}
 use Rattle.rad_packet.specs.Bodies.{Body}
@@ -10,10 +11,12 @@ use Rattle.rad_config.specs.Configurations.{Configuration}
 use Rattle.rad_config.specs.Ranges.{IsConfiguration}
 use Rattle.rad_recent.specs.declared.kept.Kept.{Kept as Recent}
 use Rattle.rad_server.specs.Lawful.{IsLawful}
-use Rattle.rad_server.specs.Runs.{FreshAreEnough, IsLikeFromNow, IsMarked, LeadsAlike, MarkedRun, Run, RunsAreLawful, counted, fresh_of}
+use Rattle.rad_server.specs.Runs.{FreshAreEnough, IsLikeFromNow, IsMarked, LeadsAlike, MarkedRun, Run, RunsAreLawful, counted}
+use Rattle.rad_server.specs.Runs.{fresh_of}
 use Rattle.rad_server.specs.Shares.{lacks_room}
 use Rattle.rad_server.specs.States.{State, at_moment}
-use Rattle.rad_server.specs.Steps.{answer, answer_with, is_fresh, reply_by_port, reply_kept, sent_and_kept, session_at, without_reply}
+use Rattle.rad_server.specs.Steps.{answer, answer_with, is_fresh, reply_by_port, reply_kept, sent_and_kept, session_at}
+use Rattle.rad_server.specs.Steps.{without_reply}
 use Rattle.rad_server.specs.declared.answer.Answer.{Answer}
 use Rattle.rad_server.specs.declared.entry.Entry.{Entry}
 use Rattle.rad_server.proofs.FreshLemmas.{at_counted}
@@ -39,8 +42,10 @@ answer_clock configuration current request draw =
     with_kept (Some reply) = refl
     with_kept None =
         let left = without_reply request current in
-        cond_both (lacks_room configuration request.client left.replies) _ _ (λ (r : Answer × State). r.1.clock ≡ current.clock) (λ full. refl)
-        (λ room. sent (reply_by_port request.door configuration left request draw) (reply_leaves request.door configuration left request draw).clock)
+        cond_both (lacks_room configuration request.client left.replies) _ _ (λ (r : Answer × State). r.1.clock ≡ current.clock)
+        (λ full. refl)
+        (λ room. sent (reply_by_port request.door configuration left request draw)
+        (reply_leaves request.door configuration left request draw).clock)
 
 -- ---- a run with marks
 
@@ -53,26 +58,31 @@ pub marked_counted : (clock : ℕ) (history : List Entry) (marks : List Bool) �
     (all_counted clock history) marks ≡ fresh_of clock history marks
 marked_counted clock [] marks = refl
 marked_counted clock (entry ∷ rest) [] = refl
-marked_counted clock (entry ∷ rest) (true ∷ marks) = ap (λ list. counted clock entry ∷ list) (marked_counted (max clock entry.moment) rest marks)
+marked_counted clock (entry ∷ rest) (true ∷ marks) =
+    ap (λ list. counted clock entry ∷ list) (marked_counted (max clock entry.moment) rest marks)
 marked_counted clock (entry ∷ rest) (false ∷ marks) = marked_counted (max clock entry.moment) rest marks
 
 -- a history serves from a state, and leads to one that is like another from now on
-pub record ServesAlike (configuration : Configuration) (other : State) (history : List Entry) (marks : List Bool) (after : State) : Type 0 where
+pub record ServesAlike (configuration : Configuration) (other : State) (history : List Entry) (marks : List Bool)
+    (after : State) : Type 0 where
   pub state : State
   pub serves : Serves configuration other history marks state
   pub like : IsLikeFromNow after state
 
 -- a run from a state serves from each state that is like it
-pub serves_counted : FreshAreEnough → RunsAreLawful → (configuration : Configuration) (before after other : State) (history : List Entry)
+pub serves_counted : FreshAreEnough → RunsAreLawful
+    → (configuration : Configuration) (before after other : State) (history : List Entry)
     (marks : List Bool)
-    → IsConfiguration configuration → IsLawful configuration before → MarkedRun configuration before history marks after → IsLikeFromNow before other
+    → IsConfiguration configuration → IsLawful configuration before → MarkedRun configuration before history marks after
+    → IsLikeFromNow before other
     → ServesAlike configuration other (all_counted before.clock history) marks after
 serves_counted enough all_lawful configuration before after other [] [] valid lawful run like =
     record { state = other; serves = refl; like = subst (λ s. IsLikeFromNow s other) run like }
 serves_counted enough all_lawful configuration before after other [] (mark ∷ marks) valid lawful run like = absurd run
 serves_counted enough all_lawful configuration before after other (entry ∷ rest) [] valid lawful run like = absurd run
 serves_counted enough all_lawful configuration before after other (entry ∷ rest) (mark ∷ marks) valid lawful run like =
-    by_mark (λ state alike. serves_counted enough all_lawful configuration next after state rest marks valid next_lawful run.2 alike) mark refl
+    by_mark (λ state alike. serves_counted enough all_lawful configuration next after state rest marks valid next_lawful run.2
+    alike) mark refl
   where
     next : State
     next = run.0
@@ -84,8 +94,16 @@ serves_counted enough all_lawful configuration before after other (entry ∷ res
     now = max before.clock entry.moment
 
     next_lawful : IsLawful configuration next
-    next_lawful = all_lawful configuration before (entry ∷ []) valid lawful (entry ∷ []) [] next refl
-        (next, record { request = marked.request; asked = marked.asked; answered = marked.answered; session = marked.session }, refl)
+    next_lawful = all_lawful configuration before (entry ∷ []) valid lawful (entry ∷ []) [] next refl (
+      next,
+      record {
+        request = marked.request;
+        asked = marked.asked;
+        answered = marked.answered;
+        session = marked.session;
+      },
+      refl,
+    )
 
     clock : next.clock ≡ now
     clock = ap (λ (r : Answer × State). r.1.clock) (sym marked.answered)
@@ -112,7 +130,8 @@ serves_counted enough all_lawful configuration before after other (entry ∷ res
     marked_by : (b : Bool) → mark ≡ b → IsMarked configuration other (counted before.clock entry) b next
     marked_by b is = subst (λ m. IsMarked configuration other (counted before.clock entry) m next) is exchange
 
-    by_mark : ((state : State) → IsLikeFromNow next state → ServesAlike configuration state (all_counted next.clock rest) marks after) →
+    by_mark : ((state : State) → IsLikeFromNow next state
+        → ServesAlike configuration state (all_counted next.clock rest) marks after) →
         (b : Bool) → mark ≡ b
         → ServesAlike configuration other (all_counted before.clock (entry ∷ rest)) (b ∷ marks) after
     by_mark more true is =
@@ -140,15 +159,18 @@ marked_run configuration before (entry ∷ rest) (true ∷ marks) after serves =
   record { request = serves.1.request; asked = serves.1.asked; answered = serves.1.answered; session = serves.1.session },
   marked_run configuration serves.0 rest marks after serves.2,
 )
-marked_run configuration before (entry ∷ rest) (false ∷ marks) after serves = marked_run configuration before rest marks after serves.2
+marked_run configuration before (entry ∷ rest) (false ∷ marks) after serves =
+    marked_run configuration before rest marks after serves.2
 
 -- ---- one after another
 
-pub serves_append : (configuration : Configuration) (before middle after : State) (first : List Entry) (marks : List Bool) (rest : List Entry)
+pub serves_append : (configuration : Configuration) (before middle after : State) (first : List Entry) (marks : List Bool)
+    (rest : List Entry)
     (others : List Bool)
     → Serves configuration before first marks middle → Serves configuration middle rest others after
     → Serves configuration before (first ++ rest) (marks ++ others) after
-serves_append configuration before middle after [] [] rest others here there = subst (λ s. Serves configuration s rest others after) (sym here) there
+serves_append configuration before middle after [] [] rest others here there =
+    subst (λ s. Serves configuration s rest others after) (sym here) there
 serves_append configuration before middle after [] (mark ∷ marks) rest others here there = absurd here
 serves_append configuration before middle after (entry ∷ first) [] rest others here there = absurd here
 serves_append configuration before middle after (entry ∷ first) (mark ∷ marks) rest others here there = (
@@ -158,7 +180,8 @@ serves_append configuration before middle after (entry ∷ first) (mark ∷ mark
 )
 
 -- what is kept of both is what is kept of the first, and then of the rest
-pub kept_append : (configuration : Configuration) (before middle : State) (first : List Entry) (marks : List Bool) (kept : List Kept)
+pub kept_append : (configuration : Configuration) (before middle : State) (first : List Entry) (marks : List Bool)
+    (kept : List Kept)
     (rest : List Entry)
     (others : List Bool) (more : List Kept) → Serves configuration before first marks middle → AreKept (marked_of first marks) kept
     → AreKept (marked_of rest others) more → AreKept (marked_of (first ++ rest) (marks ++ others)) (kept ++ more)
@@ -196,11 +219,13 @@ has_counted clock (first ∷ rest) entry (suc place, at) =
     let more = has_counted (max clock first.moment) rest entry (place, at) in
     (more.0, (suc more.1.0, more.1.1))
 
-pub reply_in_first : (clients : List Client) (first rest : List Entry) (went : Went) → IsReplyIn clients first went → IsReplyIn clients
+pub reply_in_first : (clients : List Client) (first rest : List Entry) (went : Went) → IsReplyIn clients first went
+    → IsReplyIn clients
     (first ++ rest) went
 reply_in_first clients first rest went (entry, has, is) = (entry, has_first first rest entry has, is)
 
-pub reply_in_later : (clients : List Client) (first rest : List Entry) (went : Went) → IsReplyIn clients rest went → IsReplyIn clients
+pub reply_in_later : (clients : List Client) (first rest : List Entry) (went : Went) → IsReplyIn clients rest went
+    → IsReplyIn clients
     (first ++ rest) went
 reply_in_later clients first rest went (entry, has, is) = (entry, has_later first rest entry has, is)
 

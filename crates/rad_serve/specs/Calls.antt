@@ -8,19 +8,20 @@ use Rattle.rad_shell.specs.declared.serve_fault.ServeFault.{ServeFault}
 use Rattle.rad_shell.specs.declared.serve_fault.ServeFault.TheVariants.{Journal}
 use Rattle.rad_shell.specs.declared.served.Served.{Served}
 
--- calls up to the first fault, each of which begins as the one before it ended, and what all came to; or up to one after which no generation
--- could be begun
+-- calls up to the first fault, each of which begins as the one before it ended, and what all came to; or up to one after which no
+-- generation could be begun
 pub data AreCalls (keeps : Bool) (before : Situation) : Tally → Result (Unit {0}) ServeFault → Situation → Type 0 where
   no_call : AreCalls keeps before nothing_done (Ok tt) before
   next_call : {tally : Tally} {middle after : Situation} (turns : ℕ) (result : Result Served ServeFault)
       (leads : LeadsTo before.server tally.history middle.server) → AreCalls keeps before tally (Ok tt) middle
       → (served : IsServed keeps turns middle result after)
       → AreCalls keeps before (with_turn leads.passed tally served.tally) (ended result) after
-  cannot_begin : {tally : Tally} {after : Situation} (fault : JournalFault) → IsTrue keeps → AreCalls keeps before tally (Ok tt) after
+  cannot_begin : {tally : Tally} {after : Situation} (fault : JournalFault) → IsTrue keeps
+      → AreCalls keeps before tally (Ok tt) after
       → AreCalls keeps before tally (Err (Journal fault)) after
 
--- what calls made, however the last one ended: their exchanges lead from the server before to the one after, but for time that may have
--- passed since, and what is kept of them is enough
+-- what calls made, however the last one ended: their exchanges lead from the server before to the one after, but for time that may
+-- have passed since, and what is kept of them is enough
 pub record MadeCalls (keeps : Bool) (before : Situation) (ending : Result (Unit {0}) ServeFault) (after : Situation) : Type 0 where
   pub tally : Tally
   pub called : AreCalls keeps before tally ending after

@@ -19,10 +19,11 @@ use std::thread::Threads;
 /// How many turns a call makes: between two of them a generation may begin. A turn waits for at most a second.
 const CALL_TURNS: u32 = 8;
 
-/// Calls of `Turns::run_keeping` follow one another, on the same service, and between two of them a new generation begins where one is due.
+/// Calls of `Turns::run_keeping` follow one another, on the same service, and between two of them a new generation begins where one
+/// is due.
 ///
-/// If the number of turns is given, the first call makes them all. Where the server was restored from what a generation keeps, whatever a
-/// crash leaves is one run, and each reply that ever went is in it.
+/// If the number of turns is given, the first call makes them all. Where the server was restored from what a generation keeps,
+/// whatever a crash leaves is one run, and each reply that ever went is in it.
 pub(crate) fn make_calls<
     R: Threads + Wait + Sync,
     P: Ports,

@@ -9,11 +9,11 @@ use std::alloc::AllocGlobal;
 use std::rt::Files;
 use std::time::Clock;
 
-/// Begins a generation with what the newest whole one of a folder leads to, under its own configuration. Its number; none if the folder has
-/// no generation.
+/// Begins a generation with what the newest whole one of a folder leads to, under its own configuration. Its number; none if the
+/// folder has no generation.
 ///
-/// It has no entries, so that a program with other rules can go on from it. No file with a generation is removed. The first octets of the
-/// seed key the hashes of tables; nothing else is drawn. The errors are those of `serve_with_state`.
+/// It has no entries, so that a program with other rules can go on from it. No file with a generation is removed. The first octets
+/// of the seed key the hashes of tables; nothing else is drawn. The errors are those of `serve_with_state`.
 pub fn close_state<R: Files + Clock + Eprint + AllocGlobal, S: Store + Drop, F: Folder<S> + Drop>(
     rt: &R,
     folder: F,

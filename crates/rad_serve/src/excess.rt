@@ -28,8 +28,8 @@ impl fmt::Display for Excess {
     }
 }
 
-/// How many entries a text has, if the fault of its configuration is that there are too many. None if memory to read it once more is
-/// refused.
+/// How many entries a text has, if the fault of its configuration is that there are too many. None if memory to read it once more
+/// is refused.
 pub fn excess_of(alloc: Global, text: &[u8], fault: ConfigFault) -> Option<Excess>
     ensures part { IfSome result (λ excess. fault ≡ TooMany excess.part) }
     ensures most { IfSome result (λ excess. excess.most ≡ most_of excess.part) }

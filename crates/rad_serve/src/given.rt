@@ -63,8 +63,8 @@ impl Given {
 
 /// The random source of a life, and the key of the tables' hashes: its first 16 octets.
 ///
-/// `generation` is the number of the life's first generation. Each number has a stream of its own, so that no life draws what one before it
-/// has drawn for a reply.
+/// `generation` is the number of the life's first generation. Each number has a stream of its own, so that no life draws what one
+/// before it has drawn for a reply.
 pub(crate) fn random_of(seed: [u8; 32], generation: u32) -> (ChaCha20Rng, HashKey) {
     let mut random = ChaCha20Rng::from_seed(seed);
     random.set_stream(u64::from(generation));

@@ -17,8 +17,8 @@ const SEED_SIZE: usize = 32;
 
 /// The text of a configuration, with that of the file of users that it names.
 ///
-/// `Unreadable`: a file can't be read, or the configuration's has more than 16,777,216 octets. `NoMemory`: memory for a text was refused.
-/// `Config`: the name of the file of users doesn't fit. `Users`: that file may not have such a text.
+/// `Unreadable`: a file can't be read, or the configuration's has more than 16,777,216 octets. `NoMemory`: memory for a text was
+/// refused. `Config`: the name of the file of users doesn't fit. `Users`: that file may not have such a text.
 pub fn open_source<R: Files + AllocGlobal>(rt: &R, path: &str) -> Result<Source, GivenFault> {
     let text = match read_file(rt, path) {
         Ok(text) => text,

@@ -1,10 +1,10 @@
 //! Serving over UDP: the two sockets of a server, and the command that answers what comes to them.
 //!
 //! `UdpPorts` are the only sockets of this repository. They decide only which of them is asked next (`Asking`): what is answered is
-//! `rad_shell`'s `Turns`. What a failed call on a socket means is a table for those that receive and one for those that send. `serve`
-//! reads its files, takes its memory, binds the ports or takes over those that it was given, and makes the turns. Where an operator
-//! is to be told of them, a `Reporter` watches the turns, and two threads write what it hands over, so that no file or terminal can hold
-//! up a reply.
+//! `rad_shell`'s `Turns`. What a failed call on a socket means is a table for those that receive and one for those that send.
+//! `serve` reads its files, takes its memory, binds the ports or takes over those that it was given, and makes the turns. Where an
+//! operator is to be told of them, a `Reporter` watches the turns, and two threads write what it hands over, so that no file or
+//! terminal can hold up a reply.
 //!
 //! No contract can say what a socket, a clock or a file gives.
 #![tactic(auto)]

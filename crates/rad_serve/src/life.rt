@@ -1,5 +1,6 @@
 //! What serves: in memory, or over the generations of a state.
-ghost use Rattle.std.specs.Prelude.{◌≡◌, ◌<◌, ◌≤◌, ◌-ℤ◌, ℕ, pos, true, [], IfOk, IfSome, IsSome, IsTrue, MatchOption, None, Ok, Some};
+ghost use Rattle.std.specs.Prelude.{◌≡◌, ◌<◌, ◌≤◌, ◌-ℤ◌, ℕ, pos, true, [], IfOk, IfSome, IsSome, IsTrue, MatchOption, None, Ok};
+ghost use Rattle.std.specs.Prelude.{Some};
 ghost use Rattle.sqlite_trees.specs.View.{IsClean};
 ghost use Rattle.rad_config.specs.Configurations.{configuration_of_octets};
 ghost use Rattle.rad_config.specs.Spans.{moment_max};

@@ -27,8 +27,9 @@ pub struct Lives<'a> {
 
 /// Makes lives: in each it crashes, opens the journal again, restores a server from it, and makes the program's calls.
 ///
-/// A life that fails, at whatever point, is followed by the next one. Whatever a crash leaves, at any time, is one run, and each reply that
-/// ever went, over all lives, is the reply to an entry of it. This holds while no wrong answer of the disk has been taken as true.
+/// A life that fails, at whatever point, is followed by the next one. Whatever a crash leaves, at any time, is one run, and each
+/// reply that ever went, over all lives, is the reply to an entry of it. This holds while no wrong answer of the disk has been
+/// taken as true.
 pub fn live<
     R: Threads + Wait + Sync + AllocGlobal,
     J: Reopen,

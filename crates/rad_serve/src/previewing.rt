@@ -18,10 +18,12 @@ use std::alloc::AllocGlobal;
 use std::rt::Files;
 use std::time::Clock;
 
-/// What a start would tell that goes on from a folder's newest whole generation under this configuration; none if there is no generation.
+/// What a start would tell that goes on from a folder's newest whole generation under this configuration; none if there is no
+/// generation.
 ///
-/// Each line is as a start has it, but for the mark. No generation begins, but files after the newest whole one are set aside as the
-/// folder does it. The first octets of the seed key the hashes of tables. `State`, `OtherConfig`, `Restore`: as `serve_with_state` says.
+/// Each line is as a start has it, but for the mark. No generation begins, but files after the newest whole one are set aside as
+/// the folder does it. The first octets of the seed key the hashes of tables. `State`, `OtherConfig`, `Restore`: as
+/// `serve_with_state` says.
 pub fn preview<R: Files + Clock + Eprint + AllocGlobal, S: Store + Drop, F: Folder<S> + Drop>(
     rt: &R,
     folder: F,

@@ -4,7 +4,8 @@ use libc::net::{SO_RCVBUF, SOL_SOCKET, getsockopt, setsockopt};
 use mio::net::UdpSocket;
 use std::os::fd::AsRawFd;
 
-/// How many octets of datagrams a socket is asked to hold: some thousands of requests, where the usual default holds 256 small ones.
+/// How many octets of datagrams a socket is asked to hold: some thousands of requests, where the usual default holds 256 small
+/// ones.
 const RECEIVE_BUFFER: i32 = 4_000_000;
 
 /// Asks for a large receive buffer. The system gives at most `net.core.rmem_max`, and a refusal leaves the buffer as it was.
@@ -15,8 +16,8 @@ pub(crate) fn ask_for_room(socket: &UdpSocket) {
     let _status = unsafe { setsockopt(socket.as_raw_fd(), SOL_SOCKET, SO_RCVBUF, &value, 4) };
 }
 
-/// Whether the receive buffer has that size already, of which the system tells the double. Whoever made the socket may have had leave
-/// for more than the system gives here, which to ask would then take away.
+/// Whether the receive buffer has that size already, of which the system tells the double. Whoever made the socket may have had
+/// leave for more than the system gives here, which to ask would then take away.
 pub(crate) fn has_room(socket: &UdpSocket) -> bool {
     let mut value = [0; 16];
     let mut len = 16;

@@ -33,8 +33,8 @@ enum Record {
     Broken,
 }
 
-/// Watches turns, and hands over what is to be written. It never waits: where a thread can't follow, lines and the recording stay here
-/// until it can, as far as there is room, and a file is left out.
+/// Watches turns, and hands over what is to be written. It never waits: where a thread can't follow, lines and the recording stay
+/// here until it can, as far as there is room, and a file is left out.
 #[derive(Drop)]
 pub(crate) struct Reporter<'r, R> {
     rt: &'r R,

@@ -11,8 +11,8 @@ use rad_watch::FailedPort;
 use std::alloc::AllocError;
 use thiserror::Error;
 
-/// Why `serve` ended before its last round. Those before `Rounds` are reported before anything is served, and in this order, but that refused
-/// memory is reported where it happens.
+/// Why `serve` ended before its last round. Those before `Rounds` are reported before anything is served, and in this order, but
+/// that refused memory is reported where it happens.
 #[derive(Clone, Copy, Debug, Error)]
 pub enum ServeError {
     /// Memory was refused before the first turn.

@@ -51,10 +51,10 @@ pub fn serve<R: Files + Net + Clock + Print + Eprint + Threads + Wait + Sync + A
 
 /// The same, and what a later reply may rest on is kept in the files of a folder before a reply leaves.
 ///
-/// The server goes on as the last one left it, as far as its configuration allows: with its sessions, kept replies and challenges, at no
-/// earlier moment. At most `files_max` files are kept, but at least 2. `State`: a file holds nothing that this program can go on from, or a
-/// call of the disk failed. `OtherConfig`, `Restore`: the newest generation doesn't lead to a server. `Clocks`: a clock can't be read. At
-/// each of these what was kept is as it was.
+/// The server goes on as the last one left it, as far as its configuration allows: with its sessions, kept replies and challenges,
+/// at no earlier moment. At most `files_max` files are kept, but at least 2. `State`: a file holds nothing that this program can go
+/// on from, or a call of the disk failed. `OtherConfig`, `Restore`: the newest generation doesn't lead to a server. `Clocks`: a
+/// clock can't be read. At each of these what was kept is as it was.
 pub fn serve_with_state<
     R: Files + Net + Clock + Print + Eprint + Threads + Wait + Sync + AllocGlobal,
     S: Store + Drop + Send,
@@ -194,8 +194,8 @@ fn serve_life<
     serve_reporting(rt, options, life, head, warnings)
 }
 
-// With what a recording begins, if there is to be one: the text of the configuration, and the line that ends it. A text that has such
-// a line can't be told from what follows it.
+// With what a recording begins, if there is to be one: the text of the configuration, and the line that ends it. A text that has
+// such a line can't be told from what follows it.
 fn head_of(
     alloc: Global,
     options: &Options,

@@ -68,8 +68,8 @@ impl From<io::Error> for BindFault {
 
 /// The two UDP sockets of a server, and the clock that tells when a datagram came.
 ///
-/// `Asking` says which socket is asked for a datagram. Each failed call is counted, except one that only would have to wait; those that
-/// concern one datagram aren't reported as faults (`receive_failure`, `send_failure`).
+/// `Asking` says which socket is asked for a datagram. Each failed call is counted, except one that only would have to wait; those
+/// that concern one datagram aren't reported as faults (`receive_failure`, `send_failure`).
 #[derive(Drop)]
 pub struct UdpPorts<'r, C> {
     clock: &'r C,
@@ -91,7 +91,8 @@ pub struct UdpPorts<'r, C> {
 }
 
 impl<'r, C: Clock> UdpPorts<'r, C> {
-    /// Binds the two ports of an address, most significant octet first. Port 0 is any free one. Moments are those of the system's clock.
+    /// Binds the two ports of an address, most significant octet first. Port 0 is any free one. Moments are those of the system's
+    /// clock.
     pub fn bind(rt: &'r C, address: u32, auth: u16, acct: u16) -> Result<UdpPorts<'r, C>, BindFault>
     where
         C: Net + AllocGlobal,
@@ -103,8 +104,8 @@ impl<'r, C: Clock> UdpPorts<'r, C> {
         Ok(UdpPorts::over(rt, (poll, events), address, auth, acct))
     }
 
-    /// Takes over the two sockets that the process was given, in place of binding any. What has arrived since they were bound is still
-    /// received. Moments are those of the system's clock.
+    /// Takes over the two sockets that the process was given, in place of binding any. What has arrived since they were bound is
+    /// still received. Moments are those of the system's clock.
     ///
     /// `Held`: one of them is no bound UDP socket of IPv4, or they have another address or port than is expected.
     pub fn take(rt: &'r C, expected: Expected) -> Result<UdpPorts<'r, C>, BindFault>
@@ -250,8 +251,8 @@ impl<'r, C: Clock> UdpPorts<'r, C> {
         }
     }
 
-    // Waits so long at most for events of the sockets, and marks those that have any. If the wait fails nobody knows what has come, so
-    // both are marked.
+    // Waits so long at most for events of the sockets, and marks those that have any. If the wait fails nobody knows what has come,
+    // so both are marked.
     fn wait_for_events(&mut self, longest: Duration)
         ensures reported { self.new.reported ≡ self.old.reported }
         ensures counted { self.old.failures ≤ self.new.failures }

@@ -210,8 +210,8 @@ impl<'w, R: Files + Wait + AllocGlobal> ReportFiles<'w, R> {
     }
 }
 
-// Puts a text in the place of a file at once: who reads the file sees the text before or this one. Where this fails nothing of the text
-// is left.
+// Puts a text in the place of a file at once: who reads the file sees the text before or this one. Where this fails nothing of the
+// text is left.
 fn write_by_rename<R: Files + AllocGlobal>(
     rt: &R,
     path: &str,

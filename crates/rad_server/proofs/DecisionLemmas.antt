@@ -1,5 +1,6 @@
 -- What the configuration tells of credentials being known, what is decided is what is defined.
-use Rattle.std.proofs.Common.{◌≡◌, ℕ, ◌<◌, ◌==◌, Bool, true, false, not, if◌then◌else◌, List, length, get_or, Option, Some, None, IfSome, is_some, ok_or, slice_get, Result, Ok, Err, refl, sym, ap, subst, ◌∙◌, arith}
+use Rattle.std.proofs.Common.{◌≡◌, ℕ, ◌<◌, ◌==◌, Bool, true, false, not, if◌then◌else◌, List, length, get_or, Option, Some, None}
+use Rattle.std.proofs.Common.{IfSome, is_some, ok_or, slice_get, Result, Ok, Err, refl, sym, ap, subst, ◌∙◌, arith}
 use Rattle.std.specs.Prelude.{unwrap_or}
 use Rattle.std.specs.Str.{bytes_eq}
 use Rattle.std.proofs.lemmas.Bool.Decides.{nat_tests}
@@ -16,7 +17,9 @@ use Rattle.rad_config.specs.Configurations.{Configuration, user_place}
 use Rattle.rad_config.specs.Ranges.{IsConfiguration}
 use Rattle.rad_config.specs.declared.user.User.{User}
 use Rattle.rad_recent.specs.Challenges.{cut_challenges, has_state, is_challenge_live}
-use Rattle.rad_server.specs.Access.{access, access_with, answer_matches, decided, decision_on_answer, decision_on_password, is_name_of, password_matches, session_for, user_by_answer, user_by_password, user_challenged, user_decision, without_challenge}
+use Rattle.rad_server.specs.Access.{access, access_with, answer_matches, decided, decision_on_answer, decision_on_password}
+use Rattle.rad_server.specs.Access.{is_name_of, password_matches, session_for, user_by_answer, user_by_password, user_challenged}
+use Rattle.rad_server.specs.Access.{user_decision, without_challenge}
 use Rattle.rad_server.specs.Accounting.{account, session_reported}
 use Rattle.rad_server.specs.Changes.{CanBeMade, changed_by, session_by}
 use Rattle.rad_server.specs.Credentials.{Credentials, credentials_in}
@@ -52,7 +55,8 @@ named configuration place ranges within =
     ranges.names place row (is_there _ _ _ (slice_get-get_or configuration.users place row within))
 
 -- whether a name is that of the user at a place is whether it leads to the place
-own_name : (configuration : Configuration) (place : ℕ) (name : List ℕ) → IsConfiguration configuration → place < length configuration.users
+own_name : (configuration : Configuration) (place : ℕ) (name : List ℕ) → IsConfiguration configuration
+    → place < length configuration.users
     → is_name_of configuration place name ≡ is_named (user_place configuration.users name) place
 own_name configuration place name ranges within = at (bytes_eq name (user_at configuration place).name) refl
   where
@@ -98,7 +102,8 @@ is_named-true (Some user) place is = ap Some (grind (arith, nat_tests, is))
 -- the user whose challenge is answered, whether the answer is right being known
 answering : (configuration : Configuration) (request : Request) (login : Login) (answer : ChallengeAnswer) (challenged : Option ℕ)
     → IsConfiguration configuration → (known : IsLogin configuration request login) → is_some known.credentials.state ≡ true
-    → answer.user ≡ login.user → answer.is_right ≡ is_right_in login.check → IfSome challenged (λ user. user < length configuration.users)
+    → answer.user ≡ login.user → answer.is_right ≡ is_right_in login.check
+    → IfSome challenged (λ user. user < length configuration.users)
     → user_answering challenged answer ≡ user_by_answer configuration request challenged known.credentials
 unfolding user_answering user_by_answer
 answering configuration request login answer None ranges known has user right within = refl
@@ -109,7 +114,8 @@ answering configuration request login answer (Some place) ranges known has user 
     own_name configuration place credentials.name ranges within ∙ ap (λ o. is_named o place) (sym named) in
     sym (two_checks _ _ _ _ place own (λ is.
     sym (right ∙ known.check
-    ∙ ap (λ o. answer_matches configuration request credentials.password (wanted_of configuration (is_some credentials.state) o)) (sym user ∙ is_named-true answer.user place is)
+    ∙ ap (λ o. answer_matches configuration request credentials.password (wanted_of configuration (is_some credentials.state) o))
+    (sym user ∙ is_named-true answer.user place is)
     ∙ ap (λ b. answer_matches configuration request credentials.password (wanted_of configuration b (Some place))) has)))
 
 -- the user whose name and password were sent, whether the password is right being known
@@ -124,12 +130,17 @@ by_password configuration request login known none =
     let credentials : Credentials = known.credentials in
     sym (ap (λ o. logged_in o (is_right_in login.check)) known.user
     ∙ at (user_place configuration.users credentials.name) (is_right_in login.check)
-    (known.check ∙ ap (λ o. answer_matches configuration request credentials.password (wanted_of configuration (is_some credentials.state) o)) known.user
-    ∙ ap (λ b. answer_matches configuration request credentials.password (wanted_of configuration b (user_place configuration.users credentials.name))) none))
+    (known.check ∙ ap (λ o. answer_matches configuration request credentials.password
+    (wanted_of configuration (is_some credentials.state) o)) known.user
+    ∙ ap (λ b. answer_matches configuration request credentials.password
+    (wanted_of configuration b (user_place configuration.users credentials.name))) none))
   where
-    at : (o : Option ℕ) (right : Bool) → right ≡ answer_matches configuration request known.credentials.password (wanted_of configuration false o)
+    at : (o : Option ℕ) (right : Bool)
+        → right ≡ answer_matches configuration request known.credentials.password (wanted_of configuration false o)
         → logged_in o right
-        ≡ (ok_or o AccessDenied >>= (λ user. refuse_if (not (password_matches configuration request known.credentials.password (user_at configuration user).password)) AccessDenied >>= (λ r. Ok user)))
+        ≡ (ok_or o AccessDenied >>= (λ user. refuse_if
+        (not (password_matches configuration request known.credentials.password (user_at configuration user).password)) AccessDenied
+        >>= (λ r. Ok user)))
     at None right is = refl
     at (Some user) right is = ap (λ b. refuse_if (not b) AccessDenied >>= (λ r. Ok user)) is
 
@@ -142,7 +153,8 @@ by_access configuration request door state draw = ap (λ port. reply_by_port por
 
 -- access is denied without a look at the credentials
 pub denied_unread : (configuration : Configuration) (request : Request) (denial : Denial)
-    → request.door ≡ Auth → credentials_in request.packet.attributes ≡ Err denial → IsFixed configuration request (Denied denial) Nothing
+    → request.door ≡ Auth → credentials_in request.packet.attributes ≡ Err denial
+    → IsFixed configuration request (Denied denial) Nothing
 denied_unread configuration request denial door read = record {
   says = λ state draw. by_access configuration request door state draw ∙ ap (access_with configuration state request draw) read;
   possible = λ state. tt;
@@ -157,7 +169,8 @@ pub reported_is : (configuration : Configuration) (request : Request) (change : 
     → IsFixed configuration request Accounting change
 reported_is configuration request change door reported possible session = record {
   says = λ state draw.
-      ap (λ port. reply_by_port port configuration state request draw) door ∙ (λ i. (accounting_response request.packet, reported state draw i));
+      ap (λ port. reply_by_port port configuration state request draw) door
+      ∙ (λ i. (accounting_response request.packet, reported state draw i));
   possible = possible;
   session = λ state. session state ∙ ap (λ port. session_by_port port configuration request state.sessions) (sym door);
 }
@@ -170,15 +183,18 @@ with_state configuration request credentials state draw value =
     (if is_some value then decision_on_answer configuration left request (user_challenged request value state) credentials
     else decision_on_password configuration left request credentials)
 
-reads : (configuration : Configuration) (request : Request) (login : Login) (value : Option (List ℕ)) (known : IsLogin configuration request login)
+reads : (configuration : Configuration) (request : Request) (login : Login) (value : Option (List ℕ))
+    (known : IsLogin configuration request login)
     → known.credentials.state ≡ value → (state : State) (draw : List ℕ)
     → access configuration state request draw ≡ with_state configuration request known.credentials state draw value
 reads configuration request login value known sent state draw =
-    ap (access_with configuration state request draw) known.read ∙ ap (with_state configuration request known.credentials state draw) sent
+    ap (access_with configuration state request draw) known.read
+    ∙ ap (with_state configuration request known.credentials state draw) sent
 
 -- a challenge is answered
 pub answer_is : (configuration : Configuration) (request : Request) (login : Login) (answer : ChallengeAnswer)
-    → IsConfiguration configuration → request.door ≡ Auth → (known : IsLogin configuration request login) → known.credentials.state ≡ Some answer.state.now
+    → IsConfiguration configuration → request.door ≡ Auth → (known : IsLogin configuration request login)
+    → known.credentials.state ≡ Some answer.state.now
     → answer.user ≡ login.user → answer.is_right ≡ is_right_in login.check → IsAnswer configuration request answer
 unfolding decision_answering decision_on_answer
 answer_is configuration request login answer ranges door known sent user right = record {
@@ -188,23 +204,28 @@ answer_is configuration request login answer ranges door known sent user right =
       let left : State = without_challenge request.client value state in
       by_access configuration request door state draw ∙ reads configuration request login value known sent state draw
       ∙ ap (λ found. decided configuration left request draw (found >>= (λ place. session_for configuration left place)))
-      (sym (answering configuration request login answer (user_challenged request value state) ranges known (ap is_some sent) user right (users value)));
+      (sym (answering configuration request login answer (user_challenged request value state) ranges known (ap is_some sent) user
+      right (users value)));
 }
 
 -- a password was sent
 after_password : (configuration : Configuration) (request : Request) (login : Login) (known : IsLogin configuration request login)
     → known.credentials.state ≡ None → (state : State) (draw : List ℕ)
     → access configuration state request draw
-    ≡ decided configuration state request draw (logged_in login.user (is_right_in login.check) >>= (λ user. user_decision configuration state request.client user))
+    ≡ decided configuration state request draw
+    (logged_in login.user (is_right_in login.check) >>= (λ user. user_decision configuration state request.client user))
 unfolding decision_on_password
 after_password configuration request login known none state draw =
     reads configuration request login None known none state draw
-    ∙ ap (λ found. decided configuration state request draw (found >>= (λ user. user_decision configuration state request.client user)))
+    ∙ ap (λ found. decided configuration state request draw
+    (found >>= (λ user. user_decision configuration state request.client user)))
     (by_password configuration request login known (ap is_some none))
 
 -- it is right
-pub password_is : (configuration : Configuration) (request : Request) (login : Login) (user : ℕ) → request.door ≡ Auth → (known : IsLogin configuration request login)
-    → known.credentials.state ≡ None → login.user ≡ Some user → is_right_in login.check ≡ true → IsPasswordOf configuration request user
+pub password_is : (configuration : Configuration) (request : Request) (login : Login) (user : ℕ) → request.door ≡ Auth
+    → (known : IsLogin configuration request login)
+    → known.credentials.state ≡ None → login.user ≡ Some user → is_right_in login.check ≡ true
+    → IsPasswordOf configuration request user
 password_is configuration request login user door known none found right = record {
   door = door;
   within = subst (λ o. IfSome o (λ place. place < length configuration.users)) found known.within;
@@ -215,19 +236,22 @@ password_is configuration request login user door known none found right = recor
 }
 
 -- it is wrong, or no user has the name
-pub denied_is : (configuration : Configuration) (request : Request) (login : Login) → request.door ≡ Auth → (known : IsLogin configuration request login)
+pub denied_is : (configuration : Configuration) (request : Request) (login : Login) → request.door ≡ Auth
+    → (known : IsLogin configuration request login)
     → known.credentials.state ≡ None → logged_in login.user (is_right_in login.check) ≡ Err AccessDenied
     → IsFixed configuration request (Denied AccessDenied) Nothing
 denied_is configuration request login door known none refused = record {
   says = λ state draw.
       by_access configuration request door state draw ∙ after_password configuration request login known none state draw
-      ∙ ap (λ o. decided configuration state request draw (o >>= (λ place. user_decision configuration state request.client place))) refused;
+      ∙ ap (λ o. decided configuration state request draw (o >>= (λ place. user_decision configuration state request.client place)))
+      refused;
   possible = λ state. tt;
   session = λ state. sym (names_none configuration request door state.sessions);
 }
 
 -- the users who are challenged are those of the configuration
-pub challenged_within : (configuration : Configuration) (request : Request) (now : ℕ) (tables : Tables) → AreUsable configuration tables
+pub challenged_within : (configuration : Configuration) (request : Request) (now : ℕ) (tables : Tables)
+    → AreUsable configuration tables
     → AreUsers configuration request (state_for request now tables)
 challenged_within configuration request now tables usable None = tt
 challenged_within configuration request now tables usable (Some value) =

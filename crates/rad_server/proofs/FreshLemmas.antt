@@ -1,5 +1,6 @@
 -- Fresh requests: they are answered by a reply, and all others leave the state as time would.
-use Rattle.std.proofs.Common.{◌≡◌, ◌≢◌, ◌⊎◌, ℕ, ◌+◌, ◌≤◌, ◌<◌, Bool, true, false, not, cond, ◌==◌, ◌&&◌, max, List, [], ◌∷◌, length, filter, All, Option, Some, None, arith, inl, inr, refl, sym, ap, subst, ◌∙◌}
+use Rattle.std.proofs.Common.{◌≡◌, ◌≢◌, ◌⊎◌, ℕ, ◌+◌, ◌≤◌, ◌<◌, Bool, true, false, not, cond, ◌==◌, ◌&&◌, max, List, [], ◌∷◌, length}
+use Rattle.std.proofs.Common.{filter, All, Option, Some, None, arith, inl, inr, refl, sym, ap, subst, ◌∙◌}
 use Rattle.std.specs.Prelude.{count_by, nat_le}
 use Rattle.std.proofs.lemmas.Bool.{both_ways, cond_both, eqb-true}
 use Rattle.std.proofs.lemmas.Bool.Decides.{eqb_tells, leb_tells}
@@ -18,7 +19,8 @@ use Rattle.rad_server.specs.Lawful.{IsLawful, IsOwned, PassingKeepsTheLaw, StepK
 use Rattle.rad_server.specs.Runs.{FreshAreEnough, IsExchange, IsLikeFromNow, IsMarked, LeadsAlike, LikeAfterTime, counted, fresh_of}
 use Rattle.rad_server.specs.Shares.{IsWithin, lacks_room, replies_share}
 use Rattle.rad_server.specs.States.{State, at_moment, without_expired}
-use Rattle.rad_server.specs.Steps.{answer, answer_with, is_fresh, key_of, reply_by_port, reply_kept, sent_and_kept, session_at, without_reply}
+use Rattle.rad_server.specs.Steps.{answer, answer_with, is_fresh, key_of, reply_by_port, reply_kept, sent_and_kept, session_at}
+use Rattle.rad_server.specs.Steps.{without_reply}
 use Rattle.rad_server.specs.declared.answer.Answer.{Answer}
 use Rattle.rad_server.specs.declared.answer.Answer.TheVariants.{Send}
 use Rattle.rad_server.specs.declared.entry.Entry.{Entry}
@@ -32,11 +34,13 @@ all_or_fewer : {X : Type 0} (p t : X → Bool) (xs : List X) → All (λ x. p x 
     → (filter p xs ≡ xs) ⊎ ((length (filter p xs) < length xs) × (count_by t (filter p xs) < count_by t xs))
 all_or_fewer p t [] holds = inl refl
 all_or_fewer {X} p t (x ∷ xs) holds =
-    at (p x) refl (All-head (λ y. p y ≡ false → t y ≡ true) x xs holds) (all_or_fewer p t xs (All-tail (λ y. p y ≡ false → t y ≡ true) x xs holds))
+    at (p x) refl (All-head (λ y. p y ≡ false → t y ≡ true) x xs holds)
+    (all_or_fewer p t xs (All-tail (λ y. p y ≡ false → t y ≡ true) x xs holds))
   where
     at : (b : Bool) → p x ≡ b → (p x ≡ false → t x ≡ true)
         → (filter p xs ≡ xs) ⊎ ((length (filter p xs) < length xs) × (count_by t (filter p xs) < count_by t xs))
-        → (filter p (x ∷ xs) ≡ x ∷ xs) ⊎ ((length (filter p (x ∷ xs)) < length (x ∷ xs)) × (count_by t (filter p (x ∷ xs)) < count_by t (x ∷ xs)))
+        → (filter p (x ∷ xs) ≡ x ∷ xs)
+        ⊎ ((length (filter p (x ∷ xs)) < length (x ∷ xs)) × (count_by t (filter p (x ∷ xs)) < count_by t (x ∷ xs)))
     at true is other (inl same) = inl (rw (is) (ap (λ l. x ∷ l) same))
     at true is other (inr few) =
         let one : X → ℕ = λ y. cond (t y) 1 0 in
@@ -55,14 +59,16 @@ all_or_fewer {X} p t (x ∷ xs) holds =
         inr (rw (is) (omega (arith, lengths), omega (arith, counts, whole, first)))
 
 -- a kept reply to a request with this one's key takes the share of this one's client
-own_key : (configuration : Configuration) (request : Request) (reply : Kept) → client_place configuration.clients request.source ≡ Some request.client
+own_key : (configuration : Configuration) (request : Request) (reply : Kept)
+    → client_place configuration.clients request.source ≡ Some request.client
     → IsOwned configuration reply → not (same_key (key_of request) reply.key) ≡ false → is_of request.client reply ≡ true
 own_key configuration request reply place owned same =
     let source = eqb-true request.source reply.key.source (first (request.source == reply.key.source) _ _ _ same) in
     let is : reply.client ≡ Some request.client = owned ∙ ap (client_place configuration.clients) (sym source) ∙ place in
     ap (is_client request.client) is ∙ itself (eqb_tells request.client request.client)
   where
-    itself : (((request.client == request.client) ≡ true) × (request.client ≡ request.client)) ⊎ (((request.client == request.client) ≡ false) × (request.client ≢ request.client))
+    itself : (((request.client == request.client) ≡ true) × (request.client ≡ request.client))
+        ⊎ (((request.client == request.client) ≡ false) × (request.client ≢ request.client))
         → (request.client == request.client) ≡ true
     itself (inl (equal, same)) = equal
     itself (inr (unequal, other)) = absurd (other refl)
@@ -94,21 +100,26 @@ none_goes configuration state request lawful place full =
         at (inl (is, le)) = omega (arith, few, within, le)
         at (inr (isnt, lt)) = both_ways (is_reached (Some limit) count) isnt reached
 
-    by : (left ≡ state.replies.kept) ⊎ ((length left < length state.replies.kept) × (count_by (is_of request.client) left < count_by (is_of request.client) state.replies.kept))
+    by : (left ≡ state.replies.kept)
+        ⊎ ((length left < length state.replies.kept)
+        × (count_by (is_of request.client) left < count_by (is_of request.client) state.replies.kept))
         → without_reply request state ≡ state
     by (inl same) = ap (λ kept. record state { replies = record state.replies { kept = kept } }) same
     by (inr few) = absurd (at (leb_tells kept_max (length left)))
       where
-        at : ((nat_le kept_max (length left) ≡ true) × (kept_max ≤ length left)) ⊎ ((nat_le kept_max (length left) ≡ false) × (length left < kept_max)) → ⊥
+        at : ((nat_le kept_max (length left) ≡ true) × (kept_max ≤ length left))
+            ⊎ ((nat_le kept_max (length left) ≡ false) × (length left < kept_max)) → ⊥
         at (inl (is, le)) = omega (arith, few.0, lawful.replies.few, le)
         at (inr (isnt, lt)) =
-            not_reached (replies_share configuration request.client) (count_by (is_of request.client) left) (count_by (is_of request.client) state.replies.kept) few.1
+            not_reached (replies_share configuration request.client) (count_by (is_of request.client) left)
+            (count_by (is_of request.client) state.replies.kept) few.1
             (lawful.shares request.client) (rw (isnt) at full)
 
 -- ---- the answers
 
 -- an answer to a request that isn't fresh leaves a lawful state as it is
-stale_leaves : (configuration : Configuration) (current : State) (request : Request) (draw : List ℕ) → IsLawful configuration current
+stale_leaves : (configuration : Configuration) (current : State) (request : Request) (draw : List ℕ)
+    → IsLawful configuration current
     → client_place configuration.clients request.source ≡ Some request.client → is_fresh configuration current request ≡ false
     → (answer configuration current request draw).1 ≡ current
 stale_leaves configuration current request draw lawful place stale =
@@ -119,7 +130,8 @@ stale_leaves configuration current request draw lawful place stale =
         → (answer_with configuration current request draw o).1 ≡ current
     with_kept other (Some reply) is = refl
     with_kept other None is =
-        cond_both (lacks_room configuration request.client (without_reply request current).replies) _ _ (λ (r : Answer × State). r.1 ≡ current)
+        cond_both (lacks_room configuration request.client (without_reply request current).replies) _ _
+        (λ (r : Answer × State). r.1 ≡ current)
         (λ full. none_goes configuration current request lawful place full)
         (λ room. absurd (both_ways (is_fresh configuration current request) stale (rw (other, is, room) refl)))
 
@@ -128,10 +140,12 @@ record IsNews (current : State) (result : Answer × State) : Type 0 where
   replied : (body : Body) × (result.0 ≡ Send body)
   clock : result.1.clock ≡ current.clock
 
-fresh_is_answered : (configuration : Configuration) (current : State) (request : Request) (draw : List ℕ) → is_fresh configuration current request ≡ true
+fresh_is_answered : (configuration : Configuration) (current : State) (request : Request) (draw : List ℕ)
+    → is_fresh configuration current request ≡ true
     → IsNews current (answer configuration current request draw)
 fresh_is_answered configuration current request draw fresh =
-    cond_both (request.packet.code == code_status_server) _ _ (IsNews current) (λ status. absurd (both_ways (is_fresh configuration current request) (rw (status) refl) fresh))
+    cond_both (request.packet.code == code_status_server) _ _ (IsNews current)
+    (λ status. absurd (both_ways (is_fresh configuration current request) (rw (status) refl) fresh))
     (λ other. with_kept other (reply_kept request current) refl)
   where
     sent : (result : Body × State) → result.1.clock ≡ current.clock → IsNews current (sent_and_kept request result)
@@ -144,7 +158,8 @@ fresh_is_answered configuration current request draw fresh =
         let left = without_reply request current in
         cond_both (lacks_room configuration request.client left.replies) _ _ (IsNews current)
         (λ full. absurd (both_ways (is_fresh configuration current request) (rw (other, is, full) refl) fresh))
-        (λ room. sent (reply_by_port request.door configuration left request draw) (reply_leaves request.door configuration left request draw).clock)
+        (λ room. sent (reply_by_port request.door configuration left request draw)
+        (reply_leaves request.door configuration left request draw).clock)
 
 -- ---- histories
 
@@ -162,11 +177,17 @@ like_after_time state other (Some passed) like = λ moment le.
 
 pub fresh_enough : AdmittedAreAnswerable → StepKeepsTheLaw → PassingKeepsTheLaw → FreshAreEnough
 fresh_enough answerable steps passing configuration before after other [] [] valid lawful run like =
-    record { state = other; run = refl; like = subst (λ s. IsLikeFromNow s other) run like; replied = All-nil (λ (e : Entry). (body : Body) × (e.answer ≡ Send body)) }
+    record {
+      state = other;
+      run = refl;
+      like = subst (λ s. IsLikeFromNow s other) run like;
+      replied = All-nil (λ (e : Entry). (body : Body) × (e.answer ≡ Send body));
+    }
 fresh_enough answerable steps passing configuration before after other [] (mark ∷ marks) valid lawful run like = absurd run
 fresh_enough answerable steps passing configuration before after other (entry ∷ rest) [] valid lawful run like = absurd run
 fresh_enough answerable steps passing configuration before after other (entry ∷ rest) (mark ∷ marks) valid lawful run like =
-    by_mark (λ state alike. fresh_enough answerable steps passing configuration next after state rest marks valid next_lawful run.2 alike) mark refl
+    by_mark (λ state alike. fresh_enough answerable steps passing configuration next after state rest marks valid next_lawful run.2
+    alike) mark refl
   where
     next : State
     next = run.0
@@ -187,10 +208,12 @@ fresh_enough answerable steps passing configuration before after other (entry �
     next_lawful = subst (λ (pair : Answer × State). IsLawful configuration pair.1) marked.answered
         (steps configuration before marked.request entry.moment entry.draw valid able marked.asked.moment marked.asked.draw lawful)
 
-    by_mark : ((state : State) → IsLikeFromNow next state → LeadsAlike configuration state (fresh_of next.clock rest marks) after) → (b : Bool) → mark ≡ b → LeadsAlike configuration other (fresh_of before.clock (entry ∷ rest) (b ∷ marks)) after
+    by_mark : ((state : State) → IsLikeFromNow next state → LeadsAlike configuration state (fresh_of next.clock rest marks) after)
+        → (b : Bool) → mark ≡ b → LeadsAlike configuration other (fresh_of before.clock (entry ∷ rest) (b ∷ marks)) after
     by_mark more true is =
         let news : IsNews current (entry.answer, next) =
-        subst (IsNews current) marked.answered (fresh_is_answered configuration current marked.request entry.draw (sym marked.fresh ∙ is)) in
+        subst (IsNews current) marked.answered
+        (fresh_is_answered configuration current marked.request entry.draw (sym marked.fresh ∙ is)) in
         let same = like now (omega arith) ∙ at_counted entry.moment before in
         let exchange : IsExchange configuration other (counted before.clock entry) next = record {
           request = marked.request;
@@ -210,13 +233,15 @@ fresh_enough answerable steps passing configuration before after other (entry �
           state = on.state;
           run = (next, exchange, on.run);
           like = on.like;
-          replied = All-cons (λ (e : Entry). (body : Body) × (e.answer ≡ Send body)) (counted before.clock entry) (fresh_of now rest marks) news.replied on.replied;
+          replied = All-cons (λ (e : Entry). (body : Body) × (e.answer ≡ Send body)) (counted before.clock entry)
+              (fresh_of now rest marks) news.replied on.replied;
         }
     by_mark more false is =
         let stale : is_fresh configuration current marked.request ≡ false = sym marked.fresh ∙ is in
         let current_lawful = passing configuration before entry.moment valid marked.asked.moment lawful in
         let left : next ≡ current =
-        ap (λ (r : Answer × State). r.1) (sym marked.answered) ∙ stale_leaves configuration current marked.request entry.draw current_lawful able.place stale in
+        ap (λ (r : Answer × State). r.1) (sym marked.answered)
+        ∙ stale_leaves configuration current marked.request entry.draw current_lawful able.place stale in
         let clock : next.clock ≡ now = ap (λ (s : State). s.clock) left in
         subst (λ c. LeadsAlike configuration other (fresh_of c rest marks) after) clock
         (more other (subst (λ s. IsLikeFromNow s other) (sym left) (like_after_time before other (Some entry.moment) like)))

@@ -38,17 +38,22 @@ counted-step kind so_far a list = at (eqb a.kind kind)
     at true = one_more-step a.value so_far (map (λ x. x.value) (of_kind kind list))
 
 -- one attribute further
-pub next-occurrence : (kind : ℕ) (was new : Occurrence) (a : Attribute) (others rest all : List Attribute) → rest ≡ a ∷ others → new ≡ counted kind a was
+pub next-occurrence : (kind : ℕ) (was new : Occurrence) (a : Attribute) (others rest all : List Attribute) → rest ≡ a ∷ others
+    → new ≡ counted kind a was
     → together was (occurrence kind rest) ≡ occurrence kind all → together new (occurrence kind others) ≡ occurrence kind all
 next-occurrence kind was new a others rest all e is known =
-    ap (λ o. together o (occurrence kind others)) is ∙ counted-step kind was a others ∙ ap (λ list. together was (occurrence kind list)) (sym e) ∙ known
+    ap (λ o. together o (occurrence kind others)) is ∙ counted-step kind was a others
+    ∙ ap (λ list. together was (occurrence kind list)) (sym e) ∙ known
 
 -- at the end
-pub all-occurrences : (kind : ℕ) (found : Occurrence) (rest all : List Attribute) → rest ≡ [] → together found (occurrence kind rest) ≡ occurrence kind all → found ≡ occurrence kind all
-all-occurrences kind found rest all e known = sym (together-absent found) ∙ ap (λ list. together found (occurrence kind list)) (sym e) ∙ known
+pub all-occurrences : (kind : ℕ) (found : Occurrence) (rest all : List Attribute) → rest ≡ []
+    → together found (occurrence kind rest) ≡ occurrence kind all → found ≡ occurrence kind all
+all-occurrences kind found rest all e known =
+    sym (together-absent found) ∙ ap (λ list. together found (occurrence kind list)) (sym e) ∙ known
 
 -- whether it occurs at all
-pub next-any : (p : Attribute → Bool) (was new : Bool) (a : Attribute) (others rest : List Attribute) (all : Bool) → rest ≡ a ∷ others → new ≡ (was || p a)
+pub next-any : (p : Attribute → Bool) (was new : Bool) (a : Attribute) (others rest : List Attribute) (all : Bool)
+    → rest ≡ a ∷ others → new ≡ (was || p a)
     → (was || list_any p rest) ≡ all → (new || list_any p others) ≡ all
 next-any p was new a others rest all e is known =
     ap (λ so_far. so_far || list_any p others) is ∙ any-step was ∙ ap (λ list. was || list_any p list) (sym e) ∙ known
@@ -61,5 +66,6 @@ or-false : (b : Bool) → (b || false) ≡ b
 or-false true = refl
 or-false false = refl
 
-pub all-any : (p : Attribute → Bool) (found : Bool) (rest : List Attribute) (all : Bool) → rest ≡ [] → (found || list_any p rest) ≡ all → found ≡ all
+pub all-any : (p : Attribute → Bool) (found : Bool) (rest : List Attribute) (all : Bool) → rest ≡ []
+    → (found || list_any p rest) ≡ all → found ≡ all
 all-any p found rest all e known = sym (or-false found) ∙ ap (λ list. found || list_any p list) (sym e) ∙ known

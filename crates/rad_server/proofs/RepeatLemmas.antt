@@ -3,14 +3,17 @@
 -- When an entry comes, the live replies that are kept are those of the sources in force, and no two have one key (`IsReady`). So
 -- if a source covers the entry, the reply that the step finds is the source's; if none does, the step finds none. Either way the
 -- answer is right (`IsRight`), and what held of the replies holds again when the next entry comes (`ready_again`).
-use Rattle.std.proofs.Common.{◌≡◌, ◌⊎◌, ℕ, ◌+◌, ◌≤◌, ◌<◌, zero, suc, Bool, true, false, not, cond, ◌&&◌, ◌||◌, ◌==◌, max, List, [], ◌∷◌, ◌++◌, length, get_or, map, filter, find, All, AllPairs, Contains, Option, Some, None, slice_get, arith, inl, inr, refl, sym, ap, subst, ◌∙◌}
+use Rattle.std.proofs.Common.{◌≡◌, ◌⊎◌, ℕ, ◌+◌, ◌≤◌, ◌<◌, zero, suc, Bool, true, false, not, cond, ◌&&◌, ◌||◌, ◌==◌, max, List, []}
+use Rattle.std.proofs.Common.{◌∷◌, ◌++◌, length, get_or, map, filter, find, All, AllPairs, Contains, Option, Some, None, slice_get}
+use Rattle.std.proofs.Common.{arith, inl, inr, refl, sym, ap, subst, ◌∙◌}
 use Rattle.std.specs.List.{list_any, position_or_len}
 use Rattle.std.specs.Prelude.{Result, Ok, Err, IsTrue}
 use lib.Pointwise.{pointwise}
 use Rattle.std.proofs.lemmas.Bool.{and_left, and_parts, both_ways, cases_order, lt-ltb, not-true, not_from_true}
 use Rattle.std.proofs.lemmas.Bool.Decides.{nat_tests}
 use Rattle.std.proofs.lemmas.List.{append-nil, map-append, map-id}
-use Rattle.std.proofs.lemmas.List.Elements.{All-cons, All-contains_itself, All-head, All-nil, All-tail, All-weaker, filter-append, filter_passes}
+use Rattle.std.proofs.lemmas.List.Elements.{All-cons, All-contains_itself, All-head, All-nil, All-tail, All-weaker, filter-append}
+use Rattle.std.proofs.lemmas.List.Elements.{filter_passes}
 use Rattle.std.proofs.lemmas.List.Folds.{find_at, list_all-append, list_any_at, list_any_none}
 use Rattle.std.proofs.lemmas.List.Kept.{AllPairs-filter}
 use Rattle.std.proofs.lemmas.List.Quantifiers.{all_pairs_push}
@@ -32,7 +35,8 @@ use Rattle.rad_recent.specs.declared.kept.Kept.{Kept}
 use Rattle.rad_recent.specs.declared.key.Key.{Key}
 use Rattle.rad_server.specs.Access.{Challenged, Decision, Granted, access_with, decided, without_challenge}
 use Rattle.rad_server.specs.Credentials.{Credentials, credentials_in}
-use Rattle.rad_server.specs.Repeats.{AreExchanges, Exchange, RepeatsFollow, RunsRepeat, Source, covers, entry_key, first_sources, followed_by, is_in_force, is_status_server, next_sources, source_of, spares}
+use Rattle.rad_server.specs.Repeats.{AreExchanges, Exchange, RepeatsFollow, RunsRepeat, Source, covers, entry_key, first_sources}
+use Rattle.rad_server.specs.Repeats.{followed_by, is_in_force, is_status_server, next_sources, source_of, spares}
 use Rattle.rad_server.specs.Replies.{status_reply}
 use Rattle.rad_server.specs.Runs.{IsExchange}
 use Rattle.rad_server.specs.Shares.{lacks_room}
@@ -53,7 +57,8 @@ filter_made make image earlier both later agree [] = refl
 filter_made {W} make image earlier both later agree (w ∷ ws) =
     rw (agree w) (at (earlier w) (later (image (make w))) refl (filter_made make image earlier both later agree ws))
   where
-    at : (e l : Bool) → later (image (make w)) ≡ l → map image (filter both (map make ws)) ≡ filter later (map (λ (v : W). image (make v)) (filter earlier ws))
+    at : (e l : Bool) → later (image (make w)) ≡ l
+        → map image (filter both (map make ws)) ≡ filter later (map (λ (v : W). image (make v)) (filter earlier ws))
         → map image (cond (e && l) (make w ∷ filter both (map make ws)) (filter both (map make ws)))
         ≡ filter later (map (λ (v : W). image (make v)) (cond e (w ∷ filter earlier ws) (filter earlier ws)))
     at true true is rest = rw is (ap (λ ys. image (make w) ∷ ys) rest)
@@ -61,7 +66,8 @@ filter_made {W} make image earlier both later agree (w ∷ ws) =
     at false l is rest = rest
 
 -- two tests that agree on each element keep the same elements
-filter_alike : {X : Type 0} (test other : X → Bool) (xs : List X) → All (λ x. test x ≡ other x) xs → filter test xs ≡ filter other xs
+filter_alike : {X : Type 0} (test other : X → Bool) (xs : List X) → All (λ x. test x ≡ other x) xs
+    → filter test xs ≡ filter other xs
 filter_alike test other [] agree = refl
 filter_alike test other (x ∷ xs) agree =
     let first : test x ≡ other x = All-head (λ y. test y ≡ other y) x xs agree in
@@ -84,7 +90,8 @@ image_is_among image test (y ∷ ys) x (zero, within, is) passes =
 image_is_among image test (y ∷ ys) x (suc k, within, is) passes =
     at (test y) (image_is_among image test ys x (k, omega arith, is) passes)
   where
-    at : (b : Bool) → Contains (map image (filter test ys)) (image x) → Contains (map image (cond b (y ∷ filter test ys) (filter test ys))) (image x)
+    at : (b : Bool) → Contains (map image (filter test ys)) (image x)
+        → Contains (map image (cond b (y ∷ filter test ys) (filter test ys))) (image x)
     at true (n, below, there) = (suc n, omega arith, there)
     at false rest = rest
 
@@ -94,8 +101,10 @@ any_image : {X Y : Type 0} (image : X → Y) (test : X → Bool) (of_image : Y �
 any_image image test of_image [] = refl
 any_image {X} image test of_image (x ∷ xs) = at (test x) (of_image (image x)) refl (any_image image test of_image xs)
   where
-    at : (b o : Bool) → of_image (image x) ≡ o → list_any (λ (y : X). of_image (image y) && test y) xs ≡ list_any of_image (map image (filter test xs))
-        → ((o && b) || list_any (λ (y : X). of_image (image y) && test y) xs) ≡ list_any of_image (map image (cond b (x ∷ filter test xs) (filter test xs)))
+    at : (b o : Bool) → of_image (image x) ≡ o
+        → list_any (λ (y : X). of_image (image y) && test y) xs ≡ list_any of_image (map image (filter test xs))
+        → ((o && b) || list_any (λ (y : X). of_image (image y) && test y) xs)
+        ≡ list_any of_image (map image (cond b (x ∷ filter test xs) (filter test xs)))
     at true true is rest = rw is refl
     at true false is rest = rw is rest
     at false true is rest = rest
@@ -121,7 +130,8 @@ none_passes test (x ∷ xs) none = at (test x) refl (none_passes test xs) none
     at false is rest none = All-cons (λ y. test y ≡ false) x xs is (rest none)
 
 -- an element that passes makes the test of any
-list_any-from_Contains : {X : Type 0} (test : X → Bool) (xs : List X) (x : X) → Contains xs x → test x ≡ true → list_any test xs ≡ true
+list_any-from_Contains : {X : Type 0} (test : X → Bool) (xs : List X) (x : X) → Contains xs x → test x ≡ true
+    → list_any test xs ≡ true
 list_any-from_Contains test xs x there passes = list_any_at test xs there.0 x there.1 (ap test there.2 ∙ passes)
 
 -- ---- keys
@@ -135,7 +145,8 @@ keys_apart : (key other : Key) → same_key key other ≡ false → same_key oth
 keys_apart key other differ = grind (arith, nat_tests)
 
 -- of replies with different keys, only one has a given key
-only_one : (kept : List Kept) (key : Key) (one other : Kept) → AllPairs HaveDifferentKeys kept → Contains kept one → Contains kept other
+only_one : (kept : List Kept) (key : Key) (one other : Kept) → AllPairs HaveDifferentKeys kept → Contains kept one
+    → Contains kept other
     → same_key key one.key ≡ true → same_key key other.key ≡ true → one ≡ other
 only_one kept key one other keys there here is too = by_place (cases_order there.0 here.0)
   where
@@ -173,7 +184,8 @@ replies_in_force window now sources = map reply_of (filter (is_in_force window n
 first_in_force : (window now : ℕ) (kept : List Kept)
     → filter (is_reply_live window now) kept ≡ replies_in_force window now (first_sources kept)
 first_in_force window now kept =
-    sym (filter_made (λ (reply : Kept). record { reply = reply; later = [] }) reply_of (λ reply. true) (is_in_force window now) (is_reply_live window now)
+    sym (filter_made (λ (reply : Kept). record { reply = reply; later = [] }) reply_of (λ reply. true) (is_in_force window now)
+    (is_reply_live window now)
     (λ reply. grind (arith, nat_tests)) kept
     ∙ ap (filter (is_reply_live window now)) (map-id _ ∙ filter_all (λ reply. true) kept (λ k d within. refl)))
 
@@ -187,7 +199,8 @@ later_in_force window now later sources passed =
 
 -- after one more entry, what was in force and spares the entry is in force
 followed_in_force : (window now : ℕ) (entry : Entry) (sources : List Source)
-    → replies_in_force window now (map (followed_by entry) sources) ≡ filter (λ reply. spares reply entry) (replies_in_force window now sources)
+    → replies_in_force window now (map (followed_by entry) sources)
+    ≡ filter (λ reply. spares reply entry) (replies_in_force window now sources)
 followed_in_force window now entry =
     filter_made (followed_by entry) reply_of (is_in_force window now) (is_in_force window now) (λ reply. spares reply entry)
     (λ source. simp list_all-append (grind (arith, nat_tests)))
@@ -212,28 +225,35 @@ pub record LeavesReplies (before after : State) : Type 0 where
   pub replies : after.replies ≡ before.replies
 
 -- to take a challenge away leaves them
-challenge_leaves : (client : ℕ) (value : Option (List ℕ)) (state : State) → LeavesReplies state (without_challenge client value state)
+challenge_leaves : (client : ℕ) (value : Option (List ℕ)) (state : State)
+    → LeavesReplies state (without_challenge client value state)
 challenge_leaves client None state = record { clock = refl; replies = refl }
 challenge_leaves client (Some value) state = record { clock = refl; replies = refl }
 
 -- so does what is decided
-decided_leaves : (configuration : Configuration) (before state : State) (request : Request) (draw : List ℕ) (decision : Result Decision Denial)
+decided_leaves : (configuration : Configuration) (before state : State) (request : Request) (draw : List ℕ)
+    (decision : Result Decision Denial)
     → LeavesReplies before state → LeavesReplies before (decided configuration state request draw decision).1
 decided_leaves configuration before state request draw (Err denial) left = left
-decided_leaves configuration before state request draw (Ok (Challenged user)) left = record { clock = left.clock; replies = left.replies }
-decided_leaves configuration before state request draw (Ok (Granted user grant)) left = record { clock = left.clock; replies = left.replies }
+decided_leaves configuration before state request draw (Ok (Challenged user)) left =
+    record { clock = left.clock; replies = left.replies }
+decided_leaves configuration before state request draw (Ok (Granted user grant)) left =
+    record { clock = left.clock; replies = left.replies }
 
 -- so does the rule of Access-Requests
-access_leaves : (configuration : Configuration) (state : State) (request : Request) (draw : List ℕ) (credentials : Result Credentials Denial)
+access_leaves : (configuration : Configuration) (state : State) (request : Request) (draw : List ℕ)
+    (credentials : Result Credentials Denial)
     → LeavesReplies state (access_with configuration state request draw credentials).1
 access_leaves configuration state request draw (Err denial) = record { clock = refl; replies = refl }
 access_leaves configuration state request draw (Ok credentials) =
-    decided_leaves configuration state (without_challenge request.client credentials.state state) request draw _ (challenge_leaves request.client credentials.state state)
+    decided_leaves configuration state (without_challenge request.client credentials.state state) request draw _
+    (challenge_leaves request.client credentials.state state)
 
 -- so does the rule of each port
 pub reply_leaves : (door : Door) (configuration : Configuration) (state : State) (request : Request) (draw : List ℕ)
     → LeavesReplies state (reply_by_port door configuration state request draw).1
-reply_leaves Auth configuration state request draw = access_leaves configuration state request draw (credentials_in request.packet.attributes)
+reply_leaves Auth configuration state request draw =
+    access_leaves configuration state request draw (credentials_in request.packet.attributes)
 reply_leaves Acct configuration state request draw = record { clock = refl; replies = refl }
 
 -- ---- the step
@@ -303,7 +323,8 @@ module _ (clients : List Client) (state : State) (sources : List Source) (ready 
       → in_force (next_sources clients state.replies.window state.clock entry sources)
       ≡ filter (λ reply. spares reply entry) kept ++ cond covered [] (own entry.answer)
   next_in_force covered other is =
-      let followed = followed_in_force state.replies.window state.clock entry sources ∙ ap (filter (λ reply. spares reply entry)) (sym ready.kept) in
+      let followed = followed_in_force state.replies.window state.clock entry sources
+      ∙ ap (filter (λ reply. spares reply entry)) (sym ready.kept) in
       let new = at covered in
       rw (other, is) (append_in_force state.replies.window state.clock (map (followed_by entry) sources) _ ∙ cc)
     where
@@ -318,7 +339,8 @@ module _ (clients : List Client) (state : State) (sources : List Source) (ready 
     again = λ source there covered.
         let parts = and_parts _ _ (and_parts (not (is_status_server entry)) _ covered).1 in
         let among = image_is_among reply_of (is_in_force state.replies.window state.clock) sources source there parts.1 in
-        let same = is_reply source.reply (subst (λ (replies : List Kept). Contains replies source.reply) (sym ready.kept) among) (and_parts _ _ parts.0).0 in
+        let same = is_reply source.reply (subst (λ (replies : List Kept). Contains replies source.reply) (sym ready.kept) among)
+        (and_parts _ _ parts.0).0 in
         (answered ∙ ap (λ (r : Kept). Send r.body) (sym same), refl);
     kept = sym (next_in_force true other any_covers ∙ (append-nil _ ∙ filter_all (λ r. spares r entry) kept
         (All-weaker (Contains kept) (λ r. spares r entry ≡ true) spared kept (All-contains_itself kept))));
@@ -343,7 +365,8 @@ module _ (clients : List Client) (state : State) (sources : List Source) (ready 
       spared r there = at (same_key (entry_key entry) r.key) refl
         where
           at : (b : Bool) → same_key (entry_key entry) r.key ≡ b → (not b || pointwise ◌==◌ entry.octets r.octets) ≡ true
-          at true own_key = subst (λ (k : Kept). pointwise ◌==◌ entry.octets k.octets ≡ true) (sym (is_reply r there own_key)) same.1
+          at true own_key =
+              subst (λ (k : Kept). pointwise ◌==◌ entry.octets k.octets ≡ true) (sym (is_reply r there own_key)) same.1
           at false other_key = refl
 
   -- the replies to requests with another key, and the entry's own, have different keys
@@ -364,7 +387,8 @@ module _ (clients : List Client) (state : State) (sources : List Source) (ready 
       → after.clock ≡ state.clock → after.replies.window ≡ state.replies.window → IsRight clients state sources entry after
   new_is_right after other none with_own clock window = record {
     again = λ source there covered. absurd (both_ways _ none_covers (list_any-from_Contains covering sources source there covered));
-    kept = with_own ∙ sym (next_in_force false other none_covers ∙ ap (λ (replies : List Kept). replies ++ own entry.answer) spared);
+    kept = with_own ∙ sym (next_in_force false other none_covers
+        ∙ ap (λ (replies : List Kept). replies ++ own entry.answer) spared);
     keys = rw with_own (new_keys entry.answer);
     clock = clock;
     window = window;
@@ -392,41 +416,56 @@ asking request entry answer = record entry {
 }
 
 -- the answer of a step is right
-answer_is_right : (configuration : Configuration) (state : State) (sources : List Source) (request : Request) (entry : Entry) (draw : List ℕ) → IsReady state sources
+answer_is_right : (configuration : Configuration) (state : State) (sources : List Source) (request : Request) (entry : Entry)
+    (draw : List ℕ) → IsReady state sources
     → client_place configuration.clients request.source ≡ Some request.client
-    → IsRight configuration.clients state sources (asking request entry (answer configuration state request draw).0) (answer configuration state request draw).1
-answer_is_right configuration state sources request entry draw ready place = by_code (request.packet.code == code_status_server) refl
+    → IsRight configuration.clients state sources (asking request entry (answer configuration state request draw).0)
+    (answer configuration state request draw).1
+answer_is_right configuration state sources request entry draw ready place =
+    by_code (request.packet.code == code_status_server) refl
   where
     Right : Answer × State → Type 0
     Right r = IsRight configuration.clients state sources (asking request entry r.0) r.1
 
     by_room : (request.packet.code == code_status_server) ≡ false → reply_kept request state ≡ None → (full : Bool)
-        → Right (cond full (Busy, without_reply request state) (sent_and_kept request (reply_by_port request.door configuration (without_reply request state) request draw)))
+        → Right (cond full (Busy, without_reply request state)
+        (sent_and_kept request (reply_by_port request.door configuration (without_reply request state) request draw)))
     by_room other none true =
-        new_is_right configuration.clients state sources ready (asking request entry Busy) (without_reply request state) other none (sym (append-nil _)) refl refl
+        new_is_right configuration.clients state sources ready (asking request entry Busy) (without_reply request state) other none
+        (sym (append-nil _)) refl refl
     by_room other none false =
         let reply : Body × State = reply_by_port request.door configuration (without_reply request state) request draw in
         let left = reply_leaves request.door configuration (without_reply request state) request draw in
-        new_is_right configuration.clients state sources ready (asking request entry (Send reply.0)) (with_reply request reply.0 reply.1) other none
+        new_is_right configuration.clients state sources ready (asking request entry (Send reply.0))
+        (with_reply request reply.0 reply.1) other none
         (rw (left.clock, left.replies, place) refl) left.clock (ap (λ r. r.window) left.replies)
 
     by_lookup : (request.packet.code == code_status_server) ≡ false → (o : Option Kept) → reply_kept request state ≡ o
         → Right (answer_with configuration state request draw o)
-    by_lookup other (Some reply) found = repeat_is_right configuration.clients state sources ready (asking request entry (Send reply.body)) reply other found refl
+    by_lookup other (Some reply) found =
+        repeat_is_right configuration.clients state sources ready (asking request entry (Send reply.body)) reply other found refl
     by_lookup other None none = by_room other none (lacks_room configuration request.client (without_reply request state).replies)
 
     by_code : (b : Bool) → (request.packet.code == code_status_server) ≡ b
-        → Right (cond b (Send (status_reply request.door request.packet), state) (answer_with configuration state request draw (reply_kept request state)))
-    by_code true is = status_is_right configuration.clients state sources ready (asking request entry (Send (status_reply request.door request.packet))) is
+        → Right (cond b (Send (status_reply request.door request.packet), state)
+        (answer_with configuration state request draw (reply_kept request state)))
+    by_code true is = status_is_right configuration.clients state sources ready
+        (asking request entry (Send (status_reply request.door request.packet))) is
     by_code false other = by_lookup other (reply_kept request state) refl
 
 -- so each exchange is right: its entry asks what its request asks
-exchange_is_right : AdmittedAreAnswerable → (configuration : Configuration) (before : State) (sources : List Source) (entry : Entry) (after : State) → IsReady (at_moment entry.moment before) sources
-    → IsExchange configuration before entry after → IsRight configuration.clients (at_moment entry.moment before) sources entry after
+exchange_is_right : AdmittedAreAnswerable
+    → (configuration : Configuration) (before : State) (sources : List Source) (entry : Entry) (after : State)
+    → IsReady (at_moment entry.moment before) sources
+    → IsExchange configuration before entry after
+    → IsRight configuration.clients (at_moment entry.moment before) sources entry after
 exchange_is_right answerable configuration before sources entry after ready exchange =
-    subst (λ (d : Datagram). IsRight configuration.clients state sources (record entry { source = d.source; port = d.port; door = d.door; octets = d.octets }) after) exchange.asked.own
-    (subst (λ (r : Answer × State). IsRight configuration.clients state sources (asking exchange.request entry r.0) r.1) exchange.answered
-    (answer_is_right configuration state sources exchange.request entry entry.draw ready (answerable configuration.clients exchange.request exchange.asked.admitted).place))
+    subst (λ (d : Datagram). IsRight configuration.clients state sources
+    (record entry { source = d.source; port = d.port; door = d.door; octets = d.octets }) after) exchange.asked.own
+    (subst (λ (r : Answer × State). IsRight configuration.clients state sources (asking exchange.request entry r.0) r.1)
+    exchange.answered
+    (answer_is_right configuration state sources exchange.request entry entry.draw ready
+    (answerable configuration.clients exchange.request exchange.asked.admitted).place))
   where
     state : State
     state = at_moment entry.moment before
@@ -434,16 +473,19 @@ exchange_is_right answerable configuration before sources entry after ready exch
 -- ---- the history
 
 -- after an exchange, the state is ready again at any moment
-ready_again : (clients : List Client) (state : State) (sources : List Source) (entry : Entry) (after : State) → IsReady state sources → IsRight clients state sources entry after
+ready_again : (clients : List Client) (state : State) (sources : List Source) (entry : Entry) (after : State)
+    → IsReady state sources → IsRight clients state sources entry after
     → (moment : ℕ) → IsReady (at_moment moment after) (next_sources clients state.replies.window state.clock entry sources)
 ready_again clients state sources entry after ready right moment = record {
   lasts = omega (arith, ready.lasts, right.window);
   keys = AllPairs-filter HaveDifferentKeys _ after.replies.kept right.keys;
-  kept = rw (right.window, right.kept) (sym (later_in_force state.replies.window state.clock (max after.clock moment) _ (omega (arith, right.clock))));
+  kept = rw (right.window, right.kept)
+      (sym (later_in_force state.replies.window state.clock (max after.clock moment) _ (omega (arith, right.clock))));
 }
 
 -- from a state that is ready at any moment, all exchanges answer repeats again
-repeats_follow : AdmittedAreAnswerable → (configuration : Configuration) (before : State) (sources : List Source) (exchanges : List Exchange)
+repeats_follow : AdmittedAreAnswerable
+    → (configuration : Configuration) (before : State) (sources : List Source) (exchanges : List Exchange)
     → ((moment : ℕ) → IsReady (at_moment moment before) sources) → AreExchanges configuration before exchanges
     → RepeatsFollow configuration.clients before.replies.window before.clock before sources exchanges
 repeats_follow answerable configuration before sources [] ready made = tt
@@ -452,14 +494,16 @@ repeats_follow answerable configuration before sources (exchange ∷ rest) ready
     let next = next_sources configuration.clients state.replies.window state.clock exchange.entry sources in
     let now = ready exchange.entry.moment in
     let right = exchange_is_right answerable configuration before sources exchange.entry exchange.after now made.0 in
-    let follow = repeats_follow answerable configuration exchange.after next rest (ready_again configuration.clients state sources exchange.entry exchange.after now right) made.1 in (
+    let follow = repeats_follow answerable configuration exchange.after next rest
+    (ready_again configuration.clients state sources exchange.entry exchange.after now right) made.1 in (
       λ source there covered.
           let again = right.again source there covered in
           record { answer = again.0; sessions = ap (λ s. s.sessions) again.1; challenges = ap (λ s. s.challenges) again.1 },
       (
         right.kept,
         subst (λ (w : ℕ). RepeatsFollow configuration.clients w state.clock exchange.after next rest) right.window
-            (subst (λ (c : ℕ). RepeatsFollow configuration.clients exchange.after.replies.window c exchange.after next rest) right.clock follow),
+            (subst (λ (c : ℕ). RepeatsFollow configuration.clients exchange.after.replies.window c exchange.after next rest)
+            right.clock follow),
       ),
     )
 

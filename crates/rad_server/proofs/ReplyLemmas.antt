@@ -1,5 +1,6 @@
 -- What the server replies can be sealed: it fits a packet, and has a Message-Authenticator first or none.
-use Rattle.std.proofs.Common.{◌≡◌, All, sym, ◌⊎◌, ℕ, ◌+◌, ◌≤◌, Bool, true, false, cond, eqb, List, [], ◌∷◌, ◌++◌, length, Option, Some, None, refl, ap, ◌∙◌, arith, inl, inr}
+use Rattle.std.proofs.Common.{◌≡◌, All, sym, ◌⊎◌, ℕ, ◌+◌, ◌≤◌, Bool, true, false, cond, eqb, List, [], ◌∷◌, ◌++◌, length, Option}
+use Rattle.std.proofs.Common.{Some, None, refl, ap, ◌∙◌, arith, inl, inr}
 use Rattle.std.specs.Int.{w64, to_be_bytes}
 use Rattle.std.specs.Prelude.{IfSome, is_some, option_map}
 use Rattle.std.specs.Option.{option_or}
@@ -24,9 +25,11 @@ use Rattle.rad_pool.specs.declared.grant.Grant.{Grant}
 use Rattle.rad_recent.specs.Challenges.{state_value}
 use Rattle.rad_server.specs.Denials.{denial_text}
 use Rattle.rad_server.specs.FixedReplies.{fixed_body}
-use Rattle.rad_server.specs.Replies.{accept_attributes, access_accept, access_challenge, access_reject, access_reply, accounting_response, attribute, attribute_if_any, class_value, four_octets}
+use Rattle.rad_server.specs.Replies.{accept_attributes, access_accept, access_challenge, access_reject, access_reply}
+use Rattle.rad_server.specs.Replies.{accounting_response, attribute, attribute_if_any, class_value, four_octets}
 use Rattle.rad_server.specs.declared.denial.Denial.{Denial}
-use Rattle.rad_server.specs.declared.denial.Denial.TheVariants.{EapNotSupported, MalformedRequest, StateUnknown, WrongState, AccessDenied, SessionLimit, NoAddressLeft, ServerFull}
+use Rattle.rad_server.specs.declared.denial.Denial.TheVariants.{EapNotSupported, MalformedRequest, StateUnknown, WrongState}
+use Rattle.rad_server.specs.declared.denial.Denial.TheVariants.{AccessDenied, SessionLimit, NoAddressLeft, ServerFull}
 use Rattle.rad_server.specs.declared.fixed_reply.FixedReply.{FixedReply}
 use Rattle.rad_server.specs.declared.fixed_reply.FixedReply.TheVariants.{Accounting, Denied, Status}
 
@@ -42,7 +45,8 @@ count-of_kind : (list : List Attribute) → count 80 (of_kind 33 list) ≡ 0
 count-of_kind [] = refl
 count-of_kind (a ∷ list) = at (eqb a.kind 33) refl (count-of_kind list)
   where
-    at : (b : Bool) → eqb a.kind 33 ≡ b → count 80 (of_kind 33 list) ≡ 0 → count 80 (cond b (a ∷ of_kind 33 list) (of_kind 33 list)) ≡ 0
+    at : (b : Bool) → eqb a.kind 33 ≡ b → count 80 (of_kind 33 list) ≡ 0
+        → count 80 (cond b (a ∷ of_kind 33 list) (of_kind 33 list)) ≡ 0
     at false e others = others
     at true e others =
         let other : eqb a.kind 80 ≡ false = ne_eqb a.kind 80 (λ is. absurd (omega (arith, eqb-true a.kind 33 e))) in
@@ -69,7 +73,8 @@ own-integer : (kind : ℕ) (number : Option ℕ) → (kind ≡ 80 → ⊥) → I
 own-integer kind None other = record { size = omega arith; none = refl }
 own-integer kind (Some number) other = own-one kind 4 (four_octets number) other (omega arith)
 
-own-text : (kind : ℕ) (text : Option (List ℕ)) → (kind ≡ 80 → ⊥) → IfSome text (λ octets. length octets ≤ value_max) → IsOwn 255 (attribute_if_any kind text)
+own-text : (kind : ℕ) (text : Option (List ℕ)) → (kind ≡ 80 → ⊥) → IfSome text (λ octets. length octets ≤ value_max)
+    → IsOwn 255 (attribute_if_any kind text)
 own-text kind None other short = record { size = omega arith; none = refl }
 own-text kind (Some octets) other short = own-one kind 253 octets other short
 
@@ -84,7 +89,8 @@ accounting_is_reply p le = record {
   kind = inl (record { code = refl; none = count-of_kind p.attributes });
 }
 
-access_is_reply : (code : ℕ) (own : List Attribute) (p : Packet) → (code ≡ 2) ⊎ ((code ≡ 3) ⊎ (code ≡ 11)) → IsOwn 474 own → proxy_states_size p ≤ proxy_states_max
+access_is_reply : (code : ℕ) (own : List Attribute) (p : Packet) → (code ≡ 2) ⊎ ((code ≡ 3) ⊎ (code ≡ 11)) → IsOwn 474 own
+    → proxy_states_size p ≤ proxy_states_max
     → IsReply (access_reply code own p)
 access_is_reply code own p is short le =
     let unsealed : Attribute = record { kind = 80; value = sixteen_zeros } in
@@ -94,7 +100,8 @@ access_is_reply code own p is short le =
         code = is;
         first = (refl, refl);
         only =
-            let front : count 80 (unsealed ∷ own ++ of_kind 33 p.attributes) ≡ 1 + count 80 (own ++ of_kind 33 p.attributes) = sum_by-cons (λ (x : Attribute). cond (eqb x.kind 80) 1 0) unsealed (own ++ of_kind 33 p.attributes) in
+            let front : count 80 (unsealed ∷ own ++ of_kind 33 p.attributes) ≡ 1 + count 80 (own ++ of_kind 33 p.attributes) =
+            sum_by-cons (λ (x : Attribute). cond (eqb x.kind 80) 1 0) unsealed (own ++ of_kind 33 p.attributes) in
             front ∙ omega (arith, count-append 80 own (of_kind 33 p.attributes), count-of_kind p.attributes, short.none);
       });
     }
@@ -167,7 +174,8 @@ granted_count kind (a ∷ list) kept_out all =
   where
     at : (b : Bool) → eqb a.kind kind ≡ b → count kind list ≡ 0 → count kind (a ∷ list) ≡ 0
     at false e others = sum_by-cons (λ (x : Attribute). cond (eqb x.kind kind) 1 0) a list ∙ rw e (omega (arith, others))
-    at true e others = absurd (false≢true (sym kept_out ∙ ap may_be_granted (sym (eqb-true a.kind kind e)) ∙ (All-head IsGrantable a list all).kind))
+    at true e others = absurd (false≢true
+        (sym kept_out ∙ ap may_be_granted (sym (eqb-true a.kind kind e)) ∙ (All-head IsGrantable a list all).kind))
 
 size_integer : (kind : ℕ) (o : Option ℕ) → size (attribute_if_any kind (option_map four_octets o)) ≡ size_if_any 6 o
 size_integer kind None = refl
@@ -181,7 +189,8 @@ size_class : (number : ℕ) → size (attribute 25 (class_value number)) ≡ 14
 size_class number = refl
 
 -- an address is there only with one of the user's own, or a pool
-size_address : (address pool : Option ℕ) → (is_some address ≡ true → is_some pool ≡ true) → size_if_any 6 address ≤ size_if_any 6 pool
+size_address : (address pool : Option ℕ) → (is_some address ≡ true → is_some pool ≡ true)
+    → size_if_any 6 address ≤ size_if_any 6 pool
 size_address None pool has = omega arith
 size_address (Some address) None has = absurd (false≢true (has refl))
 size_address (Some address) (Some place) has = omega arith
@@ -191,7 +200,8 @@ size_either : (own pool : Option ℕ) → size_if_any 6 (option_or own pool) ≤
 size_either None pool = omega arith
 size_either (Some address) pool = omega arith
 
-pub can_be_accepted : (pools : ℕ) (user : User) (grant : Grant) → IsUser pools user → (is_some grant.address ≡ true → is_some (option_or user.address user.pool) ≡ true)
+pub can_be_accepted : (pools : ℕ) (user : User) (grant : Grant) → IsUser pools user
+    → (is_some grant.address ≡ true → is_some (option_or user.address user.pool) ≡ true)
     → CanBeAccepted user grant
 can_be_accepted pools user grant is has = record {
   fits =
@@ -223,15 +233,18 @@ can_be_accepted pools user grant is has = record {
   none = granted_count 80 user.reply.attributes refl is.reply;
 }
 
-pub challenge_is_reply : (user : User) (number : ℕ) (draw : List ℕ) (p : Packet) → IfSome user.challenge (λ text. length text ≤ value_max) → length draw ≡ 16 → proxy_states_size p ≤ proxy_states_max
+pub challenge_is_reply : (user : User) (number : ℕ) (draw : List ℕ) (p : Packet)
+    → IfSome user.challenge (λ text. length text ≤ value_max) → length draw ≡ 16 → proxy_states_size p ≤ proxy_states_max
     → IsReply (access_challenge user number draw p)
 challenge_is_reply user number draw p text drawn le =
     access_is_reply 11 (attribute_if_any 18 user.challenge ++ attribute 24 (state_value number draw)) p (inr (inr refl)) own le
   where
     own : IsOwn 474 (attribute_if_any 18 user.challenge ++ attribute 24 (state_value number draw))
     own =
-        own-append 255 26 474 _ (attribute 24 (state_value number draw)) (omega arith) (own-text 18 user.challenge (λ e. omega (arith, e)) text)
-        (own-one 24 24 (state_value number draw) (λ e. omega (arith, e)) (omega (arith, length-append (to_be_bytes w64 number) draw, drawn)))
+        own-append 255 26 474 _ (attribute 24 (state_value number draw)) (omega arith)
+        (own-text 18 user.challenge (λ e. omega (arith, e)) text)
+        (own-one 24 24 (state_value number draw) (λ e. omega (arith, e))
+        (omega (arith, length-append (to_be_bytes w64 number) draw, drawn)))
 
 pub status_is_reply : (p : Packet) → proxy_states_size p ≤ proxy_states_max → IsReply (access_reply 2 [] p)
 status_is_reply p le = access_is_reply 2 [] p (inl refl) (record { size = omega arith; none = refl }) le

@@ -1,9 +1,12 @@
 -- What the rules ask of a row that is put back is what the law asks of the state with it.
-use Rattle.std.proofs.Common.{◌≡◌, ◌↔◌, ◌⊎◌, ℕ, ◌+◌, ◌-◌, ◌≤◌, ◌<◌, Bool, true, false, not, cond, ◌&&◌, ◌||◌, ◌==◌, eqb, List, [], ◌∷◌, ◌++◌, length, find, All, Option, Some, None, option_map, Result, Ok, Err, arith, refl, ap, sym, ◌∙◌, inl, inr}
+use Rattle.std.proofs.Common.{◌≡◌, ◌↔◌, ◌⊎◌, ℕ, ◌+◌, ◌-◌, ◌≤◌, ◌<◌, Bool, true, false, not, cond, ◌&&◌, ◌||◌, ◌==◌, eqb, List, []}
+use Rattle.std.proofs.Common.{◌∷◌, ◌++◌, length, find, All, Option, Some, None, option_map, Result, Ok, Err, arith, refl, ap, sym}
+use Rattle.std.proofs.Common.{◌∙◌, inl, inr}
 use Rattle.std.specs.Cmp.Lexicographic.{same_text}
 use Rattle.std.specs.List.{list_any}
 use Rattle.std.specs.Prelude.{is_some, nat_le, slice_index_or}
-use Rattle.std.proofs.lemmas.Bool.{and_from, and_parts, both_ways, eq-eqb, eqb-true, le-leb, leb-false, leb-true, lt-leb, not-false, not-true, not_from_false, not_from_true, or_parts}
+use Rattle.std.proofs.lemmas.Bool.{and_from, and_parts, both_ways, eq-eqb, eqb-true, le-leb, leb-false, leb-true, lt-leb, not-false}
+use Rattle.std.proofs.lemmas.Bool.{not-true, not_from_false, not_from_true, or_parts}
 use Rattle.std.proofs.lemmas.Cmp.{nat_list_eq_equiv}
 use Rattle.std.proofs.lemmas.List.Elements.{All-contains, All-push, All-weaker, Contains-append_left, Contains-push}
 use Rattle.std.proofs.lemmas.List.Folds.{Any-from_list_any, list_any_at}
@@ -34,7 +37,9 @@ use Rattle.rad_server.proofs.AddressLemmas.{KeepsSessions, still_has}
 use Rattle.rad_server.proofs.ShareLemmas.{MayWait, shares_with_nobodys, shares_with_one, spare_before, waiting_with_row}
 use Rattle.rad_server.specs.Lawful.{HasItsSession, IsChallengeOf, IsLawful, IsOwned, IsRepeatable, IsSessionOf}
 use Rattle.rad_server.specs.Replies.{class_value, four_octets}
-use Rattle.rad_server.specs.Restored.{HaveNumbers, IsNew, IsRow, begins_sealable, challenge_rules, has_used_challenges, has_used_share, is_address_in, is_reply_of, is_same_place, can_be_sealed, is_its_session, is_value, lacks_session, reply_rules, restorable, with_row}
+use Rattle.rad_server.specs.Restored.{HaveNumbers, IsNew, IsRow, begins_sealable, challenge_rules, has_used_challenges}
+use Rattle.rad_server.specs.Restored.{has_used_share, is_address_in, is_reply_of, is_same_place, can_be_sealed, is_its_session}
+use Rattle.rad_server.specs.Restored.{is_value, lacks_session, reply_rules, restorable, with_row}
 use Rattle.rad_server.specs.Shares.{AreSharedChallenges, AreSharedReplies, challenges_limit, challenges_share, replies_share}
 use Rattle.rad_server.specs.States.{State}
 use Rattle.rad_server.specs.Users.{user_at}
@@ -44,13 +49,15 @@ use Rattle.rad_server.specs.declared.state_row.StateRow.TheVariants as rows
 -- ---- ladders
 
 -- a check that is passed, and what follows it
-pub past : {A E : Type 0} (refused : Bool) (refusal : E) (next : Unit {0} → Result A E) (value : A) → (refuse_if refused refusal >>= next) ≡ Ok value
+pub past : {A E : Type 0} (refused : Bool) (refusal : E) (next : Unit {0} → Result A E) (value : A)
+    → (refuse_if refused refusal >>= next) ≡ Ok value
     → (refused ≡ false) × (next tt ≡ Ok value)
 past true refusal next value is = absurd (cc)
 past false refusal next value is = (refl, is)
 
 -- the first of two checks, and what follows it
-pub both_pass : {B E : Type 0} (first : Result (Unit {0}) E) (next : Result B E) (value : B) → (first >>= λ _. next) ≡ Ok value → (first ≡ Ok tt) × (next ≡ Ok value)
+pub both_pass : {B E : Type 0} (first : Result (Unit {0}) E) (next : Result B E) (value : B) → (first >>= λ _. next) ≡ Ok value
+    → (first ≡ Ok tt) × (next ≡ Ok value)
 both_pass (Ok done) next value is = (refl, is)
 both_pass (Err fault) next value is = absurd (cc)
 
@@ -63,7 +70,8 @@ past_last false refusal is = refl
 -- a Type of which no attribute is found has none
 none_counted : (kind : ℕ) (list : List Attribute) → is_some (first_value kind list) ≡ false → count kind list ≡ 0
 none_counted kind [] none = refl
-none_counted kind (a ∷ list) none = at (eqb a.kind kind) (sum_by-cons (λ (x : Attribute). cond {A = ℕ} (eqb x.kind kind) 1 0) a list) none (none_counted kind list)
+none_counted kind (a ∷ list) none =
+    at (eqb a.kind kind) (sum_by-cons (λ (x : Attribute). cond {A = ℕ} (eqb x.kind kind) 1 0) a list) none (none_counted kind list)
   where
     at : (b : Bool) → count kind (a ∷ list) ≡ cond {A = ℕ} b 1 0 + count kind list
         → is_some (option_map (λ (x : Attribute). x.value) (cond b (Some a) (find (is_of kind) list))) ≡ false
@@ -73,7 +81,8 @@ none_counted kind (a ∷ list) none = at (eqb a.kind kind) (sum_by-cons (λ (x :
 
 none_found : (kind : ℕ) (list : List Attribute) → count kind list ≡ 0 → is_some (first_value kind list) ≡ false
 none_found kind [] none = refl
-none_found kind (a ∷ list) none = at (eqb a.kind kind) (sum_by-cons (λ (x : Attribute). cond {A = ℕ} (eqb x.kind kind) 1 0) a list) none (none_found kind list)
+none_found kind (a ∷ list) none =
+    at (eqb a.kind kind) (sum_by-cons (λ (x : Attribute). cond {A = ℕ} (eqb x.kind kind) 1 0) a list) none (none_found kind list)
   where
     at : (b : Bool) → count kind (a ∷ list) ≡ cond {A = ℕ} b 1 0 + count kind list → count kind (a ∷ list) ≡ 0
         → (count kind list ≡ 0 → is_some (first_value kind list) ≡ false)
@@ -106,7 +115,8 @@ begins_so (a ∷ list) begins only =
 code_says : (code : ℕ) → ((code == 2) || (code == 3) || (code == 11)) ≡ true → (code ≡ 2) ⊎ ((code ≡ 3) ⊎ (code ≡ 11))
 code_says code is = at (code == 2) (code == 3) (code == 11) refl refl refl is
   where
-    at : (a b c : Bool) → (code == 2) ≡ a → (code == 3) ≡ b → (code == 11) ≡ c → (a || b || c) ≡ true → (code ≡ 2) ⊎ ((code ≡ 3) ⊎ (code ≡ 11))
+    at : (a b c : Bool) → (code == 2) ≡ a → (code == 3) ≡ b → (code == 11) ≡ c → (a || b || c) ≡ true
+        → (code ≡ 2) ⊎ ((code ≡ 3) ⊎ (code ≡ 11))
     at true b c x y z is = inl (eqb-true code 2 x)
     at false true c x y z is = inr (inl (eqb-true code 3 y))
     at false false true x y z is = inr (inr (eqb-true code 11 z))
@@ -120,8 +130,12 @@ kind_says body is = at (body.code == 5) refl is
     access = (body.code == 2) || (body.code == 3) || (body.code == 11)
 
     at : (b : Bool) → (body.code == 5) ≡ b
-        → cond b (not (is_some (first_value 80 body.attributes))) (access && begins_sealable body.attributes) ≡ true → IsAccountingResponse body ⊎ IsAccessReply body
-    at true code is = inl (record { code = eqb-true body.code 5 code; none = none_counted 80 body.attributes (not-true (is_some (first_value 80 body.attributes)) is) })
+        → cond b (not (is_some (first_value 80 body.attributes))) (access && begins_sealable body.attributes) ≡ true
+        → IsAccountingResponse body ⊎ IsAccessReply body
+    at true code is = inl (record {
+      code = eqb-true body.code 5 code;
+      none = none_counted 80 body.attributes (not-true (is_some (first_value 80 body.attributes)) is);
+    })
     at false code is =
         let parts = and_parts access (begins_sealable body.attributes) is in
         let begins = begins_says body.attributes parts.1 in
@@ -143,7 +157,10 @@ kind_so body (inr access) = by_code access.code
 sealable_says : (body : Body) → can_be_sealed body ≡ true → IsReply body
 sealable_says body is =
     let parts = and_parts (nat_le (size body.attributes) (length_max - header_size)) (is_reply_of body.code body.attributes) is in
-    record { fits = omega (arith, leb-true (size body.attributes) (length_max - header_size) parts.0); kind = kind_says body parts.1 }
+    record {
+      fits = omega (arith, leb-true (size body.attributes) (length_max - header_size) parts.0);
+      kind = kind_says body parts.1;
+    }
 
 sealable_so : (body : Body) → IsReply body → can_be_sealed body ≡ true
 sealable_so body is =
@@ -159,16 +176,19 @@ value_says value (Some own) is = ap Some (sym (same_text value own (sym is)))
 value_so : (value : List ℕ) (own : Option (List ℕ)) → own ≡ Some value → is_value value own ≡ true
 value_so value own is = rw (is) (nat_list_eq_equiv.refl value)
 
-address_says : (value : Option (List ℕ)) (address : Option ℕ) → is_address_in value address ≡ true → option_map four_octets address ≡ value
+address_says : (value : Option (List ℕ)) (address : Option ℕ) → is_address_in value address ≡ true
+    → option_map four_octets address ≡ value
 address_says value None is = absurd (both_ways false refl is)
 address_says value (Some address) is = sym (value_says (four_octets address) value is)
 
-address_so : (value : List ℕ) (own : Option (List ℕ)) (address : Option ℕ) → own ≡ Some value → option_map four_octets address ≡ Some value → is_address_in own address ≡ true
+address_so : (value : List ℕ) (own : Option (List ℕ)) (address : Option ℕ) → own ≡ Some value
+    → option_map four_octets address ≡ Some value → is_address_in own address ≡ true
 address_so value own None own_is is = absurd (cc)
 address_so value own (Some address) own_is is = value_so (four_octets address) own (own_is ∙ sym is)
 
 -- a session that has what a reply gives
-its_says : (reply : Kept) (session : Session) (value : List ℕ) → first_value 8 reply.body.attributes ≡ Some value → is_its_session reply session ≡ true
+its_says : (reply : Kept) (session : Session) (value : List ℕ) → first_value 8 reply.body.attributes ≡ Some value
+    → is_its_session reply session ≡ true
     → IsSessionOf reply.body value session × (session.made ≡ reply.made)
 its_says reply session value gives is =
     let class = is_value (class_value session.number) (first_value 25 reply.body.attributes) in
@@ -182,7 +202,8 @@ its_says reply session value gives is =
       eqb-true session.made reply.made parts.1,
     )
 
-its_so : (reply : Kept) (session : Session) (value : List ℕ) → first_value 8 reply.body.attributes ≡ Some value → IsSessionOf reply.body value session → session.made ≡ reply.made
+its_so : (reply : Kept) (session : Session) (value : List ℕ) → first_value 8 reply.body.attributes ≡ Some value
+    → IsSessionOf reply.body value session → session.made ≡ reply.made
     → is_its_session reply session ≡ true
 its_so reply session value gives is made =
     let class = is_value (class_value session.number) (first_value 25 reply.body.attributes) in
@@ -194,14 +215,16 @@ its_so reply session value gives is made =
 
 session_says : (table : Sessions) (reply : Kept) → lacks_session table reply ≡ false → HasItsSession table reply.body reply.made
 session_says table reply lacks accept value gives =
-    let there : list_any (is_its_session reply) table.sessions ≡ true = not-false (list_any (is_its_session reply) table.sessions) (given lacks) in
+    let there : list_any (is_its_session reply) table.sessions ≡ true =
+    not-false (list_any (is_its_session reply) table.sessions) (given lacks) in
     let found = Any-from_list_any (is_its_session reply) table.sessions there in
     let session : Session = found.1 in
     let its = its_says reply session value gives found.4 in
     (session, (found.0, found.2, found.3), its.0, its.1)
   where
     given : lacks_session table reply ≡ false → not (list_any (is_its_session reply) table.sessions) ≡ false
-    given lacks = sym (λ j. (eq-eqb reply.body.code 2 accept j && is_some (gives j)) && not (list_any (is_its_session reply) table.sessions)) ∙ lacks
+    given lacks = sym (λ j. (eq-eqb reply.body.code 2 accept j && is_some (gives j))
+        && not (list_any (is_its_session reply) table.sessions)) ∙ lacks
 
 pub session_so : (table : Sessions) (reply : Kept) → HasItsSession table reply.body reply.made → lacks_session table reply ≡ false
 session_so table reply has = at (reply.body.code == 2) refl (first_value 8 reply.body.attributes) refl
@@ -229,22 +252,26 @@ same_so : (place other : Option ℕ) → place ≡ other → is_same_place place
 same_so None other is = rw (sym is) refl
 same_so (Some place) other is = rw (sym is) (eq-eqb place place refl)
 
-shares_say : (configuration : Configuration) (reply : Kept) (table : Replies) → has_used_share configuration table reply.client ≡ false
+shares_say : (configuration : Configuration) (reply : Kept) (table : Replies)
+    → has_used_share configuration table reply.client ≡ false
     → AreSharedReplies configuration table → AreSharedReplies configuration (with_reply reply table)
 shares_say configuration reply table spare shares = by_client reply.client refl spare
   where
-    by_client : (client : Option ℕ) → reply.client ≡ client → has_used_share configuration table client ≡ false → AreSharedReplies configuration (with_reply reply table)
+    by_client : (client : Option ℕ) → reply.client ≡ client → has_used_share configuration table client ≡ false
+        → AreSharedReplies configuration (with_reply reply table)
     by_client None own spare = shares_with_nobodys configuration reply table own shares
     by_client (Some client) own spare = shares_with_one configuration client reply table own spare shares
 
-pub shares_so : (configuration : Configuration) (reply : Kept) (table : Replies) → AreSharedReplies configuration (with_reply reply table)
+pub shares_so : (configuration : Configuration) (reply : Kept) (table : Replies)
+    → AreSharedReplies configuration (with_reply reply table)
     → has_used_share configuration table reply.client ≡ false
 shares_so configuration reply table shares = by_client reply.client refl
   where
     by_client : (client : Option ℕ) → reply.client ≡ client → has_used_share configuration table client ≡ false
     by_client None own = refl
     by_client (Some client) own =
-        spare_before (replies_share configuration client) (takes_share_of client) table.kept reply (ap (is_client client) own ∙ eq-eqb client client refl) (shares client)
+        spare_before (replies_share configuration client) (takes_share_of client) table.kept reply
+        (ap (is_client client) own ∙ eq-eqb client client refl) (shares client)
 
 -- what holds of a reply that joins the others
 pub record Joins (configuration : Configuration) (table : Sessions) (replies : Replies) (reply : Kept) : Type 0 where
@@ -253,7 +280,8 @@ pub record Joins (configuration : Configuration) (table : Sessions) (replies : R
   pub shares : AreSharedReplies configuration replies → AreSharedReplies configuration (with_reply reply replies)
   pub address : HasItsSession table reply.body reply.made
 
-joins_says : (configuration : Configuration) (table : Sessions) (replies : Replies) (reply : Kept) → reply_rules configuration table replies reply ≡ Ok tt
+joins_says : (configuration : Configuration) (table : Sessions) (replies : Replies) (reply : Kept)
+    → reply_rules configuration table replies reply ≡ Ok tt
     → Joins configuration table replies reply
 unfolding reply_rules
 joins_says configuration table replies reply is =
@@ -278,11 +306,19 @@ joins_says configuration table replies reply is =
       address = session_says table reply (past_last lacks faults.Session d.1);
     }
 
-pub joins_so : (configuration : Configuration) (table : Sessions) (replies : Replies) (reply : Kept) → IsRepeatable reply → IsOwned configuration reply
-    → has_used_share configuration replies reply.client ≡ false → HasItsSession table reply.body reply.made → reply_rules configuration table replies reply ≡ Ok tt
+pub joins_so : (configuration : Configuration) (table : Sessions) (replies : Replies) (reply : Kept) → IsRepeatable reply
+    → IsOwned configuration reply
+    → has_used_share configuration replies reply.client ≡ false → HasItsSession table reply.body reply.made
+    → reply_rules configuration table replies reply ≡ Ok tt
 unfolding reply_rules
 joins_so configuration table replies reply repeatable owned spare its =
-    rw (sealable_so reply.body repeatable.sealable, repeatable.request, same_so reply.client (client_place configuration.clients reply.key.source) owned, spare, session_so table reply its) refl
+    rw (
+      sealable_so reply.body repeatable.sealable,
+      repeatable.request,
+      same_so reply.client (client_place configuration.clients reply.key.source) owned,
+      spare,
+      session_so table reply its,
+    ) refl
 
 -- ---- what joins a challenge
 
@@ -293,7 +329,8 @@ pub record Waits (configuration : Configuration) (challenges : Challenges) (row 
   pub answer : is_some (user_at configuration row.user).answer ≡ true
   pub may : MayWait configuration row.client row.user challenges
 
-waits_says : (configuration : Configuration) (challenges : Challenges) (row : Challenge) → challenge_rules configuration challenges row ≡ Ok tt
+waits_says : (configuration : Configuration) (challenges : Challenges) (row : Challenge)
+    → challenge_rules configuration challenges row ≡ Ok tt
     → Waits configuration challenges row
 unfolding challenge_rules
 waits_says configuration challenges row is =
@@ -307,7 +344,8 @@ waits_says configuration challenges row is =
     let b = past (nat_le (length configuration.users) row.user) faults.User third tt a.1 in
     let c = past unanswered faults.Answer last tt b.1 in
     let d = or_parts (is_reached (challenges_share configuration row.client) (waiting_with (parties.Client row.client) challenges))
-    (is_reached (challenges_limit configuration row.user) (waiting_with (parties.User row.user) challenges)) (past_last used faults.Share c.1) in
+    (is_reached (challenges_limit configuration row.user) (waiting_with (parties.User row.user) challenges))
+    (past_last used faults.Share c.1) in
     record {
       client = leb-false (length configuration.clients) row.client a.0;
       user = leb-false (length configuration.users) row.user b.0;
@@ -319,13 +357,22 @@ pub waits_so : (configuration : Configuration) (challenges : Challenges) (row : 
     → challenge_rules configuration challenges row ≡ Ok tt
 unfolding challenge_rules
 waits_so configuration challenges row waits =
-    rw (lt-leb (length configuration.clients) row.client waits.client, lt-leb (length configuration.users) row.user waits.user, waits.answer, waits.may.shared, waits.may.own) refl
+    rw (
+      lt-leb (length configuration.clients) row.client waits.client,
+      lt-leb (length configuration.users) row.user waits.user,
+      waits.answer,
+      waits.may.shared,
+      waits.may.own,
+    ) refl
 
-pub may_wait_so : (configuration : Configuration) (challenges : Challenges) (row : Challenge) → AreSharedChallenges configuration (with_challenge_row row challenges)
+pub may_wait_so : (configuration : Configuration) (challenges : Challenges) (row : Challenge)
+    → AreSharedChallenges configuration (with_challenge_row row challenges)
     → MayWait configuration row.client row.user challenges
 may_wait_so configuration challenges row shared = record {
-  own = spare_before (challenges_limit configuration row.user) (is_with (parties.User row.user)) challenges.challenges row (eq-eqb row.user row.user refl) (shared.users row.user);
-  shared = spare_before (challenges_share configuration row.client) (is_with (parties.Client row.client)) challenges.challenges row (eq-eqb row.client row.client refl) (shared.clients row.client);
+  own = spare_before (challenges_limit configuration row.user) (is_with (parties.User row.user)) challenges.challenges row
+      (eq-eqb row.user row.user refl) (shared.users row.user);
+  shared = spare_before (challenges_share configuration row.client) (is_with (parties.Client row.client)) challenges.challenges row
+      (eq-eqb row.client row.client refl) (shared.clients row.client);
 }
 
 -- ---- one row
@@ -340,9 +387,11 @@ pub record RowLaws : Type 0 where
 
 -- a session more
 more_keeps : (row : Session) (table : Sessions) → KeepsSessions table (sessions.with_row row table)
-more_keeps row table = λ session there. (session, Contains-append_left table.sessions (row ∷ []) session there, record { number = refl; address = refl; made = refl })
+more_keeps row table = λ session there.
+    (session, Contains-append_left table.sessions (row ∷ []) session there, record { number = refl; address = refl; made = refl })
 
-pub restore_is_the_law : RowLaws → (configuration : Configuration) (row : StateRow) (state : State) → IsRow row → IsLawful configuration state
+pub restore_is_the_law : RowLaws → (configuration : Configuration) (row : StateRow) (state : State) → IsRow row
+    → IsLawful configuration state
     → (restorable configuration row state ≡ Ok tt) ↔ (IsNew row state × IsLawful configuration (with_row row state))
 unfolding restorable
 restore_is_the_law laws configuration (rows.Session row) state is lawful =
@@ -359,8 +408,10 @@ restore_is_the_law laws configuration (rows.Session row) state is lawful =
           owned = lawful.owned;
           shares = lawful.shares;
           repeatable = lawful.repeatable;
-          addresses = All-weaker (λ (reply : Kept). HasItsSession state.sessions reply.body reply.made) (λ (reply : Kept). HasItsSession (sessions.with_row row state.sessions) reply.body reply.made)
-              (λ reply its. still_has state.sessions (sessions.with_row row state.sessions) reply.body reply.made (more_keeps row state.sessions) its) state.replies.kept lawful.addresses;
+          addresses = All-weaker (λ (reply : Kept). HasItsSession state.sessions reply.body reply.made)
+              (λ (reply : Kept). HasItsSession (sessions.with_row row state.sessions) reply.body reply.made)
+              (λ reply its. still_has state.sessions (sessions.with_row row state.sessions) reply.body reply.made
+              (more_keeps row state.sessions) its) state.replies.kept lawful.addresses;
           challenges = lawful.challenges;
           waiting = lawful.waiting;
           configured = lawful.configured;
@@ -392,9 +443,11 @@ restore_is_the_law laws configuration (rows.LastSession last) state is lawful =
     )
 restore_is_the_law laws configuration (rows.Reply reply) state is lawful =
     let law = laws.reply state.clock reply state.replies lawful.replies in
-    let last = λ (P : Kept → Type 0) (each : All P (state.replies.kept ++ reply ∷ [])). All-contains P (state.replies.kept ++ reply ∷ []) reply each (Contains-push state.replies.kept reply) in (
+    let last = λ (P : Kept → Type 0) (each : All P (state.replies.kept ++ reply ∷ [])). All-contains P
+    (state.replies.kept ++ reply ∷ []) reply each (Contains-push state.replies.kept reply) in (
       (λ fits.
-          let parts = both_pass (reply_rules configuration state.sessions state.replies reply) (reply_restorable state.clock reply state.replies) tt fits in
+          let parts = both_pass (reply_rules configuration state.sessions state.replies reply)
+          (reply_restorable state.clock reply state.replies) tt fits in
           let joins = joins_says configuration state.sessions state.replies reply parts.0 in (
             tt,
             record {
@@ -407,7 +460,8 @@ restore_is_the_law laws configuration (rows.Reply reply) state is lawful =
               owned = All-push (IsOwned configuration) state.replies.kept reply lawful.owned joins.owned;
               shares = joins.shares lawful.shares;
               repeatable = All-push IsRepeatable state.replies.kept reply lawful.repeatable joins.repeatable;
-              addresses = All-push (λ (kept : Kept). HasItsSession state.sessions kept.body kept.made) state.replies.kept reply lawful.addresses joins.address;
+              addresses = All-push (λ (kept : Kept). HasItsSession state.sessions kept.body kept.made) state.replies.kept reply
+                  lawful.addresses joins.address;
               challenges = lawful.challenges;
               waiting = lawful.waiting;
               configured = lawful.configured;
@@ -415,14 +469,17 @@ restore_is_the_law laws configuration (rows.Reply reply) state is lawful =
           )),
       (λ given.
           let new = given.1 in
-          let joins = joins_so configuration state.sessions state.replies reply (last IsRepeatable new.repeatable) (last (IsOwned configuration) new.owned)
-          (shares_so configuration reply state.replies new.shares) (last (λ (kept : Kept). HasItsSession state.sessions kept.body kept.made) new.addresses) in
+          let joins = joins_so configuration state.sessions state.replies reply (last IsRepeatable new.repeatable)
+          (last (IsOwned configuration) new.owned)
+          (shares_so configuration reply state.replies new.shares)
+          (last (λ (kept : Kept). HasItsSession state.sessions kept.body kept.made) new.addresses) in
           ap (λ r. r >>= λ _. reply_restorable state.clock reply state.replies) joins ∙ law.1 new.replies),
     )
 restore_is_the_law laws configuration (rows.Challenge row) state is lawful =
     let law = laws.challenge state.clock row state.challenges is.0 lawful.challenges in (
       (λ fits.
-          let parts = both_pass (challenge_rules configuration state.challenges row) (challenge_restorable state.clock row state.challenges) tt fits in
+          let parts = both_pass (challenge_rules configuration state.challenges row)
+          (challenge_restorable state.clock row state.challenges) tt fits in
           let waits = waits_says configuration state.challenges row parts.0 in
           let new = law.0 parts.1 in (
             new.0,
@@ -445,7 +502,8 @@ restore_is_the_law laws configuration (rows.Challenge row) state is lawful =
           )),
       (λ given.
           let new = given.1 in
-          let own = All-contains (IsChallengeOf configuration) (state.challenges.challenges ++ row ∷ []) row new.configured (Contains-push state.challenges.challenges row) in
+          let own = All-contains (IsChallengeOf configuration) (state.challenges.challenges ++ row ∷ []) row new.configured
+          (Contains-push state.challenges.challenges row) in
           let waits = waits_so configuration state.challenges row (record {
             client = own.client;
             user = own.user;
@@ -481,6 +539,7 @@ restore_is_the_law laws configuration (rows.LastChallenge last) state is lawful 
 pub have_numbers : (configuration : Configuration) (state : State) → IsLawful configuration state → HaveNumbers state.sessions
 have_numbers configuration state lawful = record {
   rising = lawful.sessions.rising;
-  within = All-weaker (IsLawfulSession configuration state.clock state.sessions.next) (λ (session : Session). session.number ≤ last_number)
+  within = All-weaker (IsLawfulSession configuration state.clock state.sessions.next)
+      (λ (session : Session). session.number ≤ last_number)
       (λ session known. omega (arith, known.number.1, lawful.sessions.next.1)) state.sessions.sessions lawful.sessions.sessions;
 }

@@ -9,15 +9,18 @@ use Rattle.rad_server.specs.States.{State}
 use Rattle.rad_server.specs.declared.entry.Entry.{Entry}
 
 -- a run goes on with one more exchange
-pub run_goes_on : (configuration : Configuration) (before : State) (history : List Entry) (state : State) (entry : Entry) (after : State)
-    → Run configuration before history state → IsExchange configuration state entry after → Run configuration before (history ++ entry ∷ []) after
+pub run_goes_on : (configuration : Configuration) (before : State) (history : List Entry) (state : State) (entry : Entry)
+    (after : State)
+    → Run configuration before history state → IsExchange configuration state entry after
+    → Run configuration before (history ++ entry ∷ []) after
 run_goes_on configuration before [] state entry after same exchange =
     (after, subst (λ s. IsExchange configuration s entry after) (sym same) exchange, refl)
 run_goes_on configuration before (first ∷ rest) state entry after run exchange =
     (run.0, run.1, run_goes_on configuration run.0 rest state entry after run.2 exchange)
 
 -- a marked run goes on with one more exchange and its mark
-pub marks_go_on : (configuration : Configuration) (before : State) (history : List Entry) (marks : List Bool) (state : State) (entry : Entry) (mark : Bool) (after : State)
+pub marks_go_on : (configuration : Configuration) (before : State) (history : List Entry) (marks : List Bool) (state : State)
+    (entry : Entry) (mark : Bool) (after : State)
     → MarkedRun configuration before history marks state → IsMarked configuration state entry mark after
     → MarkedRun configuration before (history ++ entry ∷ []) (marks ++ mark ∷ []) after
 marks_go_on configuration before [] [] state entry mark after same marked =
@@ -35,8 +38,10 @@ run_append configuration before (entry ∷ more) rest middle after run next =
     (run.0, run.1, run_append configuration run.0 more rest middle after run.2 next)
 
 -- a run leads from a lawful state to a lawful one
-pub run_is_lawful : AdmittedAreAnswerable → StepKeepsTheLaw → (configuration : Configuration) (before : State) (history : List Entry) (after : State)
-    → IsConfiguration configuration → IsLawful configuration before → Run configuration before history after → IsLawful configuration after
+pub run_is_lawful : AdmittedAreAnswerable → StepKeepsTheLaw
+    → (configuration : Configuration) (before : State) (history : List Entry) (after : State)
+    → IsConfiguration configuration → IsLawful configuration before → Run configuration before history after
+    → IsLawful configuration after
 run_is_lawful answerable steps configuration before [] after valid lawful same = subst (IsLawful configuration) same lawful
 run_is_lawful answerable steps configuration before (entry ∷ rest) after valid lawful run =
     let exchange : IsExchange configuration before entry run.0 = run.1 in

@@ -1,6 +1,7 @@
 -- Who is granted access (RFC 2865, sections 2 and 4.1 to 4.4): the user whose password was sent, after a challenge if the
 -- user has one, as far as sessions and addresses allow.
-use Rattle.std.specs.Prelude.{ℕ, not, Bool, false, if◌then◌else◌, List, Option, Some, None, is_some, option_map, unwrap_or, Result, Ok, Err, ok_or}
+use Rattle.std.specs.Prelude.{ℕ, not, Bool, false, if◌then◌else◌, List, Option, Some, None, is_some, option_map, unwrap_or, Result}
+use Rattle.std.specs.Prelude.{Ok, Err, ok_or}
 use Rattle.std.specs.Str.{bytes_eq}
 use Rattle.rad_packet.specs.Bodies.{Body}
 use Rattle.rad_packet.specs.Ladders.{◌>>=◌, refuse_if}
@@ -49,7 +50,8 @@ answer_matches configuration request sent (Some answer) = password_matches confi
 unfoldable pub user_by_password : Configuration → Request → Credentials → Result ℕ Denial
 user_by_password configuration request credentials = do
   user ← ok_or (user_place configuration.users credentials.name) AccessDenied
-  right ← refuse_if (not (password_matches configuration request credentials.password (user_at configuration user).password)) AccessDenied
+  right ← refuse_if (not (password_matches configuration request credentials.password (user_at configuration user).password))
+      AccessDenied
   Ok user
 
 -- ---- challenges
@@ -61,7 +63,8 @@ answered_challenge client (Some value) challenges = answered value client challe
 
 -- the user whose challenge a request answers, if it answers one
 abbrev pub user_challenged : Request → Option (List ℕ) → State → Option ℕ
-user_challenged request value state = option_map (λ challenge. challenge.user) (answered_challenge request.client value state.challenges)
+user_challenged request value state =
+    option_map (λ challenge. challenge.user) (answered_challenge request.client value state.challenges)
 
 -- the state without that challenge
 abbrev pub without_challenge : ℕ → Option (List ℕ) → State → State
@@ -77,7 +80,8 @@ unfoldable pub user_by_answer : Configuration → Request → Option ℕ → Cre
 user_by_answer configuration request challenged credentials = do
   user ← ok_or challenged StateUnknown
   own ← refuse_if (not (is_name_of configuration user credentials.name)) WrongState
-  right ← refuse_if (not (answer_matches configuration request credentials.password (user_at configuration user).answer)) AccessDenied
+  right ← refuse_if (not (answer_matches configuration request credentials.password (user_at configuration user).answer))
+      AccessDenied
   Ok user
 
 -- the number of a new challenge, or why there is none
@@ -89,7 +93,8 @@ number_or_denial (Err fault) = Err ServerFull
 unfoldable pub challenge_number : Configuration → Challenges → ℕ → ℕ → Result ℕ Denial
 challenge_number configuration challenges client user = do
   own ← refuse_if (is_reached (challenges_limit configuration user) (waiting_with (parties.User user) challenges)) SessionLimit
-  shared ← refuse_if (is_reached (challenges_share configuration client) (waiting_with (parties.Client client) challenges)) ServerFull
+  shared ← refuse_if (is_reached (challenges_share configuration client) (waiting_with (parties.Client client) challenges))
+      ServerFull
   number_or_denial (next_number challenges)
 
 -- a challenge for a user, or why there is none
@@ -143,8 +148,10 @@ decision configuration state request challenged credentials =
 -- the reply that a decision makes, and the state after it
 abbrev pub decided : Configuration → State → Request → List ℕ → Result Decision Denial → Body × State
 decided configuration state request draw (Err denial) = (access_reject denial request.packet, state)
-decided configuration state request draw (Ok (Challenged user)) =
-    (access_challenge (user_at configuration user) state.challenges.next draw request.packet, with_challenge request.client user draw state)
+decided configuration state request draw (Ok (Challenged user)) = (
+  access_challenge (user_at configuration user) state.challenges.next draw request.packet,
+  with_challenge request.client user draw state,
+)
 decided configuration state request draw (Ok (Granted user grant)) = (
   access_accept (user_at configuration user) grant request.packet,
   record state { sessions = with_session request.client request.source user state.clock grant state.sessions },
@@ -155,7 +162,8 @@ abbrev pub access_with : Configuration → State → Request → List ℕ → Re
 access_with configuration state request draw (Err denial) = decided configuration state request draw (Err denial)
 access_with configuration state request draw (Ok credentials) =
     let left = without_challenge request.client credentials.state state in
-    decided configuration left request draw (decision configuration left request (user_challenged request credentials.state state) credentials)
+    decided configuration left request draw
+    (decision configuration left request (user_challenged request credentials.state state) credentials)
 
 -- the reply to an Access-Request, and the state after it
 abbrev pub access : Configuration → State → Request → List ℕ → Body × State

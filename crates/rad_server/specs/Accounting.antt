@@ -1,7 +1,8 @@
--- What an Accounting-Request reports (RFC 2866, sections 4.1 and 5.1). A Start, an Interim-Update or a Stop is recorded of the session
--- that is meant, an Accounting-On or an Accounting-Off of all sessions of its source. An Accounting-Response is made even if no session
--- is meant (section 4.2).
-use Rattle.std.specs.Prelude.{ℕ, ◌==◌, ◌&&◌, ◌||◌, Bool, if◌then◌else◌, List, length, drop, find, take, Option, Some, None, option_map}
+-- What an Accounting-Request reports (RFC 2866, sections 4.1 and 5.1). A Start, an Interim-Update or a Stop is recorded of the
+-- session that is meant, an Accounting-On or an Accounting-Off of all sessions of its source. An Accounting-Response is made even
+-- if no session is meant (section 4.2).
+use Rattle.std.specs.Prelude.{ℕ, ◌==◌, ◌&&◌, ◌||◌, Bool, if◌then◌else◌, List, length, drop, find, take, Option, Some, None}
+use Rattle.std.specs.Prelude.{option_map}
 use Rattle.std.specs.Int.{w64, from_be_bytes}
 use lib.Pointwise.{pointwise}
 use Rattle.rad_packet.specs.Attributes.{Attribute, first_integer, first_value, is_of_len}
@@ -58,7 +59,8 @@ named_user configuration list = option_map (user_place configuration.users) (fir
 abbrev pub session_meant : Configuration → Request → Sessions → Option ℕ
 session_meant configuration request table =
     let list = request.packet.attributes in
-    meant request.client (class_number list) (first_integer type_framed_ip_address list) (named_user configuration list) table.sessions
+    meant request.client (class_number list) (first_integer type_framed_ip_address list) (named_user configuration list)
+    table.sessions
 
 -- the number of the session meant, where a status is that of a Start, an Interim-Update or a Stop
 abbrev pub number_for : Option ℕ → Option ℕ → Option ℕ

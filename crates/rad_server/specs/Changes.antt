@@ -21,7 +21,8 @@ session_of client reference table = meant client reference.number reference.addr
 
 -- the table after an event that a request reports at a moment
 abbrev pub after_event : Request → ℕ → Event → Sessions → Sessions
-after_event request now (events.Renewal reference) table = changed (λ n. renewed n now) (session_of request.client reference table) table
+after_event request now (events.Renewal reference) table =
+    changed (λ n. renewed n now) (session_of request.client reference table) table
 after_event request now (events.Stop reference) table = changed stopped (session_of request.client reference table) table
 after_event request now events.Reset table = source_reset request.source table
 
@@ -44,7 +45,8 @@ changed_by request draw changes.Nothing state = state
 changed_by request draw (changes.Challenge user) state = with_challenge request.client user draw state
 changed_by request draw (changes.Grant session) state =
     record state { sessions = with_session request.client request.source session.user state.clock session.grant state.sessions }
-changed_by request draw (changes.Report event) state = record state { sessions = after_event request state.clock event state.sessions }
+changed_by request draw (changes.Report event) state =
+    record state { sessions = after_event request state.clock event state.sessions }
 
 -- the state after it, without the challenge that was answered
 abbrev pub after : Request → List ℕ → Option (List ℕ) → Change → State → State

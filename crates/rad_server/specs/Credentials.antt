@@ -4,7 +4,8 @@
 use Rattle.std.specs.Prelude.{ℕ, ◌==◌, nat_le, not, if◌then◌else◌, List, length, Option, Some, None, Result, Ok, Err}
 use Rattle.rad_packet.specs.Attributes.{Attribute, has}
 use Rattle.rad_packet.specs.Ladders.{◌>>=◌, refuse_if}
-use Rattle.rad_packet.specs.Types.{type_chap_challenge, type_chap_password, type_eap_message, type_state, type_user_name, type_user_password}
+use Rattle.rad_packet.specs.Types.{type_chap_challenge, type_chap_password, type_eap_message, type_state, type_user_name}
+use Rattle.rad_packet.specs.Types.{type_user_password}
 use Rattle.rad_auth.specs.Chap.{chap_value_size}
 use Rattle.rad_auth.specs.Passwords.{value_fits}
 use Rattle.rad_server.specs.Occurrences.{Occurrence, Absent, Once, Repeated, occurrence}
@@ -65,6 +66,7 @@ unfoldable pub credentials_in : List Attribute → Result Credentials Denial
 credentials_in list = do
   supported ← refuse_if (has type_eap_message list) EapNotSupported
   name ← name_in (occurrence type_user_name list)
-  password ← password_in (occurrence type_user_password list) (occurrence type_chap_password list) (occurrence type_chap_challenge list)
+  password ← password_in (occurrence type_user_password list) (occurrence type_chap_password list)
+      (occurrence type_chap_challenge list)
   state ← state_in (occurrence type_state list)
   Ok (record { name = name; password = password; state = state })

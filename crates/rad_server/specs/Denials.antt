@@ -3,7 +3,8 @@ use Rattle.std.specs.Prelude.{ℕ, List, codes}
 use Rattle.rad_pool.specs.declared.grant.Refusal.{Refusal}
 use Rattle.rad_pool.specs.declared.grant.Refusal.TheVariants as refusals
 use Rattle.rad_server.specs.declared.denial.Denial.{Denial}
-use Rattle.rad_server.specs.declared.denial.Denial.TheVariants.{EapNotSupported, MalformedRequest, StateUnknown, WrongState, AccessDenied, SessionLimit, NoAddressLeft, ServerFull}
+use Rattle.rad_server.specs.declared.denial.Denial.TheVariants.{EapNotSupported, MalformedRequest, StateUnknown, WrongState}
+use Rattle.rad_server.specs.declared.denial.Denial.TheVariants.{AccessDenied, SessionLimit, NoAddressLeft, ServerFull}
 
 abbrev pub denial_text : Denial → List ℕ
 denial_text EapNotSupported = codes "eap not supported"

@@ -1,6 +1,7 @@
 -- The law of the state: what holds of it before the first request, and is kept by each step for a request that may be answered.
 -- `lawful_steps` says so. The laws of the tables are those of `rad_pool` and `rad_recent`.
-use Rattle.std.specs.Prelude.{◌≡◌, ◌↔◌, ℕ, ◌≤◌, ◌<◌, ◌==◌, false, true, is_some, List, length, slice_index_or, All, Contains, Some, option_map, Ok}
+use Rattle.std.specs.Prelude.{◌≡◌, ◌↔◌, ℕ, ◌≤◌, ◌<◌, ◌==◌, false, true, is_some, List, length, slice_index_or, All, Contains, Some}
+use Rattle.std.specs.Prelude.{option_map, Ok}
 use Rattle.rad_packet.specs.Attributes.{first_value}
 use Rattle.rad_packet.specs.Bodies.{Body}
 use Rattle.rad_packet.specs.Codes.{code_access_accept, code_status_server}
@@ -107,7 +108,8 @@ StepKeepsTheLaw = (configuration : Configuration) (state : State) (request : Req
 -- time that passes, up to the last moment
 abbrev pub PassingKeepsTheLaw : Type 0
 PassingKeepsTheLaw = (configuration : Configuration) (state : State) (moment : ℕ)
-    → IsConfiguration configuration → moment ≤ moment_max → IsLawful configuration state → IsLawful configuration (at_moment moment state)
+    → IsConfiguration configuration → moment ≤ moment_max → IsLawful configuration state
+    → IsLawful configuration (at_moment moment state)
 
 -- ---- what is put back
 
@@ -118,4 +120,5 @@ RestoreIsTheLaw = (configuration : Configuration) (row : StateRow) (state : Stat
 
 -- no lawful state is refused: its rows, put back into a server that remembers nothing, give that state
 abbrev pub RestoreRebuilds : Type 0
-RestoreRebuilds = (configuration : Configuration) (state : State) → IsLawful configuration state → rebuilt configuration state ≡ Ok state
+RestoreRebuilds =
+    (configuration : Configuration) (state : State) → IsLawful configuration state → rebuilt configuration state ≡ Ok state

@@ -19,21 +19,25 @@ use Rattle.rad_server.specs.declared.plan.Plan.TheVariants as plans
 use Rattle.rad_server.specs.declared.tables.Tables.{Tables}
 use Rattle.rad_server.specs.Changes.{CanBeMade, IsReadyFor, after, changed_by, session_by}
 
--- A reply that carries out a decision: in each state in which what was decided can be given, body and change are as defined, and the
--- change can be made. It names no session.
-pub record IsDecidedReply (configuration : Configuration) (request : Request) (draw : List ℕ) (decision : Result DecisionOfCode Denial) (reply : NewReply) : Type 0 where
-  pub says : (state : State) (defined : Result Decision Denial) → Gives decision_of decision defined → IfOk decision (CanBeGiven state)
+-- A reply that carries out a decision: in each state in which what was decided can be given, body and change are as defined, and
+-- the change can be made. It names no session.
+pub record IsDecidedReply (configuration : Configuration) (request : Request) (draw : List ℕ)
+    (decision : Result DecisionOfCode Denial) (reply : NewReply) : Type 0 where
+  pub says : (state : State) (defined : Result Decision Denial) → Gives decision_of decision defined
+      → IfOk decision (CanBeGiven state)
       → decided configuration state request draw defined ≡ (reply.body, changed_by request draw reply.change state)
   pub possible : (state : State) → IfOk decision (CanBeGiven state) → CanBeMade state reply.change
   pub session : (state : State) → session_by request reply.change state.sessions ≡ None
 
--- A new reply, given the current state: what it says and what changes are what the rule of the port gives in the state without a reply
--- to a request with the same key, and so is the session that it names.
-pub record IsNewReply (configuration : Configuration) (current : State) (request : Request) (draw : List ℕ) (reply : NewReply) : Type 0 where
+-- A new reply, given the current state: what it says and what changes are what the rule of the port gives in the state without a
+-- reply to a request with the same key, and so is the session that it names.
+pub record IsNewReply (configuration : Configuration) (current : State) (request : Request) (draw : List ℕ)
+    (reply : NewReply) : Type 0 where
   pub planned : reply_by_port request.door configuration (without_reply request current) request draw
       ≡ (reply.body, after request draw (option_copied reply.answered) reply.change (without_reply request current))
   pub possible : CanBeMade (without_challenge request.client (option_copied reply.answered) current) reply.change
-  pub session : session_by request reply.change current.sessions ≡ session_by_port request.door configuration request current.sessions
+  pub session : session_by request reply.change current.sessions
+      ≡ session_by_port request.door configuration request current.sessions
 
 -- what is kept of a reply at a moment is what it says, with what its request is recognised by
 pub record IsToBeKept (now : ℕ) (request : Request) (body : Body) (kept : Kept) : Type 0 where
@@ -44,7 +48,8 @@ pub record IsToBeKept (now : ℕ) (request : Request) (body : Body) (kept : Kept
   pub made : kept.made ≡ now
 
 -- a new reply and what is kept of it answer a fresh request
-pub record IsNewAnswer (configuration : Configuration) (current : State) (request : Request) (draw : List ℕ) (reply : NewReply) (kept : Kept) : Type 0 where
+pub record IsNewAnswer (configuration : Configuration) (current : State) (request : Request) (draw : List ℕ) (reply : NewReply)
+    (kept : Kept) : Type 0 where
   pub fresh : is_fresh configuration current request ≡ true
   pub answered : answer configuration current request draw
       ≡ sent_and_kept request (reply_by_port request.door configuration (without_reply request current) request draw)
@@ -56,7 +61,8 @@ abbrev pub IsPlanOf : Configuration → State → Request → List ℕ → Plan 
 IsPlanOf configuration current request draw (plans.Unchanged body) =
     (answer configuration current request draw ≡ (Send body, current)) × (is_fresh configuration current request ≡ false)
 IsPlanOf configuration current request draw plans.Busy =
-    (answer configuration current request draw ≡ (Busy, without_reply request current)) × (is_fresh configuration current request ≡ false)
+    (answer configuration current request draw ≡ (Busy, without_reply request current))
+    × (is_fresh configuration current request ≡ false)
 IsPlanOf configuration current request draw (plans.New reply kept) = IsNewAnswer configuration current request draw reply kept
 
 -- the answer of a plan

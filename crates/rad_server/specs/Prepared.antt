@@ -1,6 +1,7 @@
 -- What is known of a request before the state is looked at: what the configuration alone tells. Other crates cite `Prepared` and
 -- `prepared_in` alone.
-use Rattle.std.specs.Prelude.{◌≡◌, ℕ, ◌<◌, ◌==◌, Bool, true, false, if◌then◌else◌, is_some, List, length, Option, Some, None, option_copied, option_map, Result, Ok, Err, IfSome}
+use Rattle.std.specs.Prelude.{◌≡◌, ℕ, ◌<◌, ◌==◌, Bool, true, false, if◌then◌else◌, is_some, List, length, Option, Some, None}
+use Rattle.std.specs.Prelude.{option_copied, option_map, Result, Ok, Err, IfSome}
 use Rattle.rad_packet.specs.Bodies.{Body}
 use Rattle.rad_packet.specs.Codes.{code_status_server}
 use Rattle.rad_auth.specs.Admission.{IsAdmitted}
@@ -46,13 +47,15 @@ prepared_in configuration (Some (Ok request)) = Some (record { configuration = c
 
 -- ---- rules
 
--- In every state a request is answered by a fixed reply. The same changes, which can be made, and the change names the session that the
--- request does.
+-- In every state a request is answered by a fixed reply. The same changes, which can be made, and the change names the session that
+-- the request does.
 pub record IsFixed (configuration : Configuration) (request : Request) (fixed : FixedReply) (change : Change) : Type 0 where
   pub says : (state : State) (draw : List ℕ)
-      → reply_by_port request.door configuration state request draw ≡ (fixed_body request.packet fixed, changed_by request draw change state)
+      → reply_by_port request.door configuration state request draw
+      ≡ (fixed_body request.packet fixed, changed_by request draw change state)
   pub possible : (state : State) → CanBeMade state change
-  pub session : (state : State) → session_by request change state.sessions ≡ session_by_port request.door configuration request state.sessions
+  pub session : (state : State) → session_by request change state.sessions
+      ≡ session_by_port request.door configuration request state.sessions
 
 -- the rule by which access is denied in every state
 abbrev pub denied : Denial → Rule
@@ -63,7 +66,8 @@ pub record IsPasswordOf (configuration : Configuration) (request : Request) (use
   pub door : request.door ≡ Auth
   pub within : user < length configuration.users
   pub says : (state : State) (draw : List ℕ)
-      → reply_by_port request.door configuration state request draw ≡ decided configuration state request draw (user_decision configuration state request.client user)
+      → reply_by_port request.door configuration state request draw
+      ≡ decided configuration state request draw (user_decision configuration state request.client user)
 
 -- the users who are challenged are those of the configuration
 abbrev pub AreUsers : Configuration → Request → State → Type 0
@@ -85,7 +89,8 @@ IsRule configuration request (Answer answer) = IsAnswer configuration request an
 -- the same; a Status-Server has no rule
 abbrev pub IsRuleOf : Configuration → Request → Option Rule → Type 0
 IsRuleOf configuration request None = (request.packet.code == code_status_server) ≡ true
-IsRuleOf configuration request (Some rule) = ((request.packet.code == code_status_server) ≡ false) × IsRule configuration request rule
+IsRuleOf configuration request (Some rule) =
+    ((request.packet.code == code_status_server) ≡ false) × IsRule configuration request rule
 
 -- the reply to a request that came to this port, if it is fixed
 abbrev pub fixed_reply : Door → Option Rule → Option FixedReply
@@ -111,8 +116,10 @@ pub record IsRuled (configuration : Configuration) (request : Request) (ruled : 
 -- what is known of a request that was prepared
 abbrev pub IsRuling : Configuration → Request → Ruling → Type 0
 IsRuling configuration request (rulings.Status body) =
-    ((request.packet.code == code_status_server) ≡ true) × IfSome body (λ body. body.now ≡ fixed_body request.packet (Status request.door))
-IsRuling configuration request (rulings.Ruled ruled) = ((request.packet.code == code_status_server) ≡ false) × IsRuled configuration request ruled
+    ((request.packet.code == code_status_server) ≡ true)
+    × IfSome body (λ body. body.now ≡ fixed_body request.packet (Status request.door))
+IsRuling configuration request (rulings.Ruled ruled) =
+    ((request.packet.code == code_status_server) ≡ false) × IsRuled configuration request ruled
 
 -- ---- credentials
 

@@ -5,7 +5,8 @@
 -- A source is what may answer a repeat: a reply that was kept before the history began, or an entry of it that got a reply and
 -- no earlier source covers. A source covers an entry that has its key and its octets, as long as the source lives, and if no
 -- entry between them has its key and other octets. Status-Servers are not counted.
-use Rattle.std.specs.Prelude.{◌≡◌, ℕ, ◌==◌, ◌&&◌, ◌||◌, max, not, Bool, if◌then◌else◌, IsTrue, List, [], ◌∷◌, ◌++◌, Contains, filter, map, slice_index_or}
+use Rattle.std.specs.Prelude.{◌≡◌, ℕ, ◌==◌, ◌&&◌, ◌||◌, max, not, Bool, if◌then◌else◌, IsTrue, List, [], ◌∷◌, ◌++◌, Contains}
+use Rattle.std.specs.Prelude.{filter, map, slice_index_or}
 use Rattle.std.specs.List.{list_all, list_any}
 use lib.Pointwise.{pointwise}
 use Rattle.rad_packet.specs.Codes.{code_status_server}

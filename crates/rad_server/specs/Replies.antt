@@ -9,7 +9,8 @@ use Rattle.rad_packet.specs.Attributes.{Attribute, of_kind}
 use Rattle.rad_packet.specs.Bodies.{Body}
 use Rattle.rad_packet.specs.Codes.{code_access_accept, code_access_challenge, code_access_reject, code_accounting_response}
 use Rattle.rad_packet.specs.Packets.{Packet}
-use Rattle.rad_packet.specs.Types.{type_class, type_framed_ip_address, type_framed_protocol, type_message_authenticator, type_proxy_state, type_reply_message, type_service_type, type_session_timeout, type_state}
+use Rattle.rad_packet.specs.Types.{type_class, type_framed_ip_address, type_framed_protocol, type_message_authenticator}
+use Rattle.rad_packet.specs.Types.{type_proxy_state, type_reply_message, type_service_type, type_session_timeout, type_state}
 use Rattle.rad_auth.specs.Authenticators.{sixteen_zeros}
 use Rattle.rad_auth.specs.declared.arrival.Door.{Door}
 use Rattle.rad_auth.specs.declared.arrival.Door.TheVariants.{Auth, Acct}
@@ -71,7 +72,8 @@ access_reject denial p = access_reply code_access_reject (attribute type_reply_m
 -- the Access-Challenge of a user, for the challenge with this number and draw
 abbrev pub access_challenge : User → ℕ → List ℕ → Packet → Body
 access_challenge user number draw p =
-    access_reply code_access_challenge (attribute_if_any type_reply_message user.challenge ++ attribute type_state (state_value number draw)) p
+    access_reply code_access_challenge
+    (attribute_if_any type_reply_message user.challenge ++ attribute type_state (state_value number draw)) p
 
 abbrev pub accounting_response : Packet → Body
 accounting_response p = record { code = code_accounting_response; attributes = of_kind type_proxy_state p.attributes }

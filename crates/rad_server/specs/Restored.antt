@@ -1,10 +1,13 @@
--- What a server remembers, put back row by row; or which rule of the law a row breaks. `rows_rebuild` says that the rules are the law.
-use Rattle.std.specs.Prelude.{◌≡◌, ℕ, ◌+◌, ◌-◌, ◌<◌, ◌≤◌, ◌==◌, ◌&&◌, ◌||◌, nat_le, not, Bool, true, false, is_some, if◌then◌else◌, List, [], ◌∷◌, ◌++◌, length, map, slice_index_or, All, AllPairs, Option, Some, None, Result, Ok}
+-- What a server remembers, put back row by row; or which rule of the law a row breaks. `rows_rebuild` says that the rules are the
+-- law.
+use Rattle.std.specs.Prelude.{◌≡◌, ℕ, ◌+◌, ◌-◌, ◌<◌, ◌≤◌, ◌==◌, ◌&&◌, ◌||◌, nat_le, not, Bool, true, false, is_some, if◌then◌else◌}
+use Rattle.std.specs.Prelude.{List, [], ◌∷◌, ◌++◌, length, map, slice_index_or, All, AllPairs, Option, Some, None, Result, Ok}
 use Rattle.std.specs.List.{list_any}
 use lib.Pointwise.{pointwise}
 use Rattle.rad_packet.specs.Attributes.{Attribute, first_value, is_of, size}
 use Rattle.rad_packet.specs.Bodies.{Body}
-use Rattle.rad_packet.specs.Codes.{code_access_accept, code_access_challenge, code_access_reject, code_accounting_response, code_status_server}
+use Rattle.rad_packet.specs.Codes.{code_access_accept, code_access_challenge, code_access_reject, code_accounting_response}
+use Rattle.rad_packet.specs.Codes.{code_status_server}
 use Rattle.rad_packet.specs.Ladders.{◌>>=◌, refuse_if}
 use Rattle.rad_packet.specs.Packets.{header_size, length_max}
 use Rattle.rad_packet.specs.Types.{type_class, type_framed_ip_address, type_message_authenticator}
@@ -18,7 +21,8 @@ use Rattle.rad_pool.specs.Sessions.{Sessions}
 use Rattle.rad_pool.specs.declared.session.Session.{Session}
 use Rattle.rad_recent.specs.Challenges.{Challenges, last_challenge, waiting_with}
 use Rattle.rad_recent.specs.Recent.{Replies, replies_for, with_reply}
-use Rattle.rad_recent.specs.Restored.{challenge_restorable, last_challenge_restorable, reply_restorable, with_challenge_row, with_last_challenge}
+use Rattle.rad_recent.specs.Restored.{challenge_restorable, last_challenge_restorable, reply_restorable, with_challenge_row}
+use Rattle.rad_recent.specs.Restored.{with_last_challenge}
 use Rattle.rad_recent.specs.declared.challenge.Challenge.{Challenge}
 use Rattle.rad_recent.specs.declared.challenge.Party.TheVariants as parties
 use Rattle.rad_recent.specs.declared.kept.Kept.{Kept}
@@ -163,7 +167,8 @@ restored configuration (row ∷ rest) state = do
 abbrev pub rows_of : State → List StateRow
 rows_of state =
     map rows.Session state.sessions.sessions ++ rows.LastSession (state.sessions.next - 1)
-    ∷ (map rows.Reply state.replies.kept ++ (map rows.Challenge state.challenges.challenges ++ rows.LastChallenge (state.challenges.next - 1) ∷ []))
+    ∷ (map rows.Reply state.replies.kept
+    ++ (map rows.Challenge state.challenges.challenges ++ rows.LastChallenge (state.challenges.next - 1) ∷ []))
 
 -- the state before the first request, its clock at a state's, with the rows of that state
 abbrev pub rebuilt : Configuration → State → Result State RowFault

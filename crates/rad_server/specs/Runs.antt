@@ -48,7 +48,8 @@ pub record IsRequestOf (clients : List Client) (entry : Entry) (request : Reques
   pub moment : entry.moment ≤ moment_max
   pub draw : length entry.draw ≡ length sixteen_zeros
 
--- the step at an entry's request gives the entry's answer and leads from one state to another, and the request names the entry's session
+-- the step at an entry's request gives the entry's answer and leads from one state to another, and the request names the entry's
+-- session
 pub record IsExchange (configuration : Configuration) (before : State) (entry : Entry) (after : State) : Type 0 where
   pub request : Request
   pub asked : IsRequestOf configuration.clients entry request
@@ -159,8 +160,8 @@ pub record LeadsAlike (configuration : Configuration) (other : State) (entries :
   pub like : IsLikeFromNow after state
   pub replied : All (λ entry. (body : Body) × (entry.answer ≡ Send body)) entries
 
--- the fresh entries of a history are enough: from a state that is like the first one from now on, they alone lead to one that is like the
--- last one
+-- the fresh entries of a history are enough: from a state that is like the first one from now on, they alone lead to one that is
+-- like the last one
 abbrev pub FreshAreEnough : Type 0
 FreshAreEnough = (configuration : Configuration) (before after other : State) (history : List Entry) (marks : List Bool)
     → IsConfiguration configuration → IsLawful configuration before → MarkedRun configuration before history marks after
@@ -175,7 +176,8 @@ StepsAfterTime = (configuration : Configuration) (state : State) (request : Requ
 
 -- nor does time that passes tell a state from those that it was like
 abbrev pub LikeAfterTime : Type 0
-LikeAfterTime = (state other : State) (passed : Option ℕ) → IsLikeFromNow state other → IsLikeFromNow (when_passed passed state) other
+LikeAfterTime =
+    (state other : State) (passed : Option ℕ) → IsLikeFromNow state other → IsLikeFromNow (when_passed passed state) other
 
 -- after a history, and perhaps some time, a second one and perhaps some more: together one history leads to where they lead
 abbrev pub HistoriesAfterTime : Type 0

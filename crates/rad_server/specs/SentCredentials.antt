@@ -1,8 +1,9 @@
--- What one walk over the attributes of an Access-Request found, and the credentials among them, as definitions see them. No other crate
--- cites these.
+-- What one walk over the attributes of an Access-Request found, and the credentials among them, as definitions see them. No other
+-- crate cites these.
 use Rattle.std.specs.Prelude.{◌≡◌, ℕ, ◌||◌, if◌then◌else◌, List, length, option_copied, IsTrue}
 use Rattle.rad_packet.specs.Attributes.{Attribute, has, is_of}
-use Rattle.rad_packet.specs.Types.{type_chap_challenge, type_chap_password, type_eap_message, type_state, type_user_name, type_user_password}
+use Rattle.rad_packet.specs.Types.{type_chap_challenge, type_chap_password, type_eap_message, type_state, type_user_name}
+use Rattle.rad_packet.specs.Types.{type_user_password}
 use Rattle.rad_auth.specs.Chap.{chap_value_size}
 use Rattle.rad_auth.specs.Passwords.{value_fits}
 use Rattle.rad_server.specs.Credentials.{Credentials, SentPassword, UserPassword, ChapPassword}

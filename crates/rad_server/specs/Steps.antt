@@ -87,8 +87,8 @@ answer configuration current request draw =
 abbrev pub step : Configuration → State → Request → ℕ → List ℕ → Answer × State
 step configuration state request moment draw = answer configuration (at_moment moment state) request draw
 
--- Whether a request in the current state is fresh: it gets a new reply, which is kept. Status-Servers and repeats aren't, nor is what gets
--- no reply for want of room.
+-- Whether a request in the current state is fresh: it gets a new reply, which is kept. Status-Servers and repeats aren't, nor is
+-- what gets no reply for want of room.
 abbrev pub is_fresh : Configuration → State → Request → Bool
 is_fresh configuration current request = not ((request.packet.code == code_status_server)
     || (is_some (reply_kept request current)

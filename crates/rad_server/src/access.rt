@@ -4,7 +4,8 @@ ghost use Rattle.rad_config.specs.Configurations.{Configuration};
 ghost use Rattle.rad_config.specs.Spans.{moment_max};
 ghost use Rattle.rad_recent.specs.Challenges.{answered, cut_challenges, next_number};
 ghost use Rattle.rad_server.specs.Access.{challenge_number, user_challenged, user_decision, without_challenge};
-ghost use Rattle.rad_server.specs.Decisions.{CanBeGiven, Gives, IsOfUser, decision_answering, decision_of, is_named, user_answering};
+ghost use Rattle.rad_server.specs.Decisions.{CanBeGiven, Gives, IsOfUser, decision_answering, decision_of, is_named};
+ghost use Rattle.rad_server.specs.Decisions.{user_answering};
 ghost use Rattle.rad_server.specs.TableStates.{AreUsable, live_state, state_for};
 
 use crate::denial::Denial;

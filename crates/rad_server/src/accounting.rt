@@ -21,7 +21,8 @@ pub const ACCOUNTING_ON: u32 = 7;
 /// The Acct-Status-Type of an Accounting-Off.
 pub const ACCOUNTING_OFF: u32 = 8;
 
-/// What attributes say of a session: those of an Accounting-Request of the one that it means, those of an Access-Accept of the one granted.
+/// What attributes say of a session: those of an Accounting-Request of the one that it means, those of an Access-Accept of the one
+/// granted.
 #[derive(Clone, Copy)]
 pub struct Report<'a> {
     /// The first Acct-Status-Type of four octets.

@@ -1,6 +1,7 @@
 //! What an Access-Request asks for access with.
 ghost use Rattle.std.specs.Prelude.{IfOk, option_copied};
-ghost use Rattle.rad_server.specs.Credentials.{chap_challenge_in, credentials_in, user_password_in, name_in, password_in, chap_password_in, state_in};
+ghost use Rattle.rad_server.specs.Credentials.{chap_challenge_in, credentials_in, user_password_in, name_in, password_in};
+ghost use Rattle.rad_server.specs.Credentials.{chap_password_in, state_in};
 ghost use Rattle.rad_server.specs.Decisions.{Gives};
 ghost use Rattle.rad_server.specs.SentCredentials.{IsSent, credentials_of, occurrence_of, sent_password_of};
 

@@ -1,15 +1,15 @@
 //! The server of one thread: from a state, an admitted request, its moment and its draw to the answer and the next state (RFC 2865,
 //! RFC 2866, RFC 5080, RFC 5997).
 //!
-//! `Server::step` first works out what the configuration alone tells (`Prepared`), and plans: `plan` only reads, decides, and makes the
-//! reply's body if it isn't there yet. Then memory is made ready, and then `commit`, which neither decides nor fails, changes the state.
-//! So if memory is refused, the state is unchanged. Nothing here reads a clock or a socket.
+//! `Server::step` first works out what the configuration alone tells (`Prepared`), and plans: `plan` only reads, decides, and makes
+//! the reply's body if it isn't there yet. Then memory is made ready, and then `commit`, which neither decides nor fails, changes
+//! the state. So if memory is refused, the state is unchanged. Nothing here reads a clock or a socket.
 //!
-//! `exchange` appends a step to a history, and `Book` keeps a server with its history. `Server::restore` puts back what a server once
-//! remembered, a `StateRow` at a time.
+//! `exchange` appends a step to a history, and `Book` keeps a server with its history. `Server::restore` puts back what a server
+//! once remembered, a `StateRow` at a time.
 //!
-//! Other crates rest on this: an answer and the state after it are those of `specs/Steps.antt`, an answer that is sent can be sealed,
-//! and rows are put back as `specs/Restored.antt` says.
+//! Other crates rest on this: an answer and the state after it are those of `specs/Steps.antt`, an answer that is sent can be
+//! sealed, and rows are put back as `specs/Restored.antt` says.
 #![tactic(auto)]
 
 mod access;

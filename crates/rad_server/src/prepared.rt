@@ -1,5 +1,5 @@
-//! Requests that are prepared: what the configuration tells of them is known before the state is looked at. So passwords are compared
-//! side by side, and the lock is held for less time. A repeat is prepared too, since only the state tells that it is one.
+//! Requests that are prepared: what the configuration tells of them is known before the state is looked at. So passwords are
+//! compared side by side, and the lock is held for less time. A repeat is prepared too, since only the state tells that it is one.
 ghost use Rattle.std.specs.Prelude.{◌≡◌, ◌≤◌, length, map, All, IfSome};
 ghost use Rattle.rad_auth.specs.Admission.{HoldsAdmitted, IsAdmitted, IsAnswerable, KnowsProxyStates};
 ghost use Rattle.rad_server.specs.Prepared.{IsBodyOf, IsInquiryIn, IsRuling, prepared_in, right_of};
@@ -12,8 +12,8 @@ use rad_packet::Body;
 use std::alloc::Global;
 use std::marker::Model;
 
-/// A request that was admitted with the clients of a configuration, and what that configuration tells of it: the rule by which it is
-/// answered, and the body of its reply if that is fixed. Contracts see the request and the configuration.
+/// A request that was admitted with the clients of a configuration, and what that configuration tells of it: the rule by which it
+/// is answered, and the body of its reply if that is fixed. Contracts see the request and the configuration.
 #[derive(Drop)]
 pub struct Prepared<'r, 'a> {
     config: &'r Config,

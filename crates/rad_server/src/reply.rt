@@ -8,7 +8,8 @@ ghost use Rattle.rad_packet.specs.Types.{type_proxy_state};
 ghost use Rattle.rad_auth.specs.Admission.{KnowsProxyStates};
 ghost use Rattle.rad_auth.specs.Sealing.{IsReply};
 ghost use Rattle.rad_server.specs.ReplyBodies.{CanBeAccepted, access_front};
-ghost use Rattle.rad_server.specs.Replies.{accept_attributes, access_accept, access_challenge, access_reject, access_reply, accounting_response, attribute_if_any, class_value, four_octets, status_reply};
+ghost use Rattle.rad_server.specs.Replies.{accept_attributes, access_accept, access_challenge, access_reject, access_reply};
+ghost use Rattle.rad_server.specs.Replies.{accounting_response, attribute_if_any, class_value, four_octets, status_reply};
 
 use crate::denial::Denial;
 use rad_auth::{Door, Request};

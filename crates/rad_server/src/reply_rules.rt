@@ -1,7 +1,8 @@
 //! What the law asks of a kept reply that is put back, besides the law of its table.
 ghost use Rattle.std.specs.Prelude.{◌≡◌, option_copied, slice_index_or};
 ghost use Rattle.std.specs.List.{list_any};
-ghost use Rattle.rad_server.specs.Restored.{HaveNumbers, begins_sealable, has_used_share, is_address_in, is_reply_of, is_same_place, can_be_sealed, is_its_session, is_value, lacks_session, reply_rules};
+ghost use Rattle.rad_server.specs.Restored.{HaveNumbers, begins_sealable, has_used_share, is_address_in, is_reply_of};
+ghost use Rattle.rad_server.specs.Restored.{is_same_place, can_be_sealed, is_its_session, is_value, lacks_session, reply_rules};
 
 use crate::accounting::class_number_of;
 use crate::reply::class_value;

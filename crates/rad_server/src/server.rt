@@ -87,7 +87,8 @@ impl<'c> Server<'c> {
         Server::open_keyed(alloc, config, HashKey::KNOWN)
     }
 
-    /// The same server, with a key for the hashes of its tables, which those who send requests shouldn't know. Contracts don't see it.
+    /// The same server, with a key for the hashes of its tables, which those who send requests shouldn't know. Contracts don't see
+    /// it.
     pub fn open_keyed(
         alloc: Global,
         config: &'c Config,
@@ -151,9 +152,9 @@ impl<'c> Server<'c> {
 
     /// Answers an admitted request, and goes on to the next state.
     ///
-    /// The request was admitted with the clients of the server's configuration. The moment is in milliseconds, at most `MOMENT_MAX`,
-    /// and may be earlier than the clock, which doesn't go back. The draw becomes part of the State of a challenge. If memory is
-    /// refused, nothing has changed.
+    /// The request was admitted with the clients of the server's configuration. The moment is in milliseconds, at most
+    /// `MOMENT_MAX`, and may be earlier than the clock, which doesn't go back. The draw becomes part of the State of a challenge.
+    /// If memory is refused, nothing has changed.
     pub fn step(
         &mut self,
         request: &Request,
@@ -173,7 +174,8 @@ impl<'c> Server<'c> {
         Ok(answer)
     }
 
-    /// The same, with the number of the session that the request names, where it is a new Start, Interim-Update or Stop and means one.
+    /// The same, with the number of the session that the request names, where it is a new Start, Interim-Update or Stop and means
+    /// one.
     pub fn step_naming(
         &mut self,
         request: &Request,
@@ -265,9 +267,9 @@ impl<'c> Server<'c> {
     /// Puts back a row of what a server with this configuration once remembered.
     ///
     /// To rebuild a server, open one, let `pass` bring its clock to the old one's, and put back the sessions in the order of their
-    /// numbers and their last number, the kept replies in the order in which they were made, and the challenges in the order of their
-    /// numbers and their last number: then it is the old one (`rows_rebuild`). The fault is the first rule that the row breaks, in the
-    /// order of `restorable` in `specs/Restored.antt`. After a fault nothing has changed, and the row is dropped.
+    /// numbers and their last number, the kept replies in the order in which they were made, and the challenges in the order of
+    /// their numbers and their last number: then it is the old one (`rows_rebuild`). The fault is the first rule that the row
+    /// breaks, in the order of `restorable` in `specs/Restored.antt`. After a fault nothing has changed, and the row is dropped.
     pub fn restore(&mut self, row: StateRow) -> Result<(), RowFault>
         ensures answer { FollowsRules
             (restorable self.old.configuration row self.old.state) result }

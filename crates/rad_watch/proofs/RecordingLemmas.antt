@@ -1,5 +1,6 @@
 -- Recordings: the lines of datagrams one after another.
-use Rattle.std.proofs.Common.{◌≡◌, ◌<◌, ◌≤◌, ℕ, ◌+◌, Option, List, [], ◌∷◌, ◌++◌, length, take, drop, get_or, refl, sym, ap, ◌∙◌, add-one}
+use Rattle.std.proofs.Common.{◌≡◌, ◌<◌, ◌≤◌, ℕ, ◌+◌, Option, List, [], ◌∷◌, ◌++◌, length, take, drop, get_or, refl, sym, ap, ◌∙◌}
+use Rattle.std.proofs.Common.{add-one}
 use Rattle.std.proofs.lemmas.Grind.{flat_map-append}
 use Rattle.std.proofs.lemmas.Option.{slice_get-get_or, slice_get_past}
 use Rattle.std.proofs.lemmas.List.{append-nil, append_assoc, take_more}
@@ -9,7 +10,8 @@ use Rattle.rad_round.specs.declared.outcome.Outcome.{Outcome}
 use Rattle.rad_round.specs.declared.timed.Timed.{Timed}
 use Rattle.rad_server.specs.declared.entry.Entry.{Entry}
 use Rattle.rad_replay.specs.DatagramLines.{TimedDatagram}
-use Rattle.rad_watch.specs.Recordings.{datagram_with, datagrams_of_entry, discarded, draw_recorded, if_discarded, if_found, recorded, recorded_line}
+use Rattle.rad_watch.specs.Recordings.{datagram_with, datagrams_of_entry, discarded, draw_recorded, if_discarded, if_found}
+use Rattle.rad_watch.specs.Recordings.{recorded, recorded_line}
 
 -- lines, and those of more datagrams after them
 lines_more : (text old more : List ℕ) (some others : List TimedDatagram) → text ≡ old ++ flat_map recorded_line some
@@ -37,8 +39,10 @@ entries_more arrivals history i d lt =
     ∙ ap (λ list. flat_map (datagrams_of_entry arrivals) (take i history) ++ list) (append-nil (datagrams_of_entry arrivals entry))
 
 -- an entry whose datagram is found
-pub found_entry : (text more : List ℕ) (arrivals : List Timed) (entry : Entry) (draw : Option (List ℕ)) (d : Timed) → entry.tag < length arrivals → draw ≡ draw_recorded entry
-    → more ≡ text ++ recorded_line (datagram_with draw (get_or arrivals entry.tag d)) → more ≡ text ++ flat_map recorded_line (datagrams_of_entry arrivals entry)
+pub found_entry : (text more : List ℕ) (arrivals : List Timed) (entry : Entry) (draw : Option (List ℕ)) (d : Timed)
+    → entry.tag < length arrivals → draw ≡ draw_recorded entry
+    → more ≡ text ++ recorded_line (datagram_with draw (get_or arrivals entry.tag d))
+    → more ≡ text ++ flat_map recorded_line (datagrams_of_entry arrivals entry)
 found_entry text more arrivals entry draw d lt drawn pushed =
     let timed = get_or arrivals entry.tag d in
     let found = slice_get-get_or arrivals entry.tag d lt in
@@ -54,12 +58,14 @@ absent_entry text arrivals entry le =
     sym (append-nil text) ∙ ap (λ found. text ++ flat_map recorded_line (if_found entry found)) (sym absent)
 
 -- one more entry
-pub one_more_entry : (old text more : List ℕ) (arrivals : List Timed) (history : List Entry) (i : ℕ) (d : Entry) → i < length history
+pub one_more_entry : (old text more : List ℕ) (arrivals : List Timed) (history : List Entry) (i : ℕ) (d : Entry)
+    → i < length history
     → text ≡ old ++ flat_map recorded_line (flat_map (datagrams_of_entry arrivals) (take i history))
     → more ≡ text ++ flat_map recorded_line (datagrams_of_entry arrivals (get_or history i d))
     → more ≡ old ++ flat_map recorded_line (flat_map (datagrams_of_entry arrivals) (take (i + 1) history))
 one_more_entry old text more arrivals history i d lt is pushed =
-    lines_more text old more (flat_map (datagrams_of_entry arrivals) (take i history)) (datagrams_of_entry arrivals (get_or history i d)) is pushed
+    lines_more text old more (flat_map (datagrams_of_entry arrivals) (take i history))
+    (datagrams_of_entry arrivals (get_or history i d)) is pushed
     ∙ ap (λ list. old ++ flat_map recorded_line list) (sym (entries_more arrivals history i d lt))
 
 -- ---- discards
@@ -80,7 +86,8 @@ none_discarded text all arrivals outcomes i end is =
     ∙ is
 
 -- the next datagram is done with
-pub one_less_discarded : (text more all : List ℕ) (arrivals : List Timed) (outcomes : List Outcome) (i : ℕ) (t : Timed) (d : Outcome)
+pub one_less_discarded : (text more all : List ℕ) (arrivals : List Timed) (outcomes : List Outcome) (i : ℕ) (t : Timed)
+    (d : Outcome)
     → i < length arrivals → i < length outcomes
     → text ++ flat_map recorded_line (discarded (drop i arrivals) (drop i outcomes)) ≡ all
     → more ≡ text ++ flat_map recorded_line (if_discarded (get_or arrivals i t) (get_or outcomes i d))

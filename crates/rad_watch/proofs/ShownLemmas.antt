@@ -1,5 +1,6 @@
 -- Octets as they are shown.
-use Rattle.std.proofs.Common.{◌≡◌, ◌<◌, ◌+◌, ◌%◌, ◌/◌, ℕ, Bool, true, false, List, [], ◌∷◌, ◌++◌, length, take, get_or, arith, refl, sym, ap, ◌∙◌, if◌then◌else◌}
+use Rattle.std.proofs.Common.{◌≡◌, ◌<◌, ◌+◌, ◌%◌, ◌/◌, ℕ, Bool, true, false, List, [], ◌∷◌, ◌++◌, length, take, get_or, arith, refl}
+use Rattle.std.proofs.Common.{sym, ap, ◌∙◌, if◌then◌else◌}
 use Rattle.std.specs.List.{All}
 use Rattle.std.proofs.lemmas.List.{flat_map_more, take_more}
 use Rattle.std.proofs.lemmas.List.Elements.{All-append, All-cons, All-nil}
@@ -9,7 +10,8 @@ use Rattle.rad_watch.specs.Shown.{IsPlain, digit, is_plain, shown, shown_octet}
 pub shown_one_more : (before octets : List ℕ) (i : ℕ) (d : ℕ) → i < length octets →
     (before ++ shown (take i octets)) ++ shown_octet (get_or octets i d) ≡ before ++ shown (take (i + 1) octets)
 shown_one_more before octets i d lt =
-    flat_map_more shown_octet before (take i octets) (get_or octets i d) ∙ ap (λ l. before ++ shown l) (sym (take_more octets i d lt))
+    flat_map_more shown_octet before (take i octets) (get_or octets i d)
+    ∙ ap (λ l. before ++ shown l) (sym (take_more octets i d lt))
 
 digit_is_plain : (n : ℕ) → n < 16 → IsPlain (digit n)
 digit_is_plain n lt = record { least = grind (arith); most = grind (arith); unquoted = grind (arith) }

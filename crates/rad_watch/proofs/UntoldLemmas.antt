@@ -15,7 +15,8 @@ use Rattle.rad_watch.specs.Untold.{AlikeAreToldAlike, AreAlike, may_be_told, tol
 use Rattle.rad_watch.specs.declared.kind.Kind.TheVariants as kinds
 
 -- the first that passes a test is kept by a filter that lets through what passes
-find_kept : {A : Type 0} (p q : A → Bool) → ((a : A) → p a ≡ true → q a ≡ true) → (list : List A) → find p list ≡ find p (filter q list)
+find_kept : {A : Type 0} (p q : A → Bool) → ((a : A) → p a ≡ true → q a ≡ true) → (list : List A)
+    → find p list ≡ find p (filter q list)
 find_kept p q passes [] = refl
 find_kept p q passes (a ∷ rest) = at (p a) (q a) refl refl (find_kept p q passes rest)
   where
@@ -33,11 +34,13 @@ both-first false d both = both
 of_told_type : (kind : ℕ) → may_be_told kind ≡ true → (a : Attribute) → is_of kind a ≡ true → may_be_told a.kind ≡ true
 of_told_type kind told a is = ap may_be_told (eqb-true a.kind kind is) ∙ told
 
-value_kept : (kind : ℕ) → may_be_told kind ≡ true → (list : List Attribute) → first_value kind list ≡ first_value kind (told_attributes list)
+value_kept : (kind : ℕ) → may_be_told kind ≡ true → (list : List Attribute)
+    → first_value kind list ≡ first_value kind (told_attributes list)
 value_kept kind told list =
     ap (option_map (λ a. a.value)) (find_kept (is_of kind) (λ a. may_be_told a.kind) (of_told_type kind told) list)
 
-integer_kept : (kind : ℕ) → may_be_told kind ≡ true → (list : List Attribute) → first_integer kind list ≡ first_integer kind (told_attributes list)
+integer_kept : (kind : ℕ) → may_be_told kind ≡ true → (list : List Attribute)
+    → first_integer kind list ≡ first_integer kind (told_attributes list)
 integer_kept kind told list =
     ap (λ found. option_map (λ value. from_be_bytes w32 value) (option_map (λ a. a.value) found))
     (find_kept (is_of_len kind integer_size) (λ a. may_be_told a.kind)
@@ -65,12 +68,16 @@ parts_alike octets others alike =
     ap parts_in alike.holds ∙ ap Some (parts_kept alike.packet ∙ ap parts_of alike.same ∙ sym (parts_kept alike.other))
     ∙ sym (ap parts_in alike.others_hold)
 
-outcome_alike : (octets others : List ℕ) → AreAlike octets others → (outcome : Outcome) → of_outcome octets outcome ≡ of_outcome others outcome
+outcome_alike : (octets others : List ℕ) → AreAlike octets others → (outcome : Outcome)
+    → of_outcome octets outcome ≡ of_outcome others outcome
 outcome_alike octets others alike (Dropped discard) = refl
 outcome_alike octets others alike Busy = ap (λ parts. Some (of_unanswered kinds.Busy parts)) (parts_alike octets others alike)
-outcome_alike octets others alike NoMemory = ap (λ parts. Some (of_unanswered kinds.NoMemory parts)) (parts_alike octets others alike)
-outcome_alike octets others alike (Reply reply) = ap (λ parts. of_answered parts (packet_of reply)) (parts_alike octets others alike)
+outcome_alike octets others alike NoMemory =
+    ap (λ parts. Some (of_unanswered kinds.NoMemory parts)) (parts_alike octets others alike)
+outcome_alike octets others alike (Reply reply) =
+    ap (λ parts. of_answered parts (packet_of reply)) (parts_alike octets others alike)
 
 pub alike_are_told_alike : AlikeAreToldAlike
 alike_are_told_alike clients datagram others outcome exchange alike =
-    ap (option_map (λ event. from_datagram clients datagram (exchanged exchange event))) (outcome_alike datagram.octets others alike outcome)
+    ap (option_map (λ event. from_datagram clients datagram (exchanged exchange event)))
+    (outcome_alike datagram.octets others alike outcome)

@@ -2,7 +2,8 @@
 --
 -- A request is read by `parts_of` alone. So nothing else that stands in it can be told: no password, no answer to a challenge, no
 -- State and no authenticator.
-use Rattle.std.specs.Prelude.{ℕ, ◌==◌, ◌&&◌, not, if◌then◌else◌, Bool, true, false, List, Option, Some, None, codes, find, is_none, option_and_then, option_copied, option_map, slice_get, Result, Ok, Err}
+use Rattle.std.specs.Prelude.{ℕ, ◌==◌, ◌&&◌, not, if◌then◌else◌, Bool, true, false, List, Option, Some, None, codes, find, is_none}
+use Rattle.std.specs.Prelude.{option_and_then, option_copied, option_map, slice_get, Result, Ok, Err}
 use Rattle.std.specs.Str.{bytes_eq}
 use Rattle.rad_packet.specs.Attributes.{first_value, first_integer}
 use Rattle.rad_packet.specs.Codes.{code_access_accept, code_access_challenge, code_access_reject, code_status_server}
@@ -20,7 +21,8 @@ use Rattle.rad_round.specs.declared.outcome.Outcome.TheVariants.{Dropped, Busy, 
 use Rattle.rad_server.specs.declared.answer.Answer.{Answer}
 use Rattle.rad_server.specs.declared.answer.Answer.TheVariants as answers
 use Rattle.rad_server.specs.declared.entry.Entry.{Entry}
-use Rattle.rad_server.specs.Accounting.{class_number, status_start, status_stop, status_interim_update, status_accounting_on, status_accounting_off}
+use Rattle.rad_server.specs.Accounting.{class_number, status_start, status_stop, status_interim_update, status_accounting_on}
+use Rattle.rad_server.specs.Accounting.{status_accounting_off}
 use Rattle.rad_watch.specs.Kinds.{kind_name}
 use Rattle.rad_watch.specs.declared.event.Event.{Event as EventOfCode}
 use Rattle.rad_watch.specs.declared.exchange.Exchange.{Exchange as ExchangeOfCode}

@@ -1,7 +1,8 @@
 -- Kinds: the names of events.
 use Rattle.std.specs.Prelude.{ℕ, List, codes}
 use Rattle.rad_watch.specs.declared.kind.Kind.{Kind}
-use Rattle.rad_watch.specs.declared.kind.Kind.TheVariants.{Discard, Busy, NoMemory, Lost, Failure, Reject, Accept, Challenge, Start, Stop, Interim, On, Off, Accounting, Status, Expire, LeftOut}
+use Rattle.rad_watch.specs.declared.kind.Kind.TheVariants.{Discard, Busy, NoMemory, Lost, Failure, Reject, Accept, Challenge, Start}
+use Rattle.rad_watch.specs.declared.kind.Kind.TheVariants.{Stop, Interim, On, Off, Accounting, Status, Expire, LeftOut}
 
 -- the name by which lines call an event
 abbrev pub kind_name : Kind → List ℕ

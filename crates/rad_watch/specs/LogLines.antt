@@ -1,7 +1,7 @@
 -- LogLines: the lines of a log.
 --
--- time=TIME event=EVENT reason="TEXT" client=N source=ADDRESS:PORT port=DOOR user="NAME" address=ADDRESS session=N session_user="NAME"
--- repeat=1 count=N
+-- time=TIME event=EVENT reason="TEXT" client=N source=ADDRESS:PORT port=DOOR user="NAME" address=ADDRESS session=N
+-- session_user="NAME" repeat=1 count=N
 --
 -- A field of which nothing is known is left out.
 use Rattle.std.specs.Prelude.{ℕ, ◌+◌, if◌then◌else◌, List, [], ◌++◌, codes, decimal, Option, Some, None}

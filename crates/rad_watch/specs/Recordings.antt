@@ -1,5 +1,6 @@
 -- Recordings: what a recording has of a turn, as lines of a transcript, and what a replay makes of it.
-use Rattle.std.specs.Prelude.{◌≡◌, ℕ, ◌+◌, Bool, true, false, List, [], ◌∷◌, ◌++◌, filter, slice_get, option_to_list, Option, Some, None}
+use Rattle.std.specs.Prelude.{◌≡◌, ℕ, ◌+◌, Bool, true, false, List, [], ◌∷◌, ◌++◌, filter, slice_get, option_to_list, Option, Some}
+use Rattle.std.specs.Prelude.{None}
 use Rattle.std.specs.List.{flat_map}
 use Rattle.rad_round.specs.Rounds.{Round}
 use Rattle.rad_round.specs.declared.outcome.Outcome.{Outcome}
@@ -51,8 +52,8 @@ discarded [] outcomes = []
 discarded (timed ∷ arrivals) [] = []
 discarded (timed ∷ arrivals) (outcome ∷ outcomes) = if_discarded timed outcome ++ discarded arrivals outcomes
 
--- A turn's datagrams in an order in which one thread answers them as the turn did: those of its history, and then those that it discarded.
--- Those that were refused memory are left out, as they changed nothing.
+-- A turn's datagrams in an order in which one thread answers them as the turn did: those of its history, and then those that it
+-- discarded. Those that were refused memory are left out, as they changed nothing.
 abbrev pub recorded_datagrams : List Timed → List Outcome → List Entry → List TimedDatagram
 recorded_datagrams arrivals outcomes history = flat_map (datagrams_of_entry arrivals) history ++ discarded arrivals outcomes
 
@@ -84,9 +85,11 @@ abbrev pub recorded_outcomes : List Outcome → List Entry → List Outcome
 recorded_outcomes outcomes history =
     flat_map (λ entry. option_to_list (slice_get outcomes entry.tag)) history ++ filter is_discard outcomes
 
--- From the server before a round, a replay of what is recorded of it leads to the server after it, and its lines are those of the outcomes.
+-- From the server before a round, a replay of what is recorded of it leads to the server after it, and its lines are those of the
+-- outcomes.
 abbrev pub RecordingsAreReplayed : Type 0
-RecordingsAreReplayed = (before : Server) (arrivals : List Timed) (outcomes : List Outcome) (history : List Entry) (after : Server) (number : ℕ)
+RecordingsAreReplayed =
+    (before : Server) (arrivals : List Timed) (outcomes : List Outcome) (history : List Entry) (after : Server) (number : ℕ)
     → Round before arrivals outcomes history after
     → replay before.configuration [] number before.state (recorded_datagrams arrivals outcomes history)
     ≡ (lines_from number (recorded_outcomes outcomes history), after.state)

@@ -1,6 +1,7 @@
 -- Shown: octets that others chose, as texts show them.
 --
--- A shown octet is printable ASCII and no quote, so a name between quotes ends where it is meant to, and a line at its own line feed.
+-- A shown octet is printable ASCII and no quote, so a name between quotes ends where it is meant to, and a line at its own line
+-- feed.
 use Rattle.std.specs.Prelude.{◌≡◌, ◌≤◌, ℕ, ◌+◌, ◌/◌, ◌%◌, ◌==◌, ◌&&◌, not, nat_le, nat_lt, Bool, List, [], ◌∷◌, ◌++◌, if◌then◌else◌}
 use Rattle.std.specs.List.{flat_map}
 

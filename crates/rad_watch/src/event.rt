@@ -5,7 +5,9 @@ ghost use Rattle.rad_auth.specs.Datagrams.{datagram_of};
 ghost use Rattle.rad_packet.specs.Codes.{code_access_reject};
 ghost use Rattle.rad_packet.specs.Packets.{packet_of};
 ghost use Rattle.rad_server.specs.Accounting.{class_number};
-ghost use Rattle.rad_watch.specs.Events.{bare, counted, exchanged, expired, known, left_out, of_answer, of_answered, of_discard, of_outcome, of_reply, of_session, of_unanswered, origin_of, other_owner, parts_in, parts_of, reason_of_report, reported, seen, told};
+ghost use Rattle.rad_watch.specs.Events.{bare, counted, exchanged, expired, known, left_out, of_answer, of_answered, of_discard};
+ghost use Rattle.rad_watch.specs.Events.{of_outcome, of_reply, of_session, of_unanswered, origin_of, other_owner, parts_in};
+ghost use Rattle.rad_watch.specs.Events.{parts_of, reason_of_report, reported, seen, told};
 
 use crate::exchange::{Exchange, user_name};
 use crate::kind::{Kind, Level};

@@ -3,7 +3,8 @@ ghost use Rattle.std.specs.Prelude.{◌≡◌, ◌++◌, OnOk, codes, decimal, o
 ghost use Rattle.std.specs.Option.{option_map_or};
 ghost use Rattle.rad_replay.specs.DatagramTexts.{address_text};
 ghost use Rattle.rad_watch.specs.Events.{seen};
-ghost use Rattle.rad_watch.specs.LogLines.{field, line_head, log_line, origin_fields, origin_text, place_text, repeat_fields, session_fields, source_text};
+ghost use Rattle.rad_watch.specs.LogLines.{field, line_head, log_line, origin_fields, origin_text, place_text, repeat_fields};
+ghost use Rattle.rad_watch.specs.LogLines.{session_fields, source_text};
 ghost use Rattle.rad_watch.specs.Shown.{quoted};
 
 use crate::event::{Event, Origin};

@@ -4,8 +4,8 @@ ghost use Rattle.rad_watch.specs.Shown.{IsPlain, digit, is_plain, shown, shown_o
 
 use std::alloc::AllocError;
 
-/// Appends octets that others chose: an octet from `!` to `~` and a space as itself, but a quote, a backslash and any other octet as
-/// `\x` and two hexadecimal digits.
+/// Appends octets that others chose: an octet from `!` to `~` and a space as itself, but a quote, a backslash and any other octet
+/// as `\x` and two hexadecimal digits.
 #[tactic(auto, using(crate::proofs::ShownLemmas::shown_is_plain))]
 pub(crate) fn push_shown(text: &mut Vec<u8>, octets: &[u8]) -> Result<(), AllocError>
     ensures shown { OnOk result (text.new.items ≡ text.old.items ++ shown octets.now) }

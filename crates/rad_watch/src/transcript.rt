@@ -2,15 +2,16 @@
 ghost use Rattle.std.specs.Prelude.{◌≡◌, ◌++◌, IsTrue, OnOk};
 ghost use Rattle.std.specs.List.{flat_map};
 ghost use Rattle.rad_replay.specs.DatagramTexts.{DatagramTextsAreRead};
-ghost use Rattle.rad_watch.specs.Recordings.{datagram_with, datagrams_of_entry, discarded, draw_recorded, if_discarded, recorded, recorded_line, RecordingsAreReplayed};
+ghost use Rattle.rad_watch.specs.Recordings.{datagram_with, datagrams_of_entry, discarded, draw_recorded, if_discarded, recorded};
+ghost use Rattle.rad_watch.specs.Recordings.{recorded_line, RecordingsAreReplayed};
 
 use rad_replay::{datagram_texts_are_read, draw_needed, push_datagram_text};
 use rad_server::{Answer, Entry};
 use rad_shell::{Outcome, Timed, Turn};
 use std::alloc::AllocError;
 
-/// Appends the datagrams of a turn as lines of a transcript, in an order in which one thread answers them as the turn did: those of its
-/// history, and then those that it discarded. Those that were refused memory are left out, as they changed nothing.
+/// Appends the datagrams of a turn as lines of a transcript, in an order in which one thread answers them as the turn did: those of
+/// its history, and then those that it discarded. Those that were refused memory are left out, as they changed nothing.
 ///
 /// Whether there was memory for all; if not, nothing is appended.
 pub fn record(text: &mut Vec<u8>, turn: &Turn) -> bool

@@ -22,7 +22,8 @@ pub(crate) struct Usage {
 }
 
 impl Usage {
-    /// Counts what a server remembers at a moment. Replies and challenges count until they are removed, also those whose time is over.
+    /// Counts what a server remembers at a moment. Replies and challenges count until they are removed, also those whose time is
+    /// over.
     pub fn of(server: &Server, moment: u64) -> Usage {
         let mut usage = Usage {
             pending: 0,

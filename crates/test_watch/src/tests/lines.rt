@@ -28,7 +28,8 @@ const FAILED: &[u8] = b"\x04\x07\x00\x1a................\x28\x06\x00\x00\x00\x0f
 /// A Status-Server.
 const STATUS: &[u8] = b"\x0c\x07\x00\x14................";
 
-/// A datagram with its fate, and what its line says after the time, if a log of all has one; and whether a log of what is refused has it.
+/// A datagram with its fate, and what its line says after the time, if a log of all has one; and whether a log of what is refused
+/// has it.
 type Told = (Row, &'static str, bool);
 
 const TOLD: &[Told] = &[

@@ -63,7 +63,8 @@ returns-in_err-made-clause-called g c =
     let same : c.run_keeping.result ≡ c.from_residual.result = c.in_err-made.was ∙ ap Err (sym reported.2) ∙ sym reported.1 in
     one_more_so J.keeps before middle after c.unwrap_or-rounds.result c.run_keeping.result (ended c.from_residual.result)
     (λ tally. IsTrue J.keeps → K.is_clean c.loop.keeping.generations → J.is_clean c.run_keeping.new.journal
-    → J.is_open c.args.keeping.now.journal → (base : Server) → K.has_base c.args.keeping.now.generations c.args.keeping.now.journal base
+    → J.is_open c.args.keeping.now.journal → (base : Server)
+    → K.has_base c.args.keeping.now.generations c.args.keeping.now.journal base
     → c.args.service.now.configuration ≡ base.configuration
     → StaysOneRun base (J.kept c.args.keeping.now.journal) c.args.service.now tally K.is_alone before.passed after.passed
     (K.may_leave c.loop.keeping.generations c.run_keeping.new.journal))
@@ -71,11 +72,13 @@ returns-in_err-made-clause-called g c =
     (λ is clean journal_clean was_open base has configured first earlier restored one left may.
     let here = i.here is was_open base has configured first earlier restored one in
     let known = here.holds clean (c.run_keeping.ensures.clean journal_clean) in
-    let stays = g.met.K.Generations.keeps_base c.loop.keeping.generations c.loop.keeping.journal c.run_keeping.new.journal here.base known.2
+    let stays = g.met.K.Generations.keeps_base c.loop.keeping.generations c.loop.keeping.journal c.run_keeping.new.journal here.base
+    known.2
     (c.run_keeping.ensures.beside journal_clean) in
     let outlives = served.1 journal_clean known.1 in
     let found = g.met.K.Generations.leaves_base c.loop.keeping.generations c.run_keeping.new.journal here.base stays left may in
-    call_leaves laws J.keeps first (first ++ J.kept c.args.keeping.now.journal) K.is_alone i.called.tally i.called.run.passed earlier before.passed
+    call_leaves laws J.keeps first (first ++ J.kept c.args.keeping.now.journal) K.is_alone i.called.tally i.called.run.passed
+    earlier before.passed
     middle _ is here served.0.made served.0.tally (ended c.run_keeping.result) after served.0.turned left found.0
     (⊎_elim
     (λ are. inl (are ∙ ap (λ (list : List Kept). list ++ served.0.tally.kept) known.0))
@@ -113,7 +116,8 @@ returns-then-is_some-clause-called g c =
     } in
     one_more_so J.keeps before middle after c.unwrap_or-rounds.result c.run_keeping.result (Ok tt)
     (λ tally. IsTrue J.keeps → K.is_clean c.loop.keeping.generations → J.is_clean c.run_keeping.new.journal
-    → J.is_open c.args.keeping.now.journal → (base : Server) → K.has_base c.args.keeping.now.generations c.args.keeping.now.journal base
+    → J.is_open c.args.keeping.now.journal → (base : Server)
+    → K.has_base c.args.keeping.now.generations c.args.keeping.now.journal base
     → c.args.service.now.configuration ≡ base.configuration
     → StaysOneRun base (J.kept c.args.keeping.now.journal) c.args.service.now tally K.is_alone before.passed after.passed
     (K.may_leave c.loop.keeping.generations c.run_keeping.new.journal))
@@ -121,11 +125,13 @@ returns-then-is_some-clause-called g c =
     (λ is clean journal_clean was_open base has configured first earlier restored one left may.
     let here = i.here is was_open base has configured first earlier restored one in
     let known = here.holds clean (c.run_keeping.ensures.clean journal_clean) in
-    let stays = g.met.K.Generations.keeps_base c.loop.keeping.generations c.loop.keeping.journal c.run_keeping.new.journal here.base known.2
+    let stays = g.met.K.Generations.keeps_base c.loop.keeping.generations c.loop.keeping.journal c.run_keeping.new.journal here.base
+    known.2
     (c.run_keeping.ensures.beside journal_clean) in
     let outlives = served.1 journal_clean known.1 in
     let found = g.met.K.Generations.leaves_base c.loop.keeping.generations c.run_keeping.new.journal here.base stays left may in
-    call_leaves laws J.keeps first (first ++ J.kept c.args.keeping.now.journal) K.is_alone i.called.tally i.called.run.passed earlier before.passed
+    call_leaves laws J.keeps first (first ++ J.kept c.args.keeping.now.journal) K.is_alone i.called.tally i.called.run.passed
+    earlier before.passed
     middle _ is here served.0.made served.0.tally (ended c.run_keeping.result) after served.0.turned left found.0
     (⊎_elim
     (λ are. inl (are ∙ ap (λ (list : List Kept). list ++ served.0.tally.kept) known.0))
@@ -141,9 +147,11 @@ returns-clause-called g c =
       λ is clean journal_clean was_open base has configured first earlier restored one left may.
           let here = i.here is was_open base has configured first earlier restored one in
           let known = here.holds clean journal_clean in
-          let found = g.met.K.Generations.leaves_base c.loop.keeping.generations c.loop.keeping.journal here.base known.2 left may in
+          let found = g.met.K.Generations.leaves_base c.loop.keeping.generations c.loop.keeping.journal here.base known.2 left
+          may in
           here_leaves first (first ++ J.kept c.args.keeping.now.journal) g.K.Generations.is_alone i.called.tally earlier
-          (g.P.Ports.passed c.args.ports.now) _ _ here left found.0 (g.met.J.Journal.settled c.loop.keeping.journal known.1 left.entries found.1 ∙ known.0),
+          (g.P.Ports.passed c.args.ports.now) _ _ here left found.0
+          (g.met.J.Journal.settled c.loop.keeping.journal known.1 left.entries found.1 ∙ known.0),
     )
 
 -- no generation could be begun
@@ -175,24 +183,29 @@ returns-in-Err-clause-called g c =
       time = c.time_passes_unseen.ensures.alike;
       replied = c.kept_are_restored.ensures;
     } in
-    let turned = turned_ok J.keeps middle after served.0.made served.0.tally c.run_keeping.result c.in_ok-made.made c.in_ok-made.was served.0.turned in
-    let mid_known : Server → List Kept → Type 0 = λ base entries. K.is_clean c.loop.keeping.generations → J.is_clean c.run_keeping.new.journal
+    let turned = turned_ok J.keeps middle after served.0.made served.0.tally c.run_keeping.result c.in_ok-made.made c.in_ok-made.was
+    served.0.turned in
+    let mid_known : Server → List Kept → Type 0 =
+    λ base entries. K.is_clean c.loop.keeping.generations → J.is_clean c.run_keeping.new.journal
     → (J.kept c.run_keeping.new.journal ≡ entries) × J.is_open c.run_keeping.new.journal
     × K.has_base c.loop.keeping.generations c.run_keeping.new.journal base in
     let made = one_more_so J.keeps before middle after c.unwrap_or-rounds.result c.run_keeping.result (Ok tt)
     (λ tally. IsTrue J.keeps → J.is_open c.args.keeping.now.journal → (base : Server)
-    → K.has_base c.args.keeping.now.generations c.args.keeping.now.journal base → c.args.service.now.configuration ≡ base.configuration
+    → K.has_base c.args.keeping.now.generations c.args.keeping.now.journal base
+    → c.args.service.now.configuration ≡ base.configuration
     → (first : List Kept) (earlier : List Went) → IsRestored base (J.kept c.args.keeping.now.journal) c.args.service.now
     → IsOneRun first (record { base = base; entries = J.kept c.args.keeping.now.journal }) earlier
     → IsHere first ((first ++ J.kept c.args.keeping.now.journal) ++ tally.kept) K.is_alone earlier before.passed after mid_known)
     c.time_passes_unseen.ensures.histories c.kept_is_enough.ensures.on i.called served.0 (ap ended c.in_ok-made.was)
     (λ is was_open base has configured first earlier restored one.
     let here = i.here is was_open base has configured first earlier restored one in
-    call_goes_on laws J.keeps first (first ++ J.kept c.args.keeping.now.journal) K.is_alone i.called.tally i.called.run.passed earlier before.passed
+    call_goes_on laws J.keeps first (first ++ J.kept c.args.keeping.now.journal) K.is_alone i.called.tally i.called.run.passed
+    earlier before.passed
     middle _ mid_known is here served.0.made served.0.tally after
     turned (λ clean journal_clean.
     let known = here.holds clean (c.run_keeping.ensures.clean journal_clean) in (
-      subst (λ (r : Result Served ServeFault). UnlessJournal r (J.kept c.run_keeping.new.journal ≡ J.kept c.loop.keeping.journal ++ served.0.tally.kept))
+      subst (λ (r : Result Served ServeFault). UnlessJournal r
+          (J.kept c.run_keeping.new.journal ≡ J.kept c.loop.keeping.journal ++ served.0.tally.kept))
           c.in_ok-made.was (served.1 journal_clean known.1).now ∙ ap (λ (list : List Kept). list ++ served.0.tally.kept) known.0,
       c.in_ok-made.ensures.open journal_clean known.1,
       g.met.K.Generations.keeps_base c.loop.keeping.generations c.loop.keeping.journal c.run_keeping.new.journal here.base known.2
@@ -205,9 +218,11 @@ returns-in-Err-clause-called g c =
           let here = made.1 is was_open base has configured first earlier restored one in
           let known = here.holds (c.begin_if_due.ensures.clean clean) mid_clean in
           ⊎_elim
-          (λ old. here_leaves first (first ++ J.kept c.args.keeping.now.journal) K.is_alone made.0.tally earlier before.passed after mid_known here left
+          (λ old. here_leaves first (first ++ J.kept c.args.keeping.now.journal) K.is_alone made.0.tally earlier before.passed after
+          mid_known here left
           old.0 (g.met.J.Journal.settled c.run_keeping.new.journal known.1 left.entries old.1 ∙ known.0))
-          (λ new. anew_leaves first (first ++ J.kept c.args.keeping.now.journal) K.is_alone made.0.tally earlier before.passed after mid_known here left
+          (λ new. anew_leaves first (first ++ J.kept c.args.keeping.now.journal) K.is_alone made.0.tally earlier before.passed after
+          mid_known here left
           new.0 (new.1 ∙ ap just_begun c.server-in-loop.ensures))
           (c.in-Err.ensures.crash clean journal_clean here.base known.2
           (ap (λ (server : Server). server.configuration) c.server-in-loop.ensures ∙ here.stands.configured
@@ -242,24 +257,29 @@ loop-preserved g c =
       time = c.time_passes_unseen.ensures.alike;
       replied = c.kept_are_restored.ensures;
     } in
-    let turned = turned_ok J.keeps middle after served.0.made served.0.tally c.run_keeping.result c.in_ok-made.made c.in_ok-made.was served.0.turned in
-    let mid_known : Server → List Kept → Type 0 = λ base entries. K.is_clean c.loop.keeping.generations → J.is_clean c.run_keeping.new.journal
+    let turned = turned_ok J.keeps middle after served.0.made served.0.tally c.run_keeping.result c.in_ok-made.made c.in_ok-made.was
+    served.0.turned in
+    let mid_known : Server → List Kept → Type 0 =
+    λ base entries. K.is_clean c.loop.keeping.generations → J.is_clean c.run_keeping.new.journal
     → (J.kept c.run_keeping.new.journal ≡ entries) × J.is_open c.run_keeping.new.journal
     × K.has_base c.loop.keeping.generations c.run_keeping.new.journal base in
     let made = one_more_so J.keeps before middle after c.unwrap_or-rounds.result c.run_keeping.result (Ok tt)
     (λ tally. IsTrue J.keeps → J.is_open c.args.keeping.now.journal → (base : Server)
-    → K.has_base c.args.keeping.now.generations c.args.keeping.now.journal base → c.args.service.now.configuration ≡ base.configuration
+    → K.has_base c.args.keeping.now.generations c.args.keeping.now.journal base
+    → c.args.service.now.configuration ≡ base.configuration
     → (first : List Kept) (earlier : List Went) → IsRestored base (J.kept c.args.keeping.now.journal) c.args.service.now
     → IsOneRun first (record { base = base; entries = J.kept c.args.keeping.now.journal }) earlier
     → IsHere first ((first ++ J.kept c.args.keeping.now.journal) ++ tally.kept) K.is_alone earlier before.passed after mid_known)
     c.time_passes_unseen.ensures.histories c.kept_is_enough.ensures.on i.called served.0 (ap ended c.in_ok-made.was)
     (λ is was_open base has configured first earlier restored one.
     let here = i.here is was_open base has configured first earlier restored one in
-    call_goes_on laws J.keeps first (first ++ J.kept c.args.keeping.now.journal) K.is_alone i.called.tally i.called.run.passed earlier before.passed
+    call_goes_on laws J.keeps first (first ++ J.kept c.args.keeping.now.journal) K.is_alone i.called.tally i.called.run.passed
+    earlier before.passed
     middle _ mid_known is here served.0.made served.0.tally after
     turned (λ clean journal_clean.
     let known = here.holds clean (c.run_keeping.ensures.clean journal_clean) in (
-      subst (λ (r : Result Served ServeFault). UnlessJournal r (J.kept c.run_keeping.new.journal ≡ J.kept c.loop.keeping.journal ++ served.0.tally.kept))
+      subst (λ (r : Result Served ServeFault). UnlessJournal r
+          (J.kept c.run_keeping.new.journal ≡ J.kept c.loop.keeping.journal ++ served.0.tally.kept))
           c.in_ok-made.was (served.1 journal_clean known.1).now ∙ ap (λ (list : List Kept). list ++ served.0.tally.kept) known.0,
       c.in_ok-made.ensures.open journal_clean known.1,
       g.met.K.Generations.keeps_base c.loop.keeping.generations c.loop.keeping.journal c.run_keeping.new.journal here.base known.2
@@ -287,7 +307,8 @@ loop-preserved g c =
           ∙ g.met.K.Generations.configured c.args.keeping.now.generations c.args.keeping.now.journal base has ∙ sym i.same) in (
             is_begun.none,
             is_begun.opened,
-            subst (λ server. K.has_base c.begin_if_due.new.keeping.generations c.begin_if_due.new.keeping.journal server) c.server-in-loop.ensures is_begun.base,
+            subst (λ server. K.has_base c.begin_if_due.new.keeping.generations c.begin_if_due.new.keeping.journal server)
+                c.server-in-loop.ensures is_begun.base,
           )))
           c.in_default.ensures.begun;
       same = c.begin_if_due.ensures.configuration ∙ i.same;

@@ -16,7 +16,8 @@ invariant-loop g l =
           (Ok tt)
           (record { server = l.service; random = g.D.Rng.stream l.turns.random.now; passed = g.P.Ports.passed l.ports });
       here : IsTrue g.J.Journal.keeps → g.J.Journal.is_open l.fn.keeping.journal → (base : Server)
-          → g.K.Generations.has_base l.fn.keeping.generations l.fn.keeping.journal base → l.fn.service.configuration ≡ base.configuration
+          → g.K.Generations.has_base l.fn.keeping.generations l.fn.keeping.journal base
+          → l.fn.service.configuration ≡ base.configuration
           → (ended : List Kept) (earlier : List Went) → IsRestored base (g.J.Journal.kept l.fn.keeping.journal) l.fn.service
           → IsOneRun ended (record { base = base; entries = g.J.Journal.kept l.fn.keeping.journal }) earlier
           → IsHere ended ((ended ++ g.J.Journal.kept l.fn.keeping.journal) ++ called.tally.kept) g.K.Generations.is_alone earlier

@@ -8,4 +8,5 @@ pub returns-clause-fresh : goal.returns-clause-fresh
 returns-clause-fresh g c =
     let config = c.args.given.config.now in
     subst (λ (before : Server). IfOk c.begin.result (λ life. life.service ≡ carried_server config before))
-    (is_fresh config c.in_ok-before.before c.in_ok-before.ensures.configuration c.in_ok-before.ensures.state) c.begin.ensures.carried
+    (is_fresh config c.in_ok-before.before c.in_ok-before.ensures.configuration c.in_ok-before.ensures.state)
+    c.begin.ensures.carried

@@ -19,11 +19,14 @@ pub returns : goal.returns
 returns g c = record {
   restored = λ clean left holds.
       let S = g.S.Store in
-      let read : IsClean (S.view c.restore.new.journal.journal.store) = subst (λ j. IsClean (S.view j.store)) c.into_journal.ensures clean in
+      let read : IsClean (S.view c.restore.new.journal.journal.store) =
+      subst (λ j. IsClean (S.view j.store)) c.into_journal.ensures clean in
       let told : IsClean (S.view c.new-journal.result.journal.store) = c.restore.ensures.clean read in
-      let opened : IsClean (S.view c.in_ok-server.journal.store) = subst (λ j. IsClean (S.view j.store)) c.new-journal.ensures told in
+      let opened : IsClean (S.view c.in_ok-server.journal.store) =
+      subst (λ j. IsClean (S.view j.store)) c.new-journal.ensures told in
       let found : IsClean (S.view c.args.state.store) = omega (arith, c.in_ok-server.ensures.clean, opened) in
-      let meta : c.args.state.found ≡ Some holds.says.meta = found_is c.args.state.found holds.says.meta (sym (c.args.state.metas found) ∙ holds.says.held) in
+      let meta : c.args.state.found ≡ Some holds.says.meta =
+      found_is c.args.state.found holds.says.meta (sym (c.args.state.metas found) ∙ holds.says.held) in
       let says : Says (S.view c.args.state.store).committed c.in_ok-server.server =
       c.in_ok-server.ensures.says opened holds.says.meta meta (c.requires.text holds.says.meta meta) in
       let base : left.base ≡ c.in_ok-server.server =
@@ -31,7 +34,8 @@ returns g c = record {
       let kept : kept_in (S.view c.new-journal.result.journal.store) ≡ left.entries =
       ap (λ j. kept_in (S.view j.store)) c.new-journal.ensures ∙ c.in_ok-server.ensures.kept opened ∙ holds.entries in (
         subst (λ (entries : List Kept). IsRestored left.base entries c.restore.new.server) kept
-            (subst (λ (b : Server). IsRestored b (kept_in (S.view c.new-journal.result.journal.store)) c.restore.new.server) (sym base)
+            (subst (λ (b : Server). IsRestored b (kept_in (S.view c.new-journal.result.journal.store)) c.restore.new.server)
+            (sym base)
             (c.in_ok-restore.ensures.restored read)),
         c.restore.ensures.configuration ∙ ap (λ (s : Server). s.configuration) (sym base),
       );

@@ -27,13 +27,17 @@ returns-clause-one_run g c = λ clean left leaves.
     (on_ok c.crash_and_reopen.result _ found_ok c.crash_and_reopen.ensures.open reopened) in
     let kept = J.kept c.crash_and_reopen.new.self in
     let same_kept = on_ok c.restore.result _ restored_ok c.restore.ensures.kept restored in
-    let run = c.requires.before (c.crash_and_reopen.ensures.clean reopened) (record { base = fresh_server config; entries = kept }) (refl, found) in
+    let run = c.requires.before (c.crash_and_reopen.ensures.clean reopened) (record { base = fresh_server config; entries = kept })
+    (refl, found) in
     let server = restored_fresh config c.in-Ok.server c.restore.new.server c.of-service.result kept (J.kept c.restore.new.journal)
-    c.in-Ok.ensures.configuration c.in-Ok.ensures.state (on_ok c.restore.result _ restored_ok c.restore.ensures.restored restored) same_kept
+    c.in-Ok.ensures.configuration c.in-Ok.ensures.state (on_ok c.restore.result _ restored_ok c.restore.ensures.restored restored)
+    same_kept
     c.of-service.ensures in
-    let configured = ap (λ (s : Server). s.configuration) c.of-service.ensures ∙ c.restore.ensures.configuration ∙ c.in-Ok.ensures.configuration in
+    let configured = ap (λ (s : Server). s.configuration) c.of-service.ensures ∙ c.restore.ensures.configuration
+    ∙ c.in-Ok.ensures.configuration in
     let made = c.make_calls-ended.ensures.called in
-    let one = subst (λ (k : List Kept). IsOneRun [] (record { base = fresh_server config; entries = k }) (went_since (Some []) (g.P.Ports.passed c.args.ports.now)))
+    let one = subst (λ (k : List Kept). IsOneRun [] (record { base = fresh_server config; entries = k })
+    (went_since (Some []) (g.P.Ports.passed c.args.ports.now)))
     (sym same_kept) run in
     let left_now = made.1 c.requires.keeps tt clean is_open (fresh_server config) refl configured [] _ server one left leaves in
     since_beginning J.keeps _ _ _ [] left made.0 (left_alone [] _ made.0.tally _ left _ tt left_now)

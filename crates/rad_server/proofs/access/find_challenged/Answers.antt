@@ -10,5 +10,6 @@ returns-clause-place c = λ configuration usable.
     let within : ℕ → Type 0 = λ user. user < length configuration.users in
     subst (λ found. IfSome found within) (sym c.seek.ensures)
     (image_has within (λ challenge. challenge.user) _
-    (found_has (λ challenge. within challenge.user) (has_state c.args.state.now c.args.client) (cut_challenges c.args.now table).challenges
+    (found_has (λ challenge. within challenge.user) (has_state c.args.state.now c.args.client)
+    (cut_challenges c.args.now table).challenges
     (All-filter (is_challenge_live table.hold c.args.now) (λ challenge. within challenge.user) table.challenges usable.users)))

@@ -49,9 +49,12 @@ returns-clause-marked c = λ opening marks history.
     let before = c.args.server.now in
     let after = c.step_with_copy.new.self in
     let fresh = c.in_ok-stepped.stepped.is_fresh in
-    subst (λ e. IsMarkedHistory opening (c.args.history.now.items ++ e ∷ []) (marks ++ fresh ∷ []) after) (sym c.entry-entry.ensures.value)
+    subst (λ e. IsMarkedHistory opening (c.args.history.now.items ++ e ∷ []) (marks ++ fresh ∷ []) after)
+    (sym c.entry-entry.ensures.value)
     (record {
       configuration = search rules;
-      run = marks_go_on opening.configuration opening.state c.args.history.now.items marks before.state (entry c) fresh after.state history.run
-          (subst (λ configuration. IsMarked configuration before.state (entry c) fresh after.state) history.configuration (marked c));
+      run = marks_go_on opening.configuration opening.state c.args.history.now.items marks before.state (entry c) fresh after.state
+          history.run
+          (subst (λ configuration. IsMarked configuration before.state (entry c) fresh after.state) history.configuration
+          (marked c));
     })

@@ -14,7 +14,13 @@ returns-clause-step c = λ configuration state request moment draw valid answera
     let replies = c.lawful_replies.ensures in
     let challenges = c.lawful_challenges.ensures in
     step_is_lawful (record {
-      sessions = record { expiry = sessions.expiry; grant = sessions.grant; renewal = sessions.renewal; stop = sessions.stop; reset = sessions.reset };
+      sessions = record {
+        expiry = sessions.expiry;
+        grant = sessions.grant;
+        renewal = sessions.renewal;
+        stop = sessions.stop;
+        reset = sessions.reset;
+      };
       replies = record { expiry = replies.expiry; removal = replies.removal; keeping = replies.keeping };
       challenges = record { expiry = challenges.expiry; answer = challenges.answer; issue = challenges.issue };
     }) configuration state request moment draw (record { valid = valid; answerable = answerable; drawn = drawn }) within lawful

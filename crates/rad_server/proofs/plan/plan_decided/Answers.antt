@@ -17,5 +17,7 @@ access_accept-requires-clause-accepted c =
     let within = subst (λ d. IsOfUser c.args.prepared.now.configuration d) is given in
     let pooled = subst (λ cfg. HasPoolFor cfg session.user session.grant) (sym c.config-config.ensures) within.1 in
     let at_place = c.user_at-row-in-Ok-Session.ensures.value in
-    can_be_accepted (length c.config-config.result.now.pools) c.user_at-row-in-Ok-Session.result.now session.grant c.user_at-row-in-Ok-Session.ensures.range
-    (λ has. sym (ap (λ (o : Option User). is_some (option_and_then (λ (u : User). option_or u.address u.pool) o)) at_place) ∙ pooled has)
+    can_be_accepted (length c.config-config.result.now.pools) c.user_at-row-in-Ok-Session.result.now session.grant
+    c.user_at-row-in-Ok-Session.ensures.range
+    (λ has. sym (ap (λ (o : Option User). is_some (option_and_then (λ (u : User). option_or u.address u.pool) o)) at_place)
+    ∙ pooled has)

@@ -12,12 +12,15 @@ pub plan_fixed-requires-clause-body : goal.plan_fixed-requires-clause-body
 plan_fixed-requires-clause-body c =
     let request = c.args.prepared.now.request in
     rw (c.request-request.ensures.value)
-    (is_body request (Some c.args.ruled.rule) c.in-Fixed.fixed c.args.ruled.body (ap (λ rule. fixed_reply request.door (Some rule)) c.in-Fixed.is) c.requires.ruled.body_is)
+    (is_body request (Some c.args.ruled.rule) c.in-Fixed.fixed c.args.ruled.body
+    (ap (λ rule. fixed_reply request.door (Some rule)) c.in-Fixed.is) c.requires.ruled.body_is)
 
 pub returns-in-Fixed-clause-rule : goal.returns-in-Fixed-clause-rule
 returns-in-Fixed-clause-rule c =
-    fixed_is_new c.args.prepared.now.configuration (live_state c.args.now c.args.tables.now) c.args.prepared.now.request c.args.draw.now c.in-Fixed.fixed
-    c.in-Fixed.change c.plan_fixed.result (rw c.in-Fixed.is at c.requires.ruled.rule_is) (rw c.request-request.ensures.value at c.plan_fixed.ensures.body)
+    fixed_is_new c.args.prepared.now.configuration (live_state c.args.now c.args.tables.now) c.args.prepared.now.request
+    c.args.draw.now c.in-Fixed.fixed
+    c.in-Fixed.change c.plan_fixed.result (rw c.in-Fixed.is at c.requires.ruled.rule_is)
+    (rw c.request-request.ensures.value at c.plan_fixed.ensures.body)
     c.plan_fixed.ensures.answered c.plan_fixed.ensures.change
 
 pub returns-in-Answer-clause-rule : goal.returns-in-Answer-clause-rule

@@ -12,14 +12,17 @@ use Rattle.rad_server.proofs.plan.plan_step.Goals as goal
 pub returns-in-Some-clause-planned : goal.returns-in-Some-clause-planned
 returns-in-Some-clause-planned c =
     let current : State = live_state c.args.now c.args.tables.now in
-    let found : option_map (λ reply. reply.body) (reply_kept c.args.prepared.now.request current) ≡ Some c.in_ok-copy.field-0 = search rules in
-    kept_again c.args.prepared.now.configuration current c.args.prepared.now.request c.args.draw.now c.in_ok-copy.field-0 (search rules) found
+    let found : option_map (λ reply. reply.body) (reply_kept c.args.prepared.now.request current) ≡ Some c.in_ok-copy.field-0 =
+    search rules in
+    kept_again c.args.prepared.now.configuration current c.args.prepared.now.request c.args.draw.now c.in_ok-copy.field-0
+    (search rules) found
 
 pub returns-in-Some-clause-sealable : goal.returns-in-Some-clause-sealable
 returns-in-Some-clause-sealable c =
     let current : State = live_state c.args.now c.args.tables.now in
     let table = c.args.tables.now.replies.table in
-    let found : option_map (λ reply. reply.body) (reply_kept c.args.prepared.now.request current) ≡ Some c.in_ok-copy.field-0 = search rules in
+    let found : option_map (λ reply. reply.body) (reply_kept c.args.prepared.now.request current) ≡ Some c.in_ok-copy.field-0 =
+    search rules in
     subst (λ o. IfSome o IsReply) found
     (image_has IsReply (λ reply. reply.body) (reply_kept c.args.prepared.now.request current)
     (found_has (λ reply. IsReply reply.body) _ (cut_replies c.args.now table).kept
@@ -29,16 +32,20 @@ pub returns-then-lacks_room-clause-planned : goal.returns-then-lacks_room-clause
 returns-then-lacks_room-clause-planned c =
     let current : State = live_state c.args.now c.args.tables.now in
     let none : option_map (λ reply. reply.body) (reply_kept c.args.prepared.now.request current) ≡ None = search rules in
-    let full : lacks_room c.args.prepared.now.configuration c.args.prepared.now.request.client (without_key (key_of c.args.prepared.now.request) current.replies) ≡ true = search rules in
+    let full : lacks_room c.args.prepared.now.configuration c.args.prepared.now.request.client
+    (without_key (key_of c.args.prepared.now.request) current.replies) ≡ true = search rules in
     no_answer c.args.prepared.now.configuration current c.args.prepared.now.request c.args.draw.now (search rules) none full
 
 pub returns-clause-planned : goal.returns-clause-planned
 returns-clause-planned c =
     let current : State = live_state c.args.now c.args.tables.now in
     let none : option_map (λ reply. reply.body) (reply_kept c.args.prepared.now.request current) ≡ None = search rules in
-    let room : lacks_room c.args.prepared.now.configuration c.args.prepared.now.request.client (without_key (key_of c.args.prepared.now.request) current.replies) ≡ false
-    = rw (c.config.ensures, c.key_of-key.ensures, c.request-request.ensures.value) at (sym c.lacks_room.ensures ∙ c.if-lacks_room.false) in
-    let new = new_answer c.args.prepared.now.configuration current c.args.prepared.now.request c.args.draw.now (search rules) none room in
+    let room : lacks_room c.args.prepared.now.configuration c.args.prepared.now.request.client
+    (without_key (key_of c.args.prepared.now.request) current.replies) ≡ false
+    = rw (c.config.ensures, c.key_of-key.ensures, c.request-request.ensures.value) at
+    (sym c.lacks_room.ensures ∙ c.if-lacks_room.false) in
+    let new = new_answer c.args.prepared.now.configuration current c.args.prepared.now.request c.args.draw.now (search rules) none
+    room in
     record {
       fresh = new.1;
       answered = new.0;

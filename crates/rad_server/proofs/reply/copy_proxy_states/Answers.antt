@@ -7,4 +7,5 @@ use Rattle.rad_server.proofs.reply.copy_proxy_states.Goals as goal
 pub returns-then-request-eq0 : goal.returns-then-request-eq0
 returns-then-request-eq0 c =
     let none : of_kind 33 c.args.request.now.packet.attributes ≡ [] = no_attributes _ (sym c.requires.0 ∙ c.if-request-eq0.true) in
-    rw none (ap (λ (list : List Attribute). record c.args.body.now { attributes = list }) (sym (append-nil c.args.body.now.attributes)))
+    rw none (ap (λ (list : List Attribute). record c.args.body.now { attributes = list })
+    (sym (append-nil c.args.body.now.attributes)))

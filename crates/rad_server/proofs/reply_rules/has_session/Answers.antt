@@ -21,10 +21,12 @@ returns-in-Some-get c =
     let class = sym (ap (first_value 25) c.attributes.ensures) ∙ sym c.first.ensures ∙ ap option_copied c.in-Some.is in
     let named = ap (option_and_then class_number_of) class ∙ sym c.class_number_of.ensures ∙ c.in-Some-class_number_of.is in
     c.is_its_session.ensures
-    ∙ named_found c.args.reply.now c.in-Some-class_number_of.number c.in-Some-get.session c.args.sessions.now.table c.requires named (sym c.get.ensures ∙ c.in-Some-get.is)
+    ∙ named_found c.args.reply.now c.in-Some-class_number_of.number c.in-Some-get.session c.args.sessions.now.table c.requires named
+    (sym c.get.ensures ∙ c.in-Some-get.is)
 
 pub returns-in-None : goal.returns-in-None
 returns-in-None c =
     let class = sym (ap (first_value 25) c.attributes.ensures) ∙ sym c.first.ensures ∙ ap option_copied c.in-Some.is in
     let named = ap (option_and_then class_number_of) class ∙ sym c.class_number_of.ensures ∙ c.in-Some-class_number_of.is in
-    sym (named_gone c.args.reply.now c.in-Some-class_number_of.number c.args.sessions.now.table c.requires named (sym c.get.ensures ∙ c.in-None.is))
+    sym (named_gone c.args.reply.now c.in-Some-class_number_of.number c.args.sessions.now.table c.requires named
+    (sym c.get.ensures ∙ c.in-None.is))

@@ -13,5 +13,7 @@ returns c =
     let after = c.push_octets.new.text.items in
     let ended : OnOk c.push_octets.result (after ≡ counted ++ codes "\n") = c.push_octets.ensures in
     on_ok_weaker {P = after ≡ counted ++ codes "\n"} {Q = after ≡ before ++ log_line c.args.time.now event} c.push_octets.result
-    (five_parts before (line_head c.args.time.now event) (origin_fields event) (session_fields event) (repeat_fields event) (codes "\n")
-    _ _ _ _ _ c.in_ok-write_head.ensures c.in_ok-write_origin.ensures c.in_ok-write_session.ensures c.in_ok-write_repeat.ensures) ended
+    (five_parts before (line_head c.args.time.now event) (origin_fields event) (session_fields event) (repeat_fields event)
+    (codes "\n")
+    _ _ _ _ _ c.in_ok-write_head.ensures c.in_ok-write_origin.ensures c.in_ok-write_session.ensures
+    c.in_ok-write_repeat.ensures) ended

@@ -18,14 +18,21 @@ loop-attribute-preserved c =
     let known = c.loop-attribute.invariant in
     let e : rest ≡ a ∷ others = c.in-Some.ensures.steps in
     record {
-      status = next-first type_acct_status_type a (integer_of a.value) was.status new.status (first_integer type_acct_status_type others) (first_integer type_acct_status_type rest)
-          (first_integer type_acct_status_type all) c.add.ensures.status (ap (first_integer type_acct_status_type) e ∙ integer-cons type_acct_status_type a others) known.status;
-      number = next-first type_class a (class_number_of a.value) was.number new.number (class_number others) (class_number rest) (class_number all)
+      status = next-first type_acct_status_type a (integer_of a.value) was.status new.status
+          (first_integer type_acct_status_type others) (first_integer type_acct_status_type rest)
+          (first_integer type_acct_status_type all) c.add.ensures.status
+          (ap (first_integer type_acct_status_type) e ∙ integer-cons type_acct_status_type a others) known.status;
+      number = next-first type_class a (class_number_of a.value) was.number new.number (class_number others) (class_number rest)
+          (class_number all)
           c.add.ensures.number (ap class_number e ∙ class-cons a others) known.number;
-      address = next-first type_framed_ip_address a (integer_of a.value) was.address new.address (first_integer type_framed_ip_address others) (first_integer type_framed_ip_address rest)
-          (first_integer type_framed_ip_address all) c.add.ensures.address (ap (first_integer type_framed_ip_address) e ∙ integer-cons type_framed_ip_address a others) known.address;
-      user_name = next-first type_user_name a (Some a.value) (option_copied was.user_name) (option_copied new.user_name) (first_value type_user_name others) (first_value type_user_name rest)
-          (first_value type_user_name all) c.add.ensures.user_name (ap (first_value type_user_name) e ∙ value-cons type_user_name a others) known.user_name;
+      address = next-first type_framed_ip_address a (integer_of a.value) was.address new.address
+          (first_integer type_framed_ip_address others) (first_integer type_framed_ip_address rest)
+          (first_integer type_framed_ip_address all) c.add.ensures.address
+          (ap (first_integer type_framed_ip_address) e ∙ integer-cons type_framed_ip_address a others) known.address;
+      user_name = next-first type_user_name a (Some a.value) (option_copied was.user_name) (option_copied new.user_name)
+          (first_value type_user_name others) (first_value type_user_name rest)
+          (first_value type_user_name all) c.add.ensures.user_name
+          (ap (first_value type_user_name) e ∙ value-cons type_user_name a others) known.user_name;
     }
 
 pub returns : goal.returns
@@ -36,8 +43,11 @@ returns c =
     let known = c.loop-attribute.invariant in
     let e = c.in_default.ensures.steps.0 in
     record {
-      status = all-first found.status (first_integer type_acct_status_type rest) (first_integer type_acct_status_type all) (ap (first_integer type_acct_status_type) e) known.status;
+      status = all-first found.status (first_integer type_acct_status_type rest) (first_integer type_acct_status_type all)
+          (ap (first_integer type_acct_status_type) e) known.status;
       number = all-first found.number (class_number rest) (class_number all) (ap class_number e) known.number;
-      address = all-first found.address (first_integer type_framed_ip_address rest) (first_integer type_framed_ip_address all) (ap (first_integer type_framed_ip_address) e) known.address;
-      user_name = all-first (option_copied found.user_name) (first_value type_user_name rest) (first_value type_user_name all) (ap (first_value type_user_name) e) known.user_name;
+      address = all-first found.address (first_integer type_framed_ip_address rest) (first_integer type_framed_ip_address all)
+          (ap (first_integer type_framed_ip_address) e) known.address;
+      user_name = all-first (option_copied found.user_name) (first_value type_user_name rest) (first_value type_user_name all)
+          (ap (first_value type_user_name) e) known.user_name;
     }

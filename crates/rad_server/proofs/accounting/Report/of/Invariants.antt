@@ -9,8 +9,11 @@ use Rattle.rad_server.proofs.accounting.Report.of.Given as goal
 -- what is found in the attributes so far, or else what those that are left say, is what all say
 abbrev pub invariant-loop-attribute : goal.invariant-loop-attribute
 invariant-loop-attribute l = record {
-  status : option_or l.report.status (first_integer type_acct_status_type l.rest) ≡ first_integer type_acct_status_type l.fn.attributes;
+  status : option_or l.report.status (first_integer type_acct_status_type l.rest)
+      ≡ first_integer type_acct_status_type l.fn.attributes;
   number : option_or l.report.number (class_number l.rest) ≡ class_number l.fn.attributes;
-  address : option_or l.report.address (first_integer type_framed_ip_address l.rest) ≡ first_integer type_framed_ip_address l.fn.attributes;
-  user_name : option_or (option_copied l.report.user_name) (first_value type_user_name l.rest) ≡ first_value type_user_name l.fn.attributes;
+  address : option_or l.report.address (first_integer type_framed_ip_address l.rest)
+      ≡ first_integer type_framed_ip_address l.fn.attributes;
+  user_name : option_or (option_copied l.report.user_name) (first_value type_user_name l.rest)
+      ≡ first_value type_user_name l.fn.attributes;
 }

@@ -18,13 +18,16 @@ invariant_of-self-2 c =
     let draw = c.args.draw.now in
     let now = c.max-now.result in
     let old : State = state_with c.self.inside.clock tables in
-    let answerable : IsAnswerable configuration.clients request = rw (c.requires.prepared, ← c.self.view_is) at c.request-request.ensures.answerable in
+    let answerable : IsAnswerable configuration.clients request =
+    rw (c.requires.prepared, ← c.self.view_is) at c.request-request.ensures.answerable in
     let ranges : IsConfiguration configuration = rw (← c.self.view_is) at c.state_is_lawful.ensures.configuration in
     let drawn : length draw ≡ 16 = search rules in
-    let stepped = c.lawful_steps.ensures.step configuration old request c.args.moment draw ranges answerable c.requires.moment drawn c.self.invariant in
+    let stepped = c.lawful_steps.ensures.step configuration old request c.args.moment draw ranges answerable c.requires.moment drawn
+    c.self.invariant in
     let is : (step configuration old request c.args.moment draw).1 ≡ state_with now c.commit-answer.new.tables =
     ap (λ n. (answer configuration (live_state n tables) request draw).1) (sym c.max-now.ensures)
-    ∙ ap (λ (s : State). (answer configuration (without_expired (record s { clock = now })) request draw).1) (sym c.in_ok-make_room.ensures.unchanged)
+    ∙ ap (λ (s : State). (answer configuration (without_expired (record s { clock = now })) request draw).1)
+    (sym c.in_ok-make_room.ensures.unchanged)
     ∙ ap (λ r. r.1) c.commit-answer.ensures.answered in
     subst (IsLawful configuration) is stepped
 
@@ -36,7 +39,11 @@ returns-clause-session c =
     let now = c.max-now.result in
     let session =
     c.commit-answer.ensures.session
-    ∙ ap (λ (s : State). session_at configuration (without_expired (record s { clock = now })) request) c.in_ok-make_room.ensures.unchanged
+    ∙ ap (λ (s : State). session_at configuration (without_expired (record s { clock = now })) request)
+    c.in_ok-make_room.ensures.unchanged
     ∙ ap (λ n. session_at configuration (live_state n tables) request) c.max-now.ensures in
-    subst (λ (r : Request). c.commit-answer.result.1 ≡ session_at c.args.self.now.configuration (at_moment c.args.moment c.args.self.now.state) r) c.request-request.ensures.value
-    (subst (λ (v : Server). c.commit-answer.result.1 ≡ session_at v.configuration (at_moment c.args.moment v.state) request) c.self.view_is session)
+    subst (λ (r : Request). c.commit-answer.result.1
+    ≡ session_at c.args.self.now.configuration (at_moment c.args.moment c.args.self.now.state) r)
+    c.request-request.ensures.value
+    (subst (λ (v : Server). c.commit-answer.result.1 ≡ session_at v.configuration (at_moment c.args.moment v.state) request)
+    c.self.view_is session)
