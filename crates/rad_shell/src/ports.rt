@@ -86,7 +86,8 @@ pub trait Ports {
     /// Returns `PortFault` only if a failure was counted in the call.
     fn receive(&mut self, buffer: &mut [u8; RECEIVED_MAX]) -> Result<Option<Got>, PortFault>
         ensures received { IfOk result (λ got. IfSome got IsReceived) }
-        ensures passed { HavePassed (received result buffer.new) (passed self.old) (passed self.new) }
+        ensures passed { HavePassed (received result buffer.new)
+            (passed self.old) (passed self.new) }
         ensures reported { reported self.new ≡ reported self.old + reported_by result }
         ensures counted { failures self.old ≤ failures self.new }
         ensures fault { IfErr result (λ _. failures self.old < failures self.new) };
