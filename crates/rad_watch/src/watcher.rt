@@ -86,7 +86,7 @@ impl Watcher {
             let seen = turn.arrivals.get(place).zip(turn.done.outcomes.get(place));
             if let Some((timed, outcome)) = seen {
                 let exchange = Exchange::of(config.users(), server.sessions(), entry, *is_fresh);
-                self.see(config, timed, outcome, Some(exchange), now);
+                self.see_datagram(config, timed, outcome, Some(exchange), now);
             }
         }
     }
@@ -96,13 +96,13 @@ impl Watcher {
         let config = turn.service.server().config();
         for (timed, outcome) in turn.arrivals.iter().zip(&turn.done.outcomes) {
             if matches!(outcome, Outcome::Dropped(_) | Outcome::NoMemory) {
-                self.see(config, timed, outcome, None, now);
+                self.see_datagram(config, timed, outcome, None, now);
             }
         }
     }
 
     // Counts what became of a datagram, and tells it.
-    fn see(
+    fn see_datagram(
         &mut self,
         config: &Config,
         timed: &Timed,
