@@ -2,6 +2,7 @@
 ghost use Rattle.std.specs.Prelude.{◌≡◌, ◌≤◌, true, IfOk, IfSome, IsSome, IsTrue, OnSome};
 ghost use Rattle.sqlite_trees.specs.Memory.{memory_view};
 ghost use Rattle.sqlite_trees.specs.View.{IsClean};
+ghost use Rattle.sqlite_trees.specs.declared.store.Shape.TheVariants.{Table};
 ghost use Rattle.rad_config.specs.Spans.{moment_max};
 ghost use Rattle.rad_journal.specs.Stores.{IsFresh};
 ghost use Rattle.rad_snapshot.specs.Snapshots.{AreEmpty, HasTables};
