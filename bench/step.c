@@ -156,6 +156,11 @@ static double rebuild_time(void) {
     return best;
 }
 
+static void print_rows(double clock) {
+    puts("| request | 16 rows ns | 256 rows ns | full ns | full/16 | full/256 |\n|---|---|---|---|---|---|");
+    for (int kind = 0; kind < KINDS; kind++) print_row(kind, clock);
+}
+
 // The rows take turns, so that what else the machine does for a while disturbs none of them alone.
 int main(void) {
     double longest = longest_step(), rebuild = rebuild_time();
@@ -164,9 +169,7 @@ int main(void) {
     for (int pass = 0; pass < PASSES; pass++)
         for (int kind = 0; kind < KINDS; kind++)
             for (int size = 0; size < SIZES; size++) measure(kind, size);
-    double clock = clock_time();
-    puts("| request | 16 rows ns | 256 rows ns | full ns | full/16 | full/256 |\n|---|---|---|---|---|---|");
-    for (int kind = 0; kind < KINDS; kind++) print_row(kind, clock);
+    print_rows(clock_time());
     printf("The longest step while the tables grow takes %.0f µs.\n", longest / 1e3);
     printf("A server with full tables is rebuilt from its rows in %.0f ms.\n", rebuild / 1e6);
     return 0;
