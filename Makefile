@@ -43,7 +43,7 @@ udp: demo
 state: demo
 	trials/state/run
 
-# Proves everything from nothing, tries the must-fail edits, and runs the tests and the programs. The run of radpool is the
+# Proves everything from nothing, tries the wrong bodies, and runs the tests and the programs. The run of radpool is the
 # example, for which examples/expected computes the same; the list in docs/CLAUSES.md is the one that docs/definitions makes, and
 # docs/INDEX.md names what there is. Then the executables are tried: radpool with many command lines and random transcripts, over
 # UDP and killed with a state, trial_refused_memory and commands of radpool with each of their allocations refused in turn, and an
